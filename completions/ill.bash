@@ -89,9 +89,9 @@ _ill_parts() {
     shelf-status) parts=(folder) options='--json --explain --help' ;;
     shelf-take) parts=(folder) options='--long --keep --today --by --key --explain --help' ;;
     shelf-send) parts=(folder loan loan none) options='--key --explain --help' ;;
-    shelf-inbox) parts=(folder folder) options='--today --by --explain --help' ;;
-    shelf-outbox) parts=(folder folder) options='--stream --explain --help' ;;
-    shelf-exchange) parts=(folder folder folder) options='--today --by --overdue --expire --copy --beat --explain --help' ;;
+    shelf-inbox) parts=(folder folder) options='--today --by --key --explain --help' ;;
+    shelf-outbox) parts=(folder folder) options='--stream --key --explain --help' ;;
+    shelf-exchange) parts=(folder folder folder) options='--today --by --overdue --expire --copy --beat --key --explain --help' ;;
     shelf-retire) parts=(folder loan) options='--explain --help' ;;
   esac
 }

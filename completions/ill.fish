@@ -190,7 +190,7 @@ complete -c ill -n '__ill_option any take shelf-take' -l long -d 'Tell which mes
 complete -c ill -n '__ill_option any take shelf-take' -l keep -d 'Keep each message that is taken, in FILE.came'
 complete -c ill -n '__ill_option day take inbox exchange shelf-take shelf-inbox shelf-exchange' -l today -x -d 'The day of the run, as 20250301'
 complete -c ill -n '__ill_option file take send shelf-take shelf-send' -l key -r -F -d 'Open or seal a letter with the key in this file'
-complete -c ill -n '__ill_option file inbox outbox exchange' -l key -r -F -d 'Carry all messages in letters sealed with the key in this file'
+complete -c ill -n '__ill_option file inbox outbox exchange shelf-inbox shelf-outbox shelf-exchange' -l key -r -F -d 'Carry all messages in letters sealed with the key in this file'
 complete -c ill -n '__ill_option any outbox shelf-outbox' -l stream -d 'Write the messages to standard output'
 complete -c ill -n '__ill_option any exchange shelf-exchange' -l overdue -d 'Say of each loan that is past its due date that it is'
 complete -c ill -n '__ill_option any exchange shelf-exchange' -l expire -d 'End each request that is past its last day'

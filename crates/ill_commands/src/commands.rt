@@ -27,7 +27,7 @@ use ill_list::finding::Sought;
 use ill_list::list::{count_left_out, run_desk_list};
 use ill_list::listed::{Listed, left_out_line, warning};
 use ill_list::news::news_since;
-use ill_list::report::{end_page, push_desk, push_fault, push_head};
+use ill_list::report::{PageView, end_page, push_desk, push_fault, push_head};
 use ill_list::wanted::Wanted;
 use ill_saved::{
     Desk, FileStore, LockFiles, LockedDesk, RECORD_LIMIT, Role, SIDES_LIMIT, Side, Sides, Store,
@@ -336,7 +336,7 @@ fn listed_annex<T: Files, E: Write>(
 }
 
 /// Opens the desk in `file`, and reads the annex beside it.
-fn open_with_annex<'a, T: Files, E: Write>(
+pub fn open_with_annex<'a, T: Files, E: Write>(
     rt: &'a T,
     alloc: Global,
     file: &str,
@@ -552,7 +552,13 @@ fn push_file<T: Files, W: Write, E: Write>(
 {
     match open_with_annex(machine.rt, machine.alloc, file, &mut machine.errors) {
         Ok((desk, annex)) => {
-            let told = push_desk(page, today, file, desk.sides(), &annex);
+            let told = push_desk(
+                page,
+                &PageView::of_report(today),
+                file,
+                desk.sides(),
+                &annex,
+            );
             drop(desk);
             told?;
             Ok(Ok(true))

@@ -10,7 +10,7 @@ use std::rt::Files;
 
 /// The diary beside the file of a desk. It is opened when lines are written, and they are durable then.
 #[derive(Drop)]
-pub(crate) struct LateDiary<'a, 'b, 'c, T, E> {
+pub struct LateDiary<'a, 'b, 'c, T, E> {
     rt: &'a T,
     alloc: Global,
     /// The path of the desk's file.
@@ -20,7 +20,7 @@ pub(crate) struct LateDiary<'a, 'b, 'c, T, E> {
 
 /// Returns the entry of `line` in the diary beside `file`, which is not opened yet. If there was no memory for the line, it
 /// writes a line to the errors, and enters nothing.
-pub(crate) fn late_entry<'a, 'b, 'c, T, E: Write>(
+pub fn late_entry<'a, 'b, 'c, T, E: Write>(
     rt: &'a T,
     alloc: Global,
     file: &'b str,

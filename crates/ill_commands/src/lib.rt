@@ -3,7 +3,7 @@
 
 pub mod commands;
 pub mod counting;
-mod late_diary;
+pub mod late_diary;
 pub mod letters;
 pub mod note;
 pub mod telling;

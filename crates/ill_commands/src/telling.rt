@@ -48,11 +48,11 @@ pub(crate) fn tell_file<T: Files, W: Write, E: Write>(
       answer = result;
     }) }
 {
-    let diary = diary_since(
+    let diary = diary_if(
         machine.rt,
         machine.alloc,
         listed.path,
-        since,
+        since.is_some(),
         &mut machine.errors,
     )?;
     let desk = open(machine.rt, machine.alloc, listed.path)?;
@@ -68,18 +68,19 @@ pub(crate) fn tell_file<T: Files, W: Write, E: Write>(
     all_well(told)
 }
 
-/// Reads the diary of the desk in `file` if a day is given. Without one no line is read.
-fn diary_since<T: Files, E: Write>(
+/// Reads the diary of the desk in `file` if it is `wanted`. Else no line is read.
+fn diary_if<T: Files, E: Write>(
     rt: &T,
     alloc: Global,
     file: &str,
-    since: Option<Day>,
+    wanted: bool,
     errors: &mut E,
 ) -> Result<FileLines, ToolFault>
     ensures { IfErr result IsOpenFault }
 {
-    match since {
-        Some(_) => read_diary(rt, alloc, file, errors),
-        None => Ok(FileLines::none(alloc)),
+    if wanted {
+        read_diary(rt, alloc, file, errors)
+    } else {
+        Ok(FileLines::none(alloc))
     }
 }

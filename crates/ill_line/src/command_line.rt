@@ -224,8 +224,14 @@ impl Name {
                 Argument::Folder,
                 Argument::NightDay,
                 Argument::By,
+                Argument::NightKey,
             ],
-            Name::Outbox => &[Argument::File, Argument::OutFolder, Argument::Stream],
+            Name::Outbox => &[
+                Argument::File,
+                Argument::OutFolder,
+                Argument::Stream,
+                Argument::NightKey,
+            ],
             Name::Exchange => &[
                 Argument::File,
                 Argument::In,
@@ -236,6 +242,7 @@ impl Name {
                 Argument::Expire,
                 Argument::Copy,
                 Argument::Beat,
+                Argument::NightKey,
             ],
             Name::Key => &[Argument::KeyFile, Argument::ShowKey, Argument::ReadKey],
             Name::Status => &[Argument::File, Argument::Json],
@@ -429,7 +436,7 @@ pub enum Argument {
     NewGroup,
     /// The file of the key of sealed letters.
     Key,
-    /// The file of the key of a night's letters. No command on a shelf has it.
+    /// The file of the key of a night's letters.
     NightKey,
     /// The file of a key that is made, shown or read.
     KeyFile,
@@ -717,10 +724,6 @@ fn subcommand<'a>(alloc: Global, name: Name) -> Result<Command<'a>, Error> {
     for argument in name.arguments() {
         command = command.arg(argument.arg(alloc))?;
     }
-    command = match name {
-        Name::Inbox | Name::Outbox | Name::Exchange => command.arg(Argument::NightKey.arg(alloc))?,
-        _ => command,
-    };
     Ok(command.arg(explain(alloc))?)
 }
 

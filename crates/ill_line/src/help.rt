@@ -1211,6 +1211,12 @@ A desk that fails is told on standard error, and the others go on. So is a desk
 that is lost, in each run: DESK.came or DESK.mail is there, and DESK is not. It
 counts as mails that are left.
 
+With --key the sealed letters in FOLDER are opened first, and the messages in
+them are put into DIR/.opened, each in a file of its own. From there they go to
+the desks as mails do, and one that stays goes back there. A letter is removed
+once the disk has its messages. Standard error tells of any other file: it is
+put aside as `not-sealed`, or stays if it is the record of a desk.
+
 The exit status is that of the first desk that fails, as of `ill inbox`. If none
 fails, it is 3 if mails are left, 1 if one was put aside or in conflict, else 0.
 If DIR is no shelf, it is 1 with `no-record`.";
@@ -1221,7 +1227,9 @@ Put the messages of all desks that want sending into a folder.
 Each desk puts its messages into FOLDER, or onto standard output, as `ill
 outbox` does. A line of its path stands before what it tells of FOLDER. The last
 messages of retired groups for which mail has asked in the last `ill shelf
-inbox` go into FOLDER too, and no line tells it.";
+inbox` go into FOLDER too, and no line tells it.
+
+With --key each desk seals a letter of its own, and so do these groups together.";
 
 pub const SHELF_EXCHANGE: &str = "\
 Take the mails of a folder, and send into another.
@@ -1229,7 +1237,8 @@ Take the mails of a folder, and send into another.
 The mails of IN are sorted to the desks, as `ill shelf inbox` does, and then
 each desk does what `ill exchange` does, after a line of its path. At the end go
 the last messages of retired groups for which mail has asked. The folders are
-looked at first, as by `ill exchange`.
+looked at first, as by `ill exchange`. With --key all messages come and go in
+sealed letters, as `ill shelf inbox --key` and `ill shelf outbox --key` tell.
 
 --copy names a folder, which has to be there and is not DIR: each desk is copied
 into it before its messages leave, and the mark of each retired group. If it has

@@ -1,5 +1,5 @@
--- Proves how a page of the command `report` grows by the parts of desks.
-use Rattle.std.proofs.Common.{◌≡◌, ℕ, List, ◌++◌, ap, ◌∙◌, append_assoc}
+-- Proves how a page grows by the parts of desks.
+use Rattle.std.proofs.Common.{◌≡◌, ℕ, List, ◌++◌, refl, ap, ◌∙◌, append_assoc}
 
 -- Appending three texts one by one equals appending their join.
 pub three_added : (before first second third one two three : List ℕ) → first ≡ before ++ one → second ≡ first ++ two
@@ -7,3 +7,17 @@ pub three_added : (before first second third one two three : List ℕ) → first
 three_added before first second third one two three e f g =
     g ∙ ap (λ text. text ++ three) (f ∙ ap (λ text. text ++ two) e) ∙ append_assoc (before ++ one) two three
     ∙ append_assoc before one (two ++ three)
+
+-- Joining five texts after another one by one equals joining their join.
+five_joined : (before one two three four five : List ℕ)
+    → before ++ one ++ two ++ three ++ four ++ five ≡ before ++ (one ++ (two ++ (three ++ (four ++ five))))
+five_joined before one two three four five = simp append_assoc refl
+
+-- After four texts were appended one by one, the text with a fifth one is the first one with the join of all five.
+pub four_added : (before first second third fourth one two three four five : List ℕ) → first ≡ before ++ one
+    → second ≡ first ++ two → third ≡ second ++ three → fourth ≡ third ++ four
+    → fourth ++ five ≡ before ++ (one ++ (two ++ (three ++ (four ++ five))))
+four_added before first second third fourth one two three four five e f g h =
+    ap (λ text. text ++ five)
+    (h ∙ ap (λ text. text ++ four) (g ∙ ap (λ text. text ++ three) (f ∙ ap (λ text. text ++ two) e)))
+    ∙ five_joined before one two three four five

@@ -1,5 +1,6 @@
 pub mod CameSince
 pub mod Finding
+pub mod Link
 pub mod List
 pub mod ListObjects
 pub mod ListedNews

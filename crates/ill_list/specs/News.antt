@@ -22,6 +22,7 @@ use Rattle.ill_list.specs.declared.news.NewsColumns.{NewsColumns}
 use Rattle.ill_show.specs.Heard.{is_heard}
 use Rattle.ill_list.specs.List.{cell, column, title_text}
 use Rattle.ill_list.specs.Listing.{file_told, heading}
+use Rattle.ill_show.specs.ItemLine.{item_of}
 use Rattle.ill_show.specs.NewsWords.{news_words}
 use Rattle.ill_list.specs.ListObjects.{file_fields}
 

@@ -2,7 +2,7 @@
 -- `html_text`: the file, the item, the note and both qualifiers. All else is a constant of this program, a name, a
 -- number or a date.
 use Rattle.std.specs.Prelude.{ℕ, ◌-◌, Bool, true, ◌≡◌, ◌==◌, if◌then◌else◌, List, [], ◌++◌, length, filter, count_by, codes}
-use Rattle.std.specs.Prelude.{Option, Some, None, map, Result, Ok, Err}
+use Rattle.std.specs.Prelude.{Option, Some, None, map, option_map, Result, Ok, Err}
 use Rattle.std.specs.List.{flat_map}
 use Rattle.std.specs.Fmt.{decimal}
 use Rattle.ill_values.specs.Day.{Date, iso_text}
@@ -24,14 +24,37 @@ use Rattle.ill_work.specs.Table.{kind_of_work}
 use Rattle.ill_work.specs.Work.{all_work, wants_a_hand, work_words}
 use Rattle.ill_list.specs.declared.report_parts.Field.{Field}
 use Rattle.ill_list.specs.declared.report_parts.Field.TheVariants as fields
-use Rattle.ill_list.specs.declared.report_parts.TheConstants.{PAGE, DESKS, END, DESK, TO_DO, OPEN, LOANS, ROOM, COUNTS_END}
+use Rattle.ill_list.specs.declared.report_parts.TheConstants.{PAGE, STYLE_END, DESKS, END, DESK, TO_DO, OPEN}
+use Rattle.ill_list.specs.declared.report_parts.TheConstants.{LOANS, ROOM, COUNTS_END}
 use Rattle.ill_list.specs.declared.report_parts.TheConstants.{DESK_END, TASK, HEADING, COUNT, TABLE, ROW, TABLE_END, UNREAD}
 use Rattle.ill_list.specs.declared.report_parts.TheConstants.{UNREAD_END, TIME_END, NOTE, NOTE_END, SINCE}
 use Rattle.ill_list.specs.declared.soon.TheConstants.{SOON}
+use Rattle.ill_list.specs.declared.report.PageView.{PageView}
+use Rattle.ill_list.specs.Finding.{is_found}
+use Rattle.ill_list.specs.Link.{linked_text}
 use Rattle.ill_list.specs.List.{title_text}
 use Rattle.ill_show.specs.Notes.{note_of}
 use Rattle.ill_show.specs.Since.{AnnexRead, since_of}
 use Rattle.ill_show.specs.StateWords.{state_words}
+
+-- The day of a page, the words that its loans have, if any are sought, and the text for its desk in the links of its rows, if
+-- they have links.
+pub record PageShown : Type 0 where
+  pub today : Date
+  pub find : Option (List ℕ)
+  pub linked : Option (List ℕ)
+
+-- Returns what a `PageView` of the code holds.
+abbrev pub page_shown : PageView → PageShown
+page_shown view = record {
+  today = view.today;
+  find = option_map (λ words. words.now) view.find;
+  linked = option_map (λ desk. desk.now) view.linked;
+}
+
+-- Returns the page of a report on this day: no words are sought, and no row has a link.
+abbrev pub report_of : Date → PageShown
+report_of today = record { today = today; find = None; linked = None }
 
 -- ---- a loan
 
@@ -55,15 +78,16 @@ abbrev pub since_text : Option Date → List ℕ
 since_text None = []
 since_text (Some day) = SINCE.now ++ (iso_text day ++ TIME_END.now) ++ NOTE_END.now
 
--- Returns the value of a field of a loan on the day `today`.
-abbrev pub value_text : Date → AnnexRead → Side → Field → List ℕ
-value_text today annex side fields.Title =
-    html_escaped (title_text (item_asked (request_of side))) ++ noted_text (note_of annex.notes (txn_of side))
-value_text today annex side fields.Group = html_text (txn_of side).group
-value_text today annex side fields.Transaction = html_text (txn_of side).transaction
-value_text today annex side fields.State = state_words side ++ since_text (since_of annex side)
-value_text today annex side fields.Deadline = deadline_text (due_date_of side) (expiry_of (request_of side))
-value_text today annex side fields.Actions = flat_map action_text (possible_on (Some today) side)
+-- Returns the value of a field of a loan.
+abbrev pub value_text : PageShown → AnnexRead → Side → Field → List ℕ
+value_text page annex side fields.Title =
+    linked_text page.linked (txn_of side) (html_escaped (title_text (item_asked (request_of side))))
+    ++ noted_text (note_of annex.notes (txn_of side))
+value_text page annex side fields.Group = html_text (txn_of side).group
+value_text page annex side fields.Transaction = html_text (txn_of side).transaction
+value_text page annex side fields.State = state_words side ++ since_text (since_of annex side)
+value_text page annex side fields.Deadline = deadline_text (due_date_of side) (expiry_of (request_of side))
+value_text page annex side fields.Actions = flat_map action_text (possible_on (Some page.today) side)
 
 -- Returns the text of the page before a field.
 abbrev pub before : Field → List ℕ
@@ -81,12 +105,12 @@ after fields.Actions = codes "</td></tr>\n"
 after other = codes "</td>"
 
 -- Returns a field of a loan, between the texts before and after it.
-abbrev pub field_text : Date → AnnexRead → Side → Field → List ℕ
-field_text today annex side field = before field ++ (value_text today annex side field ++ after field)
+abbrev pub field_text : PageShown → AnnexRead → Side → Field → List ℕ
+field_text page annex side field = before field ++ (value_text page annex side field ++ after field)
 
 -- Returns the row of a loan: its fields, one after another.
-abbrev pub row_text : Date → AnnexRead → Side → List ℕ
-row_text today annex side = flat_map (field_text today annex side) ROW
+abbrev pub row_text : PageShown → AnnexRead → Side → List ℕ
+row_text page annex side = flat_map (field_text page annex side) ROW
 
 -- ---- the loans of a desk
 
@@ -111,32 +135,37 @@ abbrev pub heading : Work → List ℕ
 heading work = if wants_a_hand work then TASK.now else HEADING.now
 
 -- Returns the rows of the loans with this work.
-abbrev pub rows_text : Date → AnnexRead → Work → List Side → List ℕ
-rows_text today annex work sides = flat_map (row_text today annex) (filter (has_work today SOON work) sides)
+abbrev pub rows_text : PageShown → AnnexRead → Work → List Side → List ℕ
+rows_text page annex work sides = flat_map (row_text page annex) (filter (has_work page.today SOON work) sides)
 
 -- Returns the words for this work, the number of its loans, and the head of their table.
 unfoldable pub table_head : Work → ℕ → List ℕ
 table_head work count = heading work ++ (work_words work ++ (counted COUNT.now count ++ TABLE.now))
 
 -- Returns the table of the loans with this work: its head, and a row for each.
-unfoldable pub table_text : Date → AnnexRead → List Side → Work → List ℕ
-table_text today annex sides work =
-    table_head work (count_of today SOON work sides) ++ (rows_text today annex work sides ++ TABLE_END.now)
+unfoldable pub table_text : PageShown → AnnexRead → List Side → Work → List ℕ
+table_text page annex sides work =
+    table_head work (count_of page.today SOON work sides) ++ (rows_text page annex work sides ++ TABLE_END.now)
 
 -- Returns the table of the loans with this work, or nothing if there is no such loan.
-abbrev pub work_text : Date → AnnexRead → List Side → Work → List ℕ
-work_text today annex sides work =
-    if count_of today SOON work sides == 0 then [] else table_text today annex sides work
+abbrev pub work_text : PageShown → AnnexRead → List Side → Work → List ℕ
+work_text page annex sides work =
+    if count_of page.today SOON work sides == 0 then [] else table_text page annex sides work
 
--- Returns the loans of a desk: their counts, and a table for each kind of work that a loan has, the most pressing first.
-unfoldable pub loans_text : Date → AnnexRead → List Side → List ℕ
-loans_text today annex sides = counts_text today sides ++ flat_map (work_text today annex sides) all_work
+-- Returns a table for each kind of work that one of the loans has, the most pressing first.
+abbrev pub works_text : PageShown → AnnexRead → List Side → List ℕ
+works_text page annex sides = flat_map (work_text page annex sides) all_work
+
+-- Returns the loans of a desk: the counts of all, and tables of those that have the words that are sought.
+unfoldable pub loans_text : PageShown → AnnexRead → List Side → List ℕ
+loans_text page annex sides =
+    counts_text page.today sides ++ works_text page annex (filter (is_found page.find annex.notes) sides)
 
 -- Returns the part of a page about a desk: its file, and its loans with what the annex tells of them. In each table the
 -- most urgent loan is first.
-unfoldable pub desk_text : Date → (file : List ℕ) → List Side → AnnexRead → List ℕ
-desk_text today file sides annex =
-    DESK.now ++ (html_text file ++ (loans_text today annex (most_urgent_first sides) ++ DESK_END.now))
+unfoldable pub desk_text : PageShown → (file : List ℕ) → List Side → AnnexRead → List ℕ
+desk_text page file sides annex =
+    DESK.now ++ (html_text file ++ (loans_text page annex (most_urgent_first sides) ++ DESK_END.now))
 
 -- ---- a page
 
@@ -151,7 +180,7 @@ Part = List ℕ × Result (List Side × AnnexRead) (ToolFault × List ℕ)
 
 -- Returns the text of a part.
 abbrev pub part_text : Date → Part → List ℕ
-part_text today (file, Ok (sides, annex)) = desk_text today file sides annex
+part_text today (file, Ok (sides, annex)) = desk_text (report_of today) file sides annex
 part_text today (file, Err (fault, words)) = unread_text file words
 
 -- Returns true if the desk of a part was read, else its fault.
@@ -163,9 +192,13 @@ part_answer (file, Err (fault, words)) = Err fault
 abbrev pub gravest_part : List Part → Result Bool ToolFault
 gravest_part parts = gravest_of (map part_answer parts)
 
--- Returns the text before the desks of a page.
-unfoldable pub page_head : Date → List ℕ
-page_head today = PAGE.now ++ (iso_text today ++ DESKS.now)
+-- Returns the text before the desks of a page. `style` has further rules of its style.
+unfoldable pub page_head_with : (style : List ℕ) → Date → List ℕ
+page_head_with style today = PAGE.now ++ (style ++ (STYLE_END.now ++ (iso_text today ++ DESKS.now)))
+
+-- Returns the text before the desks of a report.
+abbrev pub page_head : Date → List ℕ
+page_head today = page_head_with [] today
 
 -- The text that ends a page.
 abbrev pub page_end : List ℕ

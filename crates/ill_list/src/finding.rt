@@ -1,10 +1,10 @@
 //! The loans that a list is to find: one of their texts has the words that are sought, in whatever case.
 
-ghost use Rattle.std.specs.Prelude.{◌≡◌, ◌++◌, ◌∷◌, [], filter, map, IfOk, OnOk};
+ghost use Rattle.std.specs.Prelude.{◌≡◌, ◌++◌, ◌∷◌, [], filter, map, option_map, IfOk, OnOk};
 ghost use Rattle.ill_words.specs.Possible.{item_asked, request_of};
 ghost use Rattle.ill_show.specs.FileLines.{lines_of};
 ghost use Rattle.ill_show.specs.Notes.{note_of};
-ghost use Rattle.ill_list.specs.Finding.{folded, found_of, has_part, has_words, loan_number, seeking_of, tells, tells_any};
+ghost use Rattle.ill_list.specs.Finding.{folded, has_part, has_words, is_found, loan_number, tells, tells_any};
 
 use crate::wanted::Wanted;
 use caseless::default_case_fold_str;
@@ -26,21 +26,21 @@ pub struct Sought<'a> {
     pub annex: &'a Annex,
 }
 
-/// Returns the loans of `sides` of which a text has the words that are sought, in their order. If there are
-/// none, these are all.
+/// Returns the loans of `sides` of which a text has the words `find`, in their order. If there are none, these are all.
 pub(crate) fn found_of<'a>(
     alloc: Global,
     sides: &[&'a Side],
-    sought: &Sought<'_>,
+    find: Option<&str>,
+    notes: &Notes,
 ) -> Result<Vec<&'a Side>, OutOfMemory>
     ensures { IfOk result (λ found. map (λ side. side.now) found.items
-        ≡ found_of (seeking_of sought.now) (map (λ side. side.now) sides.now)) }
+        ≡ filter (is_found (option_map (λ words. words.now) find.entry) (lines_of notes.now)) (map (λ side. side.now) sides.now)) }
 {
-    match sought.find {
+    match find {
         None => Ok(Vec::from_slice(alloc, sides)?),
         Some(words) => {
             let words = folded(alloc, words.as_bytes())?;
-            told_of(alloc, sides, &words, &sought.annex.notes)
+            told_of(alloc, sides, &words, notes)
         }
     }
 }

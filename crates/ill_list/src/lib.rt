@@ -5,6 +5,7 @@ pub mod came_since;
 mod counts;
 pub mod finding;
 pub mod laws;
+pub mod link;
 pub mod list;
 mod list_objects;
 pub mod listed;

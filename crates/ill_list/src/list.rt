@@ -159,7 +159,7 @@ fn chosen_of<'a>(
         ≡ chosen_of sought.now.wanted.now (seeking_of sought.now) (map (λ side. side.now) sides.now)) }
 {
     let listed = listed_of(alloc, sides, sought.wanted)?;
-    found_of(alloc, &listed, sought)
+    found_of(alloc, &listed, sought.find, &sought.annex.notes)
 }
 
 /// Appends the `listed` loans, kind by kind, and the counts of all `sides`.

@@ -1,6 +1,6 @@
 //! The command `report`: a page of HTML of the loans of desks.
 
-ghost use Rattle.std.specs.Prelude.{◌≡◌, ◌++◌, ℕ, List, [], ◌∷◌, Some, map, count_by, option_copied, OnOk};
+ghost use Rattle.std.specs.Prelude.{◌≡◌, ◌++◌, ℕ, List, [], ◌∷◌, Some, map, count_by, option_copied, filter, option_map, IfOk, OnOk};
 ghost use Rattle.std.specs.List.{flat_map};
 ghost use Rattle.ill_values.specs.Day.{iso_text};
 ghost use Rattle.ill_text.specs.Output.{WritesText};
@@ -11,14 +11,18 @@ ghost use Rattle.ill_work.specs.Order.{has_work};
 ghost use Rattle.ill_list.specs.declared.report_parts.TheConstants.{NOTE_END, SINCE, TIME_END};
 ghost use Rattle.ill_list.specs.List.{title_text};
 ghost use Rattle.ill_show.specs.FileLines.{lines_of};
+ghost use Rattle.ill_list.specs.Finding.{is_found};
+ghost use Rattle.ill_list.specs.Link.{linked_text};
 ghost use Rattle.ill_show.specs.Notes.{note_of};
 ghost use Rattle.ill_show.specs.Since.{annex_of, since_of};
 ghost use Rattle.ill_show.specs.StateWords.{state_words};
-ghost use Rattle.ill_list.specs.Report.{action_text, counted, counts_text, deadline_text, desk_text, field_text, is_to_do, loans_text, noted_text, page_end, page_head, row_text, rows_text, since_text, table_head, table_text, unread_text, value_text, work_text};
+ghost use Rattle.ill_list.specs.Report.{action_text, counted, counts_text, deadline_text, desk_text, field_text, is_to_do, loans_text, noted_text, page_end, page_head, page_head_with, page_shown, report_of, row_text, rows_text, since_text, table_head, table_text, unread_text, value_text, work_text, works_text};
 
+use crate::finding::found_of;
+use crate::link::push_linked;
 use crate::report_parts::{
     COUNT, COUNTS_END, DESK, DESK_END, DESKS, END, Field, LOANS, NOTE, NOTE_END, OPEN, PAGE, ROOM,
-    ROW, SINCE, TABLE, TABLE_END, TIME_END, TO_DO, UNREAD, UNREAD_END, heading,
+    ROW, SINCE, STYLE_END, TABLE, TABLE_END, TIME_END, TO_DO, UNREAD, UNREAD_END, heading,
 };
 use crate::row::push_title;
 use crate::soon::SOON;
@@ -37,16 +41,50 @@ use ill_words::possible::{expiry, possible_on};
 use ill_words::waiting::most_urgent_first;
 use ill_work::{Work, count};
 use itoa::Buffer;
+use std::alloc::Global;
 use std::io::Write;
 
-/// Appends the text before the desks of a page on the day `today`.
+/// The view of a page.
+#[derive(Clone, Copy)]
+pub struct PageView<'a> {
+    /// The day of the page.
+    pub today: Day,
+    /// The words that are sought, if there are any. Only loans that have them have a row.
+    pub find: Option<&'a str>,
+    /// The text for the desk in the links of its rows, if they have links.
+    pub linked: Option<&'a str>,
+}
+
+impl PageView<'_> {
+    /// Returns the view of a report on the day `today`: no words are sought, and no row has a link.
+    pub fn of_report<'a>(today: Day) -> PageView<'a>
+        ensures { page_shown result ≡ report_of today }
+    {
+        PageView {
+            today,
+            find: None,
+            linked: None,
+        }
+    }
+}
+
+/// Appends the text before the desks of a report on the day `today`.
 pub fn push_head(page: &mut Vec<u8>, today: Day) -> Result<(), OutOfMemory>
     ensures { OnOk result (page.new.items ≡ page.old.items ++ page_head today) }
 {
-    page.extend_from_slice(PAGE.as_bytes())?;
+    push_head_with(page, "", today)
+}
+
+/// Appends the text before the desks of a page on the day `today`. `style` has further rules of its style.
+#[tactic(auto, unfolding(crate::specs::Report::page_head_with))]
+pub fn push_head_with(page: &mut Vec<u8>, style: &str, today: Day) -> Result<(), OutOfMemory>
+    ensures { OnOk result (page.new.items ≡ page.old.items ++ page_head_with style.now today) }
+{
+    push_plain(page, PAGE)?;
+    push_plain(page, style)?;
+    push_plain(page, STYLE_END)?;
     page.extend_from_slice(&today.iso())?;
-    page.extend_from_slice(DESKS.as_bytes())?;
-    Ok(())
+    push_plain(page, DESKS)
 }
 
 /// Appends the end of `page`, which has all its desks, and writes the page.
@@ -61,18 +99,18 @@ pub fn end_page<W: Write>(mut page: Vec<u8>, writer: &mut W) -> Result<(), ToolF
 #[tactic(auto, unfolding(crate::specs::Report::desk_text))]
 pub fn push_desk(
     page: &mut Vec<u8>,
-    today: Day,
+    view: &PageView<'_>,
     file: &str,
     sides: &Sides,
     annex: &Annex,
 ) -> Result<(), OutOfMemory>
     ensures { OnOk result (page.new.items ≡ page.old.items
-        ++ desk_text today file.now sides.now.sides (annex_of annex.now)) }
+        ++ desk_text (page_shown view.now) file.now sides.now.sides (annex_of annex.now)) }
 {
     let sides = most_urgent_first(*page.allocator(), sides)?;
     page.extend_from_slice(DESK.as_bytes())?;
     push_text(page, file.as_bytes())?;
-    push_loans(page, today, &sides, annex)?;
+    push_loans(page, view, &sides, annex)?;
     page.extend_from_slice(DESK_END.as_bytes())?;
     Ok(())
 }
@@ -99,19 +137,33 @@ fn push_unread(page: &mut Vec<u8>, file: &str, words: &str) -> Result<(), OutOfM
     Ok(())
 }
 
-/// Appends the loans of a desk: their counts, and a table for each kind of work that a loan has.
+/// Appends the loans of a desk: the counts of all, and tables of those that have the words that are sought.
 #[tactic(auto, unfolding(crate::specs::Report::loans_text))]
 fn push_loans(
     page: &mut Vec<u8>,
-    today: Day,
+    view: &PageView<'_>,
     sides: &[&Side],
     annex: &Annex,
 ) -> Result<(), OutOfMemory>
     ensures { OnOk result (page.new.items ≡ page.old.items
-        ++ loans_text today (annex_of annex.now) (map (λ side. side.now) sides.now)) }
+        ++ loans_text (page_shown view.now) (annex_of annex.now) (map (λ side. side.now) sides.now)) }
 {
-    push_counts(page, today, sides)?;
-    push_works(page, today, sides, annex, Work::all())
+    push_counts(page, view.today, sides)?;
+    push_found(page, view, sides, annex)
+}
+
+/// Appends tables of those loans that have the words that are sought: one for each kind of work.
+fn push_found(
+    page: &mut Vec<u8>,
+    view: &PageView<'_>,
+    sides: &[&Side],
+    annex: &Annex,
+) -> Result<(), OutOfMemory>
+    ensures { OnOk result (page.new.items ≡ page.old.items ++ works_text (page_shown view.now) (annex_of annex.now)
+        (filter (is_found (page_shown view.now).find (lines_of annex.now.notes)) (map (λ side. side.now) sides.now))) }
+{
+    let found = found_of(*page.allocator(), sides, view.find, &annex.notes)?;
+    push_works(page, view, &found, annex, Work::all())
 }
 
 /// Appends the counts of a desk: loans that want a hand, open loans, all loans, and the room for further ones.
@@ -155,16 +207,16 @@ fn is_to_do(today: Day, side: &Side) -> bool
 /// Appends a table for each of `works` that a loan has.
 fn push_works(
     page: &mut Vec<u8>,
-    today: Day,
+    view: &PageView<'_>,
     sides: &[&Side],
     annex: &Annex,
     works: &[Work],
 ) -> Result<(), OutOfMemory>
     ensures { OnOk result (page.new.items ≡ page.old.items
-        ++ flat_map (work_text today (annex_of annex.now) (map (λ side. side.now) sides.now)) works.now) }
+        ++ flat_map (work_text (page_shown view.now) (annex_of annex.now) (map (λ side. side.now) sides.now)) works.now) }
 {
     for work in works {
-        push_work(page, today, sides, annex, *work)?;
+        push_work(page, view, sides, annex, *work)?;
     }
     Ok(())
 }
@@ -172,34 +224,34 @@ fn push_works(
 /// Appends the table of the loans with the work `work`, if there is such a loan.
 fn push_work(
     page: &mut Vec<u8>,
-    today: Day,
+    view: &PageView<'_>,
     sides: &[&Side],
     annex: &Annex,
     work: Work,
 ) -> Result<(), OutOfMemory>
     ensures { OnOk result (page.new.items ≡ page.old.items
-        ++ work_text today (annex_of annex.now) (map (λ side. side.now) sides.now) work) }
+        ++ work_text (page_shown view.now) (annex_of annex.now) (map (λ side. side.now) sides.now) work) }
 {
-    if count(sides, work, today, SOON) == 0 {
+    if count(sides, work, view.today, SOON) == 0 {
         return Ok(());
     }
-    push_table(page, today, sides, annex, work)
+    push_table(page, view, sides, annex, work)
 }
 
 /// Appends the table of the loans with the work `work`: the words for it, their number, and a row for each.
 #[tactic(auto, unfolding(crate::specs::Report::table_text))]
 fn push_table(
     page: &mut Vec<u8>,
-    today: Day,
+    view: &PageView<'_>,
     sides: &[&Side],
     annex: &Annex,
     work: Work,
 ) -> Result<(), OutOfMemory>
     ensures { OnOk result (page.new.items ≡ page.old.items
-        ++ table_text today (annex_of annex.now) (map (λ side. side.now) sides.now) work) }
+        ++ table_text (page_shown view.now) (annex_of annex.now) (map (λ side. side.now) sides.now) work) }
 {
-    push_table_head(page, work, count(sides, work, today, SOON))?;
-    push_rows(page, today, sides, annex, work)?;
+    push_table_head(page, work, count(sides, work, view.today, SOON))?;
+    push_rows(page, view, sides, annex, work)?;
     push_plain(page, TABLE_END)
 }
 
@@ -217,16 +269,16 @@ fn push_table_head(page: &mut Vec<u8>, work: Work, count: usize) -> Result<(), O
 /// Appends the rows of the loans with the work `work`.
 fn push_rows(
     page: &mut Vec<u8>,
-    today: Day,
+    view: &PageView<'_>,
     sides: &[&Side],
     annex: &Annex,
     work: Work,
 ) -> Result<(), OutOfMemory>
     ensures { OnOk result (page.new.items ≡ page.old.items
-        ++ rows_text today (annex_of annex.now) work (map (λ side. side.now) sides.now)) }
+        ++ rows_text (page_shown view.now) (annex_of annex.now) work (map (λ side. side.now) sides.now)) }
 {
     for side in sides {
-        push_row_of(page, today, side, annex, work)?;
+        push_row_of(page, view, side, annex, work)?;
     }
     Ok(())
 }
@@ -234,16 +286,16 @@ fn push_rows(
 /// Appends the row of the loan of `side`, if it has the work `work`.
 fn push_row_of(
     page: &mut Vec<u8>,
-    today: Day,
+    view: &PageView<'_>,
     side: &Side,
     annex: &Annex,
     work: Work,
 ) -> Result<(), OutOfMemory>
     ensures { OnOk result (page.new.items ≡ page.old.items
-        ++ rows_text today (annex_of annex.now) work (side.now ∷ [])) }
+        ++ rows_text (page_shown view.now) (annex_of annex.now) work (side.now ∷ [])) }
 {
-    if has_work(today, side, work) {
-        return push_row(page, today, side, annex);
+    if has_work(view.today, side, work) {
+        return push_row(page, view, side, annex);
     }
     Ok(())
 }
@@ -256,25 +308,30 @@ fn has_work(today: Day, side: &Side, work: Work) -> bool
 }
 
 /// Appends the row of the loan of `side`.
-fn push_row(page: &mut Vec<u8>, today: Day, side: &Side, annex: &Annex) -> Result<(), OutOfMemory>
-    ensures { OnOk result (page.new.items ≡ page.old.items ++ row_text today (annex_of annex.now) side.now) }
+fn push_row(
+    page: &mut Vec<u8>,
+    view: &PageView<'_>,
+    side: &Side,
+    annex: &Annex,
+) -> Result<(), OutOfMemory>
+    ensures { OnOk result (page.new.items ≡ page.old.items ++ row_text (page_shown view.now) (annex_of annex.now) side.now) }
 {
-    push_fields(page, today, side, annex, &ROW)
+    push_fields(page, view, side, annex, &ROW)
 }
 
 /// Appends `fields` of the loan of `side`, one after another.
 fn push_fields(
     page: &mut Vec<u8>,
-    today: Day,
+    view: &PageView<'_>,
     side: &Side,
     annex: &Annex,
     fields: &[Field],
 ) -> Result<(), OutOfMemory>
     ensures { OnOk result (page.new.items ≡ page.old.items
-        ++ flat_map (field_text today (annex_of annex.now) side.now) fields.now) }
+        ++ flat_map (field_text (page_shown view.now) (annex_of annex.now) side.now) fields.now) }
 {
     for field in fields {
-        push_field(page, today, side, annex, *field)?;
+        push_field(page, view, side, annex, *field)?;
     }
     Ok(())
 }
@@ -282,45 +339,51 @@ fn push_fields(
 /// Appends `field` of the loan of `side`, between the texts before and after it.
 fn push_field(
     page: &mut Vec<u8>,
-    today: Day,
+    view: &PageView<'_>,
     side: &Side,
     annex: &Annex,
     field: Field,
 ) -> Result<(), OutOfMemory>
-    ensures { OnOk result (page.new.items ≡ page.old.items ++ field_text today (annex_of annex.now) side.now field) }
+    ensures { OnOk result (page.new.items ≡ page.old.items ++ field_text (page_shown view.now) (annex_of annex.now) side.now field) }
 {
     page.extend_from_slice(field.before().as_bytes())?;
-    push_value(page, today, side, annex, field)?;
+    push_value(page, view, side, annex, field)?;
     page.extend_from_slice(field.after().as_bytes())
 }
 
 /// Appends the value of `field` of the loan of `side`.
 fn push_value(
     page: &mut Vec<u8>,
-    today: Day,
+    view: &PageView<'_>,
     side: &Side,
     annex: &Annex,
     field: Field,
 ) -> Result<(), OutOfMemory>
-    ensures { OnOk result (page.new.items ≡ page.old.items ++ value_text today (annex_of annex.now) side.now field) }
+    ensures { OnOk result (page.new.items ≡ page.old.items ++ value_text (page_shown view.now) (annex_of annex.now) side.now field) }
 {
     match field {
-        Field::Title => push_noted_title(page, side, &annex.notes),
+        Field::Title => push_noted_title(page, view, side, &annex.notes),
         Field::Group => push_text(page, side.txn().group()),
         Field::Transaction => push_text(page, side.txn().transaction()),
         Field::State => push_state(page, side, annex),
         Field::Deadline => push_deadline(page, side.due(), expiry(side)),
-        Field::Actions => push_possible(page, today, side),
+        Field::Actions => push_possible(page, view.today, side),
     }
 }
 
 /// Appends the title of the loan of `side`, and the note on it.
-fn push_noted_title(page: &mut Vec<u8>, side: &Side, notes: &Notes) -> Result<(), OutOfMemory>
+fn push_noted_title(
+    page: &mut Vec<u8>,
+    view: &PageView<'_>,
+    side: &Side,
+    notes: &Notes,
+) -> Result<(), OutOfMemory>
     ensures { OnOk result (page.new.items ≡ page.old.items
-        ++ (html_escaped (title_text (item_asked (request_of side.now)))
+        ++ (linked_text (page_shown view.now).linked (txn_of side.now) (html_escaped (title_text (item_asked (request_of side.now))))
         ++ noted_text (note_of (lines_of notes.now) (txn_of side.now)))) }
 {
-    push_html_title(page, side)?;
+    let title = html_title(*page.allocator(), side)?;
+    push_linked(page, view.linked, side.txn(), &title)?;
     push_html_note(page, notes.note_of(side.txn())?)
 }
 
@@ -337,14 +400,15 @@ fn push_html_note(page: &mut Vec<u8>, note: Option<&str>) -> Result<(), OutOfMem
     Ok(())
 }
 
-/// Appends the title of the loan of `side`.
-fn push_html_title(page: &mut Vec<u8>, side: &Side) -> Result<(), OutOfMemory>
-    ensures { OnOk result (page.new.items ≡ page.old.items
-        ++ html_escaped (title_text (item_asked (request_of side.now)))) }
+/// Returns the title of the loan of `side`, as a text of HTML.
+fn html_title(alloc: Global, side: &Side) -> Result<Vec<u8>, OutOfMemory>
+    ensures { IfOk result (λ text. text.items ≡ html_escaped (title_text (item_asked (request_of side.now)))) }
 {
-    let mut title = Vec::new(*page.allocator());
+    let mut title = Vec::new(alloc);
     push_title(&mut title, side)?;
-    push_html(page, &title)
+    let mut text = Vec::new(alloc);
+    push_html(&mut text, &title)?;
+    Ok(text)
 }
 
 /// Appends the state of the loan of `side`, in words, and the day since which it stands so, if `annex` tells it.

@@ -67,7 +67,7 @@ pub(crate) fn heading(work: Work) -> &'static str
     if work.wants_a_hand() { TASK } else { HEADING }
 }
 
-/// The text before the day of a page.
+/// The text of a page up to the rules of its style, which all pages have.
 pub(crate) const PAGE: &str = "\
 <!DOCTYPE html>
 <html lang=\"en\">
@@ -120,6 +120,10 @@ code { margin-right: .5rem; font-family: ui-monospace, monospace }
   h2, h3, p { break-after: avoid }
   tr { break-inside: avoid }
 }
+";
+
+/// The text after the style of a page, before its day.
+pub(crate) const STYLE_END: &str = "\
 </style>
 </head>
 <body>

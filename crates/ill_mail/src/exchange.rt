@@ -215,6 +215,21 @@ pub struct Outlet<'a> {
     pub key: Option<&'a Key>,
 }
 
+impl<'a> Outlet<'a> {
+    /// Returns the outlet into `folder`, in which each message leaves in a mail of its own.
+    pub fn plain(folder: &'a str) -> Outlet<'a> {
+        Outlet { folder, key: None }
+    }
+
+    /// Returns the outlet into `folder`, in which messages leave in letters that are sealed with `key`.
+    pub fn sealed(folder: &'a str, key: &'a Key) -> Outlet<'a> {
+        Outlet {
+            folder,
+            key: Some(key),
+        }
+    }
+}
+
 /// Returns the key and the sender of the letters that come to a desk of this role, if there is a key.
 fn open_with<'k>(key: Option<&'k Key>, role: Role) -> Option<Opening<'k>> {
     match key {

@@ -7,9 +7,11 @@ ghost use Rattle.ill_mail.specs.Nights.{ExchangesAtFile, InboxAtFile, OutboxAtFi
 use crate::exchange::{Outlet, exchange, inbox, outbox};
 use crate::mail::Incoming;
 use ill_files::machine::Machine;
+use ill_key::Key;
 use ill_key::key_file::read_key;
 use ill_night::night::Night;
 use ill_saved::LockFiles;
+use ill_text::diary::Stamp;
 use ill_text::fault::ToolFault;
 use std::io::Write;
 
@@ -39,13 +41,22 @@ fn inbox_sealed<T: LockFiles, W: Write, E: Write>(
     ensures { WithKey (Some key_file.now) InboxAtFile (W.contents machine.old.writer) (W.contents machine.new.writer) result }
 {
     let key = read_key(machine.rt, key_file)?;
-    let sealed = Incoming {
-        folder: incoming.folder,
-        is_sorted: false,
-        stamp: incoming.stamp,
-        key: Some(&key),
-    };
+    let sealed = sealed_in(incoming.folder, incoming.stamp, &key);
     inbox(machine, file, sealed)
+}
+
+/// Returns the letters in `folder` that are sealed with `key`.
+fn sealed_in<'a, 'b, 'c>(
+    folder: &'a str,
+    stamp: &'b Option<Stamp<'c>>,
+    key: &'a Key,
+) -> Incoming<'a, 'b, 'c> {
+    Incoming {
+        folder,
+        is_sorted: false,
+        stamp,
+        key: Some(key),
+    }
 }
 
 /// `ill outbox`: puts the messages of the loans that want sending into a folder, in letters if there is a file of a key.
@@ -61,7 +72,7 @@ pub fn outbox_with<T: LockFiles, W: Write, E: Write>(
 {
     match (folder, key_file) {
         (Some(folder), Some(key_file)) => outbox_sealed(machine, file, key_file, folder),
-        (Some(folder), None) => outbox(machine, file, Some(Outlet { folder, key: None })),
+        (Some(folder), None) => outbox(machine, file, Some(Outlet::plain(folder))),
         (None, _) => outbox(machine, file, None),
     }
 }
@@ -77,11 +88,7 @@ fn outbox_sealed<T: LockFiles, W: Write, E: Write>(
         result }
 {
     let key = read_key(machine.rt, key_file)?;
-    let outlet = Outlet {
-        folder,
-        key: Some(&key),
-    };
-    outbox(machine, file, Some(outlet))
+    outbox(machine, file, Some(Outlet::sealed(folder, &key)))
 }
 
 /// `ill exchange`: performs a night. If there is a file of a key, all messages come and go in letters.

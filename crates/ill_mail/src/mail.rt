@@ -276,7 +276,7 @@ pub struct Incoming<'a, 'b, 'c> {
     pub is_sorted: bool,
     /// The stamp of the lines of the diary, if a day is given.
     pub stamp: &'b Option<Stamp<'c>>,
-    /// The key of the letters, if sealed letters alone are taken. A shelf has none.
+    /// The key of the letters, if sealed letters alone are taken. A shelf has opened them, and gives none.
     pub key: Option<&'a Key>,
 }
 

@@ -176,6 +176,12 @@ pub fn asked_bytes<T: Files>(rt: &T, alloc: Global, desk: &str) -> io::Result<Ve
     }
 }
 
+/// Makes the folder at `path`, which only the owner of the file `original` may enter, if it does not exist. A folder that
+/// others may enter is a fault.
+pub fn open_own_folder<T: Files>(rt: &T, path: &str, original: &str) -> io::Result<()> {
+    make_own_folder(rt, path, Owner::of(&fs::symlink_metadata(rt, original)?))
+}
+
 /// Makes a folder that only its owner may enter, if it does not exist. A folder that others may enter is a fault.
 fn make_own_folder<T: Files>(rt: &T, path: &str, owner: Owner) -> io::Result<()> {
     make_folder(rt, path, owner)?;

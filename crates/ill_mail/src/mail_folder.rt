@@ -15,7 +15,7 @@ use std::{fs, io};
 
 /// A folder of mails, with one message in each file. Whoever moves the mails may put anything there at any moment.
 #[derive(Drop)]
-pub(crate) struct MailFolder<'r, 'a, R: Files> {
+pub struct MailFolder<'r, 'a, R: Files> {
     rt: &'r R,
     alloc: Global,
     path: &'a str,

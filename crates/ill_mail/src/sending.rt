@@ -4,17 +4,20 @@ ghost use Rattle.std.specs.Prelude.{◌≡◌, IfErr};
 ghost use Rattle.ill_mail.specs.Nights.{SendsAsked};
 ghost use Rattle.ill_text.specs.Fault.{IsFileFault};
 
+use crate::exchange::Outlet;
 use crate::fault_lines::report_fault_of_mail;
 use crate::mail_folder::MailFolder;
 use crate::rooms::put_asked;
 use ill_der::encode;
 use ill_files::machine::Machine;
+use ill_key::Key;
+use ill_key::role::own_sender;
 use ill_night::outbox::mail_name;
 use ill_night::outgoing::Outgoing;
-use ill_room::sealed::Seal;
+use ill_room::sealed::{Seal, put_sealed};
 use ill_saved::{Desk, Role, Store};
 use ill_text::fault::ToolFault;
-use ill_values::Apdu;
+use ill_values::{Apdu, OutOfMemory};
 use std::alloc::Global;
 use std::io::Write;
 use std::rt::Files;
@@ -52,25 +55,68 @@ pub(crate) fn send_asked<T: Files, S: Store, W: Write, E: Write>(
     report_fault_of_mail(machine, sent, &out)
 }
 
-/// Puts `words`, the last words of retired groups, into `folder`.
+/// Puts `words`, the last words of retired groups, into the folder of `outlet`.
 pub fn send_words<T: Files, W: Write, E: Write>(
     machine: &mut Machine<'_, T, W, E>,
     words: &[Apdu],
-    folder: &str,
+    outlet: Outlet<'_>,
 ) -> Result<SentAll, ToolFault>
     ensures faults { IfErr result IsFileFault }
     ensures silent { machine.new.writer ≡ machine.old.writer }
 {
-    let mut out = MailFolder::at(machine.rt, machine.alloc, folder);
-    let sent = put_words(machine.alloc, words, &mut out);
+    let mut out = MailFolder::at(machine.rt, machine.alloc, outlet.folder);
+    let sent = put_words(machine.alloc, words, outlet.key, &mut out);
     match report_fault_of_mail(machine, sent, &out) {
         Ok(_) => Ok(SentAll { seal: () }),
         Err(fault) => Err(fault),
     }
 }
 
-/// Puts `words`, which responders have issued, into `out`, and returns their number.
-fn put_words<O: Outgoing>(alloc: Global, words: &[Apdu], out: &mut O) -> Result<usize, ToolFault>
+/// Puts `words`, which responders have issued, into `out`. With a key they leave in sealed letters.
+fn put_words<O: Outgoing>(
+    alloc: Global,
+    words: &[Apdu],
+    key: Option<&Key>,
+    out: &mut O,
+) -> Result<(), ToolFault>
+    ensures { IfErr result IsFileFault }
+{
+    match key {
+        Some(key) => put_sealed_words(alloc, words, key, out),
+        None => put_each_word(alloc, words, out),
+    }
+}
+
+/// Puts `words` into `out`, in sealed letters.
+fn put_sealed_words<O: Outgoing>(
+    alloc: Global,
+    words: &[Apdu],
+    key: &Key,
+    out: &mut O,
+) -> Result<(), ToolFault>
+    ensures { IfErr result IsFileFault }
+{
+    let seal = Seal {
+        key,
+        sender: own_sender(Role::Responder),
+    };
+    match spelled(alloc, words) {
+        Ok(messages) => put_sealed(alloc, seal, &messages, out),
+        Err(_) => Err(ToolFault::OutOfMemory),
+    }
+}
+
+/// Returns the bytes of each of `words`.
+fn spelled(alloc: Global, words: &[Apdu]) -> Result<Vec<Vec<u8>>, OutOfMemory> {
+    let mut messages = Vec::new(alloc);
+    for word in words {
+        messages.push(encode(alloc, word)?)?;
+    }
+    Ok(messages)
+}
+
+/// Puts each of `words` into `out`, in a mail of its own.
+fn put_each_word<O: Outgoing>(alloc: Global, words: &[Apdu], out: &mut O) -> Result<(), ToolFault>
     ensures { IfErr result IsFileFault }
 {
     for word in words {
@@ -78,7 +124,7 @@ fn put_words<O: Outgoing>(alloc: Global, words: &[Apdu], out: &mut O) -> Result<
             return Err(fault);
         }
     }
-    Ok(words.len())
+    Ok(())
 }
 
 /// Puts the message `word`, which a responder has issued, into `out`.

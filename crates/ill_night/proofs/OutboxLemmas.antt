@@ -13,7 +13,8 @@ use Rattle.ill_night.specs.declared.verdict.Mail.{Mail}
 use Rattle.ill_night.specs.declared.verdict.Verdict.{Verdict}
 use Rattle.ill_text.specs.Output.{WritesPrefix}
 use Rattle.ill_night.specs.declared.outbox.Leaving.{Leaving}
-use Rattle.ill_night.specs.Outbox.{Letter, PutsAll, RunsOutbox, StreamsOutbox, after_all, after_one, asked_by, asking_bytes_at, issue_of}
+use Rattle.ill_night.specs.Outbox.{Letter, PutsAll, RunsOutbox, StreamsOutbox, after_all, after_one, asked_by, asking_bytes_at}
+use Rattle.ill_night.specs.Outbox.{issue_of}
 use Rattle.ill_night.specs.Outbox.{letter_of, letters_of, stream_of}
 
 -- Putting the mails of `leaving` into an outlet equals putting the mail of each message in turn.

@@ -146,7 +146,8 @@ Putting M = List Letter → Option M → Option M → Result ℕ ToolFault → T
 
 -- The command: the messages of `held` that want sending were put into the outlet, as `Puts` says. `bytes` has the messages
 -- that ask. If memory ran out before the first mail, the outlet is unchanged.
-abbrev pub RunsOutbox : {M : Type 0} → (Puts : Putting M) → List ℕ → List DeskEntry → Option M → Option M → Result ℕ ToolFault → Type 0
+abbrev pub RunsOutbox : {M : Type 0} → (Puts : Putting M) → List ℕ → List DeskEntry → Option M → Option M → Result ℕ ToolFault
+    → Type 0
 RunsOutbox Puts bytes held old new (Ok count) =
     (asking : List Apdu) × AreIn bytes asking × Puts (letters_of asking held) old new (Ok count)
 RunsOutbox Puts bytes held old new (Err fault) =

@@ -78,6 +78,26 @@ fn run_sealed_outbox<S: Store, O: Outgoing>(
     }
 }
 
+/// Puts `messages` into `out`, one after another, in sealed letters.
+///
+/// After a fault, `out` has a prefix of these letters, and no part of another. All letters are sealed before the first one
+/// is put.
+pub fn put_sealed<O: Outgoing>(
+    alloc: Global,
+    seal: Seal<'_>,
+    messages: &[Vec<u8>],
+    out: &mut O,
+) -> Result<(), ToolFault>
+    ensures { PutsLetters O.after
+        (map (sealed_mail (sealing_of seal.entry)) (texts_of (map (λ message. message.items) messages.now))) (O.mails out.old)
+        (O.mails out.new) result }
+{
+    match letters_of(alloc, seal, messages) {
+        Ok(letters) => put_letters(&letters, out),
+        Err(_) => Err(ToolFault::OutOfMemory),
+    }
+}
+
 /// Messages that leave, one after another.
 #[derive(Drop)]
 pub(crate) struct Gathered {

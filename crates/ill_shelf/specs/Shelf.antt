@@ -1,6 +1,6 @@
 -- A shelf: a folder of desks of one role, one for each group of transactions. The group of a transaction
 -- gives the name of its desk (this profile's own).
-use Rattle.std.specs.Prelude.{◌≡◌, ◌⊎◌, ℕ, ◌-◌, Bool, true, false, ◌&&◌, List, codes, Option, Some, is_some, Result, Ok}
+use Rattle.std.specs.Prelude.{◌≡◌, ◌⊎◌, ℕ, ◌-◌, Bool, true, false, ◌&&◌, List, codes, Option, None, Some, is_some, Result, Ok}
 use Rattle.std.specs.Prelude.{Err}
 use Rattle.ill_saved.specs.declared.role.Role.{Role}
 use Rattle.ill_saved.specs.declared.role.Role.TheVariants.{Responder}
@@ -27,6 +27,7 @@ use Rattle.ill_list.specs.Listing.{heading}
 use Rattle.ill_text.specs.Output.{WritesText}
 use Rattle.ill_text.specs.Visits.{Stop, VisitsEach, graver}
 use Rattle.ill_text.specs.Fault.{IsFileFault}
+use Rattle.ill_key.specs.KeyCommand.{FailsAtKey}
 
 -- ---- mail
 
@@ -65,15 +66,15 @@ is_lines form = false
 -- go to the output.
 abbrev pub is_headed : Visit → Bool
 is_headed (visits.Status form) = is_lines form
-is_headed (visits.Outbox folder) = is_some folder
+is_headed (visits.Outbox outlet) = is_some outlet
 is_headed visit = true
 
 -- A visit has the effect of its command at one desk.
 abbrev pub RunsVisit : Visit → Option (List ℕ) → Option (List ℕ) → Result Bool ToolFault → Type 0
 RunsVisit (visits.Status form) = ShowsFile form
 RunsVisit (visits.Inbox folder) = InboxAtFile
-RunsVisit (visits.Outbox folder) = OutboxAtFile (is_some folder)
-RunsVisit (visits.Exchange night) = ExchangesAtFile night.dates
+RunsVisit (visits.Outbox outlet) = OutboxAtFile (is_some outlet)
+RunsVisit (visits.Exchange night key) = ExchangesAtFile night.dates
 
 -- The desks at `paths` were visited one after another, and `answer` is the gravest of their answers.
 abbrev pub VisitsAll : Bool → (Option (List ℕ) → Option (List ℕ) → Result Bool ToolFault → Type 0) → List (List ℕ) →
@@ -95,6 +96,30 @@ VisitsShelf is_headed Runs before after result =
     FailsToOpen before after result
     ⊎ ((paths : List (List ℕ)) × (answer further : Result Bool ToolFault) × VisitsAll is_headed Runs paths before after answer
     × IsFurther further × (result ≡ graver answer further))
+
+-- ---- letters
+
+-- Returns the answer of letters that were opened: a file waits for the next run, or whether each file was a letter of the
+-- other library.
+abbrev pub opened_answer : (is_waiting are_sealed : Bool) → Result Bool ToolFault
+opened_answer true are_sealed = Err Left
+opened_answer false are_sealed = Ok are_sealed
+
+-- The letters that had come to a shelf were opened, and then its desks were visited. The result is graver than that of the
+-- visits if a file waits, or was no letter. Or the shelf could not be opened, or no key could be used.
+abbrev pub OpensShelf : Bool → (Option (List ℕ) → Option (List ℕ) → Result Bool ToolFault → Type 0) → Option (List ℕ) →
+    Option (List ℕ) → Result Bool ToolFault → Type 0
+OpensShelf is_headed Runs before after result =
+    FailsAtKey before after result
+    ⊎ ((done : Result Bool ToolFault) × (is_waiting are_sealed : Bool) × VisitsShelf is_headed Runs before after done
+    × (result ≡ graver done (opened_answer is_waiting are_sealed)))
+
+-- The desks of a shelf were visited. With a key, the letters that had come were opened before.
+abbrev pub VisitsWith : (key : Option (List ℕ)) → Bool →
+    (Option (List ℕ) → Option (List ℕ) → Result Bool ToolFault → Type 0) → Option (List ℕ) → Option (List ℕ) →
+    Result Bool ToolFault → Type 0
+VisitsWith None is_headed Runs before after result = VisitsShelf is_headed Runs before after result
+VisitsWith (Some key) is_headed Runs before after result = OpensShelf is_headed Runs before after result
 
 -- ---- retired groups
 

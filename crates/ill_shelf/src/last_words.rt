@@ -8,6 +8,7 @@ use ill_der::ApduView;
 use ill_files::durable::error_of_store;
 use ill_files::machine::Machine;
 use ill_files::shelf::{Shelf, retired_path};
+use ill_mail::exchange::Outlet;
 use ill_mail::mail_box::asked_bytes;
 use ill_mail::sending::{SentAll, send_words};
 use ill_night::retire::words_in;
@@ -69,17 +70,17 @@ impl LastWords {
     }
 }
 
-/// Puts the last words that were asked for at `shelf` into the folder `out`.
+/// Puts the last words that were asked for at `shelf` into the folder of `outlet`.
 pub(crate) fn send_last_words<T: Files, W: Write, E: Write>(
     machine: &mut Machine<'_, T, W, E>,
     shelf: &Shelf<'_>,
-    out: &str,
+    outlet: Outlet<'_>,
 ) -> Result<SentAll, ToolFault>
     ensures faults { IfErr result IsFileFault }
     ensures silent { machine.new.writer ≡ machine.old.writer }
 {
     let words = words_asked(machine.rt, machine.alloc, shelf)?;
-    send_words(machine, &words, out)
+    send_words(machine, &words, outlet)
 }
 
 /// Returns the last words that were asked for at `shelf`.

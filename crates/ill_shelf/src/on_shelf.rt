@@ -10,7 +10,7 @@ ghost use Rattle.ill_shelf.specs.Shelf.{IsFurther, RetiresAtFile, VisitsShelf, i
 ghost use Rattle.ill_text.specs.Fault.{IsOpenFault};
 
 use crate::last_words::{load_mark, send_last_words};
-use crate::sorting::sort_mails;
+use crate::sorting::{MailsFrom, sort_mails};
 use crate::visit::{Visit, visit_all};
 use ill_commands::commands::{act_at, loan, new, slip};
 use ill_commands::letters::send_with;
@@ -22,7 +22,9 @@ use ill_files::machine::Machine;
 use ill_files::open::{lock, open};
 use ill_files::paths::{KEPT, MAIL, RETIRED, is_there, path_of};
 use ill_files::shelf::{Shelf, is_retired, names_of_desks, own_path, refuse_retired, retired_path};
+use ill_key::Key;
 use ill_mail::backup::beat;
+use ill_mail::exchange::Outlet;
 use ill_mail::mail::{Incoming, names_in};
 use ill_mail::mail_box::remove_if_there;
 use ill_mail::places::{Places, look_at_places};
@@ -185,28 +187,28 @@ pub fn status_of_shelf<T: LockFiles, W: Write, E: Write>(
 pub fn outbox_of_shelf<T: LockFiles, W: Write, E: Write>(
     machine: &mut Machine<'_, T, W, E>,
     folder: &str,
-    outgoing: Option<&str>,
+    outlet: Option<Outlet<'_>>,
 ) -> Result<bool, ToolFault>
-    ensures { VisitsShelf (is_some outgoing.entry) (OutboxAtFile (is_some outgoing.entry)) (W.contents machine.old.writer)
+    ensures { VisitsShelf (is_some outlet.entry) (OutboxAtFile (is_some outlet.entry)) (W.contents machine.old.writer)
         (W.contents machine.new.writer) result }
 {
     let shelf = Shelf::open(machine.rt, machine.alloc, folder)?;
     let desks = shelf.desks(machine.rt, machine.alloc)?;
-    let answer = visit_all(machine, &desks, &Visit::Outbox(outgoing));
-    graver(answer, send_words_to(machine, &shelf, outgoing))
+    let answer = visit_all(machine, &desks, &Visit::Outbox(outlet));
+    graver(answer, send_words_to(machine, &shelf, outlet))
 }
 
 /// Sends the last words of retired groups into a folder, if there is one.
 fn send_words_to<T: Files, W: Write, E: Write>(
     machine: &mut Machine<'_, T, W, E>,
     shelf: &Shelf<'_>,
-    outgoing: Option<&str>,
+    outlet: Option<Outlet<'_>>,
 ) -> Result<bool, ToolFault>
     ensures further { IsFurther result }
     ensures silent { machine.new.writer ≡ machine.old.writer }
 {
-    match outgoing {
-        Some(out) => match send_last_words(machine, shelf, out) {
+    match outlet {
+        Some(outlet) => match send_last_words(machine, shelf, outlet) {
             Ok(_) => Ok(true),
             Err(fault) => Err(fault),
         },
@@ -214,7 +216,7 @@ fn send_words_to<T: Files, W: Write, E: Write>(
     }
 }
 
-/// `ill shelf inbox`: takes the mails of a folder, each at the desk of its group. `incoming` is sorted by the shelf.
+/// `ill shelf inbox`: takes the mails of a folder, each at the desk of its group.
 pub fn inbox_of_shelf<T: LockFiles, W: Write, E: Write>(
     machine: &mut Machine<'_, T, W, E>,
     folder: &str,
@@ -223,8 +225,25 @@ pub fn inbox_of_shelf<T: LockFiles, W: Write, E: Write>(
     ensures { VisitsShelf true InboxAtFile (W.contents machine.old.writer) (W.contents machine.new.writer) result }
 {
     let shelf = Shelf::open(machine.rt, machine.alloc, folder)?;
-    let is_waiting = sort_mails(machine, &shelf, incoming.folder, None)?;
-    let desks = desks_and_own(machine.rt, machine.alloc, &shelf)?;
+    take_at_desks(machine, &shelf, incoming, false)
+}
+
+/// Takes the mails of `incoming`, each at the desk of its group. The shelf sorts them. `is_own` is set if it has put them
+/// there itself.
+pub(crate) fn take_at_desks<T: LockFiles, W: Write, E: Write>(
+    machine: &mut Machine<'_, T, W, E>,
+    shelf: &Shelf<'_>,
+    incoming: Incoming<'_, '_, '_>,
+    is_own: bool,
+) -> Result<bool, ToolFault>
+    ensures { VisitsShelf true InboxAtFile (W.contents machine.old.writer) (W.contents machine.new.writer) result }
+{
+    let from = MailsFrom {
+        folder: incoming.folder,
+        is_own,
+    };
+    let is_waiting = sort_mails(machine, shelf, from, None)?;
+    let desks = desks_and_own(machine.rt, machine.alloc, shelf)?;
     let answer = visit_all(machine, &desks, &Visit::Inbox(incoming));
     graver(answer, waiting(is_waiting))
 }
@@ -261,6 +280,23 @@ pub fn exchange_of_shelf<T: LockFiles, W: Write, E: Write>(
 ) -> Result<bool, ToolFault>
     ensures { VisitsShelf true (ExchangesAtFile night.now.dates) (W.contents machine.old.writer) (W.contents machine.new.writer) result }
 {
+    let shelf = look_at_shelf(machine, folder, night)?;
+    let way = Way {
+        incoming: night.incoming,
+        key: None,
+    };
+    exchange_at_desks(machine, &shelf, night, way)
+}
+
+/// Opens the shelf in `folder`, and looks at the paths of `night` before anything is done.
+pub(crate) fn look_at_shelf<'a, T: LockFiles, W: Write, E: Write>(
+    machine: &mut Machine<'_, T, W, E>,
+    folder: &'a str,
+    night: &Night<'_>,
+) -> Result<Shelf<'a>, ToolFault>
+    ensures faults { IfErr result IsOpenFault }
+    ensures silent { machine.new.writer ≡ machine.old.writer }
+{
     let shelf = Shelf::open(machine.rt, machine.alloc, folder)?;
     let own = shelf.own_desk(machine.alloc)?;
     let places = Places {
@@ -269,20 +305,61 @@ pub fn exchange_of_shelf<T: LockFiles, W: Write, E: Write>(
         copies: night.copy,
     };
     look_at_places(machine, &places, night)?;
-    let is_waiting = sort_mails(machine, &shelf, night.incoming, night.copy)?;
-    let desks = desks_and_own(machine.rt, machine.alloc, &shelf)?;
-    let visit = Visit::Exchange(at_each(night));
+    Ok(shelf)
+}
+
+/// The way on which the mails of a night come and go.
+#[derive(Clone, Copy)]
+pub(crate) struct Way<'a> {
+    /// The folder from which the mails come. With a key, it is that of the messages in letters that the shelf has opened.
+    pub incoming: &'a str,
+    /// The key of the letters in which messages leave, if there is one.
+    pub key: Option<&'a Key>,
+}
+
+impl<'a> Way<'a> {
+    /// Returns the way of messages in letters that are sealed with `key`. Those that have come were put into `incoming`.
+    pub fn sealed(incoming: &'a str, key: &'a Key) -> Way<'a> {
+        Way {
+            incoming,
+            key: Some(key),
+        }
+    }
+}
+
+/// Performs the nights of the desks of `shelf`, whose mails come and go on this way.
+pub(crate) fn exchange_at_desks<T: LockFiles, W: Write, E: Write>(
+    machine: &mut Machine<'_, T, W, E>,
+    shelf: &Shelf<'_>,
+    night: &Night<'_>,
+    way: Way<'_>,
+) -> Result<bool, ToolFault>
+    ensures { VisitsShelf true (ExchangesAtFile night.now.dates) (W.contents machine.old.writer) (W.contents machine.new.writer) result }
+{
+    let from = MailsFrom {
+        folder: way.incoming,
+        is_own: way.key.is_some(),
+    };
+    let is_waiting = sort_mails(machine, shelf, from, night.copy)?;
+    let desks = desks_and_own(machine.rt, machine.alloc, shelf)?;
+    let visit = Visit::Exchange(at_each(night, way.incoming), way.key);
     let answer = visit_all(machine, &desks, &visit);
-    let further = end_night(machine, &shelf, night, answer, is_waiting);
+    let ending = Ending {
+        night,
+        key: way.key,
+        is_waiting,
+    };
+    let further = end_night(machine, shelf, &ending, answer);
     graver(answer, further)
 }
 
-/// Returns the night of each desk of a shelf. It has no sign of life, which is given once, at the end.
-fn at_each<'a>(night: &Night<'a>) -> Night<'a>
+/// Returns the night of each desk of a shelf, whose mails come from `incoming`. It has no sign of life, which is given
+/// once, at the end.
+fn at_each<'a>(night: &Night<'a>, incoming: &'a str) -> Night<'a>
     ensures { result.dates ≡ night.now.dates }
 {
     Night {
-        incoming: night.incoming,
+        incoming,
         outgoing: night.outgoing,
         dates: night.dates,
         stamp: same_stamp(&night.stamp),
@@ -303,25 +380,39 @@ fn same_stamp<'a>(stamp: &Option<Stamp<'a>>) -> Option<Stamp<'a>> {
     }
 }
 
+/// The end of a night of a shelf.
+#[derive(Clone, Copy)]
+struct Ending<'a, 'b> {
+    night: &'b Night<'a>,
+    /// The key of the letters in which messages leave, if there is one.
+    key: Option<&'a Key>,
+    /// Set if mails wait for the next run.
+    is_waiting: bool,
+}
+
 /// Copies the marks of retired groups to the folder of copies, and sends the last words of these groups. So no last word
 /// leaves that the copies do not have. Then it gives the sign of life of the night, unless a desk has failed. It returns
 /// the fault `Left` if mails wait.
 fn end_night<T: Files, W: Write, E: Write>(
     machine: &mut Machine<'_, T, W, E>,
     shelf: &Shelf<'_>,
-    night: &Night<'_>,
+    ending: &Ending<'_, '_>,
     answer: Result<bool, ToolFault>,
-    is_waiting: bool,
 ) -> Result<bool, ToolFault>
     ensures further { IsFurther result }
     ensures silent { machine.new.writer ≡ machine.old.writer }
 {
+    let night = ending.night;
     if let Some(folder) = night.copy
         && let Err(error) = copy_marks(machine.rt, machine.alloc, shelf, folder)
     {
         return machine.report_fault_at(Err(error.into()), folder, NO_MARKS);
     }
-    let sent = match send_last_words(machine, shelf, night.outgoing) {
+    let outlet = Outlet {
+        folder: night.outgoing,
+        key: ending.key,
+    };
+    let sent = match send_last_words(machine, shelf, outlet) {
         Ok(sent) => sent,
         Err(fault) => return Err(fault),
     };
@@ -331,7 +422,7 @@ fn end_night<T: Files, W: Write, E: Write>(
             return Err(fault);
         }
     }
-    waiting(is_waiting)
+    waiting(ending.is_waiting)
 }
 
 /// The text that follows the path of a folder of copies.

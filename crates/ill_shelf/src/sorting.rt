@@ -66,13 +66,22 @@ pub(crate) fn route_of(role: Role, home: Home, is_request: bool, has_room: bool)
     }
 }
 
-/// Sorts the mails of `folder` to the desks of `shelf`. Returns true if a mail waits for the next run, or a desk is
+/// The folder from which a shelf takes its mails.
+#[derive(Clone, Copy)]
+pub(crate) struct MailsFrom<'a> {
+    /// Its path.
+    pub folder: &'a str,
+    /// Set if the shelf has put the mails there, which are messages in letters that it has opened.
+    pub is_own: bool,
+}
+
+/// Sorts the mails of a folder to the desks of `shelf`. Returns true if a mail waits for the next run, or a desk is
 /// lost. It writes lines to `errors` about these, new desks, and mails of retired groups. `copies` is the folder that has
 /// copies of the desks, if the run makes any.
 pub(crate) fn sort_mails<T: LockFiles, W: Write, E: Write>(
     machine: &mut Machine<'_, T, W, E>,
     shelf: &Shelf<'_>,
-    folder: &str,
+    from: MailsFrom<'_>,
     copies: Option<&str>,
 ) -> Result<bool, ToolFault>
     ensures faults { IfErr result IsOpenFault }
@@ -80,16 +89,16 @@ pub(crate) fn sort_mails<T: LockFiles, W: Write, E: Write>(
 {
     let own = shelf.own_desk(machine.alloc)?;
     let held = lock(machine.rt, machine.alloc, own.as_str())?;
-    let sorted = sort_under_lock(machine, shelf, folder, copies);
+    let sorted = sort_under_lock(machine, shelf, from, copies);
     drop(held);
     sorted
 }
 
-/// Sorts the mails of `folder`, under a lock against other commands.
+/// Sorts the mails of a folder, under a lock against other commands.
 fn sort_under_lock<T: LockFiles, W: Write, E: Write>(
     machine: &mut Machine<'_, T, W, E>,
     shelf: &Shelf<'_>,
-    folder: &str,
+    from: MailsFrom<'_>,
     copies: Option<&str>,
 ) -> Result<bool, ToolFault>
     ensures faults { IfErr result IsOpenFault }
@@ -102,13 +111,13 @@ fn sort_under_lock<T: LockFiles, W: Write, E: Write>(
     let run = begin_run(machine.rt, machine.alloc, &mail_box);
     let run = machine.report_fault_at(run, unsorted.as_str(), NO_RUN)?;
     let sources = Sources {
-        folder,
+        from,
         copies,
         mail_box: &mail_box,
         run: run.as_str(),
     };
-    let found = claim_from_outside(machine.rt, machine.alloc, shelf, sources);
-    let found = machine.report_fault_at(found, folder, NOT_READ)?;
+    let found = claim_from(machine.rt, machine.alloc, shelf, sources);
+    let found = machine.report_fault_at(found, from.folder, NOT_READ)?;
     Ok(sort_found(machine, shelf, sources, &found)?)
 }
 
@@ -116,7 +125,7 @@ fn sort_under_lock<T: LockFiles, W: Write, E: Write>(
 #[derive(Clone, Copy)]
 struct Sources<'a> {
     /// The folder from which the mails come.
-    folder: &'a str,
+    from: MailsFrom<'a>,
     /// The folder that has copies of the desks, if the run makes any.
     copies: Option<&'a str>,
     /// The folder of the mails that are not sorted yet.
@@ -125,8 +134,9 @@ struct Sources<'a> {
     run: &'a str,
 }
 
-/// Claims the mails of the folder of `sources`, which may not lie within the shelf, since files there belong to a desk.
-fn claim_from_outside<T: Files>(
+/// Claims the mails of the folder of `sources`. If others bring them, it may not lie within the shelf, since files there
+/// belong to a desk.
+fn claim_from<T: Files>(
     rt: &T,
     alloc: Global,
     shelf: &Shelf<'_>,
@@ -136,15 +146,15 @@ fn claim_from_outside<T: Files>(
 {
     let Sources {
         mail_box,
-        folder,
+        from,
         run,
         ..
     } = sources;
-    if is_within(rt, alloc, folder, shelf.folder)? {
+    if !from.is_own && is_within(rt, alloc, from.folder, shelf.folder)? {
         return Err(STORE_FAILED);
     }
     let source = Source {
-        folder,
+        folder: from.folder,
         opening: None,
     };
     claim_mails(rt, alloc, mail_box, source, run)
@@ -309,7 +319,7 @@ impl<T: LockFiles> Sorting<'_, T> {
                 give_back(
                     self.rt,
                     self.alloc,
-                    self.sources.folder,
+                    self.sources.from.folder,
                     file.as_str(),
                     &mail.name,
                 )
@@ -353,7 +363,13 @@ impl<T: LockFiles> Sorting<'_, T> {
             }
             Route::Back => {
                 self.tell_back(mail, home, desk, errors)?;
-                give_back(self.rt, self.alloc, self.sources.folder, file, &mail.name)
+                give_back(
+                    self.rt,
+                    self.alloc,
+                    self.sources.from.folder,
+                    file,
+                    &mail.name,
+                )
             }
             Route::Gone => {
                 self.answer(mail, message, desk.as_str(), errors)?;

@@ -9,9 +9,9 @@ ghost use Rattle.ill_text.specs.Visits.{graver};
 
 use ill_commands::commands::status;
 use ill_files::machine::Machine;
+use ill_key::Key;
 use ill_list::listed::{Listed, heading};
-use ill_mail::exchange::{exchange, inbox};
-use ill_mail::keyed::outbox_with;
+use ill_mail::exchange::{Outlet, exchange, inbox, outbox};
 use ill_mail::mail::Incoming;
 use ill_night::night::Night;
 use ill_saved::LockFiles;
@@ -28,10 +28,10 @@ pub(crate) enum Visit<'a, 'b, 'c> {
     Status(Form),
     /// The mails that were sorted to it are taken. Mails that wait are given back to this folder.
     Inbox(Incoming<'a, 'b, 'c>),
-    /// Its messages are put into this folder, or written to the output.
-    Outbox(Option<&'a str>),
-    /// It exchanges its mail.
-    Exchange(Night<'a>),
+    /// Its messages are put into the folder of this outlet, or written to the output.
+    Outbox(Option<Outlet<'a>>),
+    /// It exchanges its mail. With a key, its messages leave in sealed letters.
+    Exchange(Night<'a>, Option<&'a Key>),
 }
 
 /// Visits the desks at `paths`, and returns the gravest of their answers.
@@ -94,8 +94,8 @@ fn is_headed(visit: &Visit<'_, '_, '_>) -> bool
 {
     match visit {
         Visit::Status(form) => is_lines(*form),
-        Visit::Outbox(folder) => folder.is_some(),
-        Visit::Inbox(_) | Visit::Exchange(_) => true,
+        Visit::Outbox(outlet) => outlet.is_some(),
+        Visit::Inbox(_) | Visit::Exchange(..) => true,
     }
 }
 
@@ -137,7 +137,7 @@ fn run_visit<T: LockFiles, W: Write, E: Write>(
     match visit {
         Visit::Status(form) => status(machine, path, *form),
         Visit::Inbox(incoming) => inbox(machine, path, *incoming),
-        Visit::Outbox(folder) => outbox_with(machine, path, None, *folder),
-        Visit::Exchange(night) => exchange(machine, path, night, None),
+        Visit::Outbox(outlet) => outbox(machine, path, *outlet),
+        Visit::Exchange(night, key) => exchange(machine, path, night, *key),
     }
 }

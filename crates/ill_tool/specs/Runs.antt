@@ -26,7 +26,7 @@ use Rattle.ill_commands.specs.AtFile.{VerifiesFile, ReportsPaths}
 use Rattle.ill_mail.specs.Keyed.{WithKey}
 use Rattle.ill_mail.specs.Nights.{InboxAtFile, OutboxAtFile, ExchangesAtFile}
 use Rattle.ill_line.specs.Guard.{IsGuarded}
-use Rattle.ill_shelf.specs.Shelf.{is_lines, VisitsShelf, RetiresAtFile, TakesAtShelf}
+use Rattle.ill_shelf.specs.Shelf.{is_lines, VisitsShelf, VisitsWith, RetiresAtFile, TakesAtShelf}
 
 -- A command has this result. The input went from `left` to `rest`, and the output from `before` to `after`.
 -- Only a shelf retires a group.
@@ -73,12 +73,6 @@ abbrev pub RunsGuarded : Asked → Option (List ℕ) → Option (List ℕ) → O
 RunsGuarded asked left rest before after result =
     (IsErrAnd result (IsGuarded asked) × (rest ≡ left) × (after ≡ before)) ⊎ Runs asked left rest before after result
 
--- A command on a shelf, which `Does` something without a key. With a key it is refused, and nothing was written.
-abbrev pub UnlessKey : (key : Option (List ℕ)) → (Does : Option (List ℕ) → Option (List ℕ) → Result Bool ToolFault → Type 0) →
-    (before after : Option (List ℕ)) → Result Bool ToolFault → Type 0
-UnlessKey None Does before after result = Does before after result
-UnlessKey (Some key) Does before after result = (after ≡ before) × (result ≡ Err Arguments)
-
 -- A command on a shelf. In a transaction it has the effect of the command for one desk, whichever desk that is. The
 -- input goes from `left` to `rest`, and the output from `before` to `after`.
 abbrev pub RunsShelf : Asked → Option (List ℕ) → Option (List ℕ) → Option (List ℕ) → Option (List ℕ) →
@@ -98,11 +92,11 @@ RunsShelf (asks.Slip folder txn) left rest before after result = (rest ≡ left)
 RunsShelf (asks.Status folder form) left rest before after result =
     (rest ≡ left) × VisitsShelf (is_lines form) (ShowsFile form) before after result
 RunsShelf (asks.Inbox folder incoming stamp key) left rest before after result =
-    (rest ≡ left) × UnlessKey key (VisitsShelf true InboxAtFile) before after result
+    (rest ≡ left) × VisitsWith key true InboxAtFile before after result
 RunsShelf (asks.Outbox folder outgoing key) left rest before after result =
-    (rest ≡ left) × UnlessKey key (VisitsShelf (is_some outgoing) (OutboxAtFile (is_some outgoing))) before after result
+    (rest ≡ left) × WithKey key (VisitsShelf (is_some outgoing) (OutboxAtFile (is_some outgoing))) before after result
 RunsShelf (asks.Exchange folder incoming outgoing dates stamp copy beat key) left rest before after result =
-    (rest ≡ left) × UnlessKey key (VisitsShelf true (ExchangesAtFile dates)) before after result
+    (rest ≡ left) × VisitsWith key true (ExchangesAtFile dates) before after result
 RunsShelf (asks.Retire folder group) left rest before after result = (rest ≡ left) × RetiresAtFile before after result
 RunsShelf other left rest before after result = (rest ≡ left) × (after ≡ before) × (result ≡ Err Arguments)
 

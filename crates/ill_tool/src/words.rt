@@ -4,9 +4,7 @@ ghost use Rattle.std.specs.Prelude.{◌≡◌, ◌⊎◌, ◌≤◌, true, is_so
 ghost use Rattle.ill_text.specs.declared.fault.ToolFault.TheVariants.{Write};
 ghost use Rattle.clap.specs.Values.{kind_of};
 ghost use Rattle.ill_line.specs.Asked.{asked};
-ghost use Rattle.ill_tool.specs.Runs.{EndsCall, EndsLine, EndsReading, PerformsCall, Runs, RunsCall, RunsGuarded, RunsShelf, UnlessKey};
-ghost use Rattle.ill_mail.specs.Nights.{ExchangesAtFile, InboxAtFile, OutboxAtFile};
-ghost use Rattle.ill_shelf.specs.Shelf.{VisitsShelf};
+ghost use Rattle.ill_tool.specs.Runs.{EndsCall, EndsLine, EndsReading, PerformsCall, Runs, RunsCall, RunsGuarded, RunsShelf};
 ghost use Rattle.ill_tool.specs.ExitStatus.{IsFlushed, TellsKind, desk_status, exit_status, status_of};
 
 use crate::simulate::{run_simulate, run_simulate_desks};
@@ -29,9 +27,10 @@ use ill_mail::keyed::{exchange_with, inbox_with, outbox_with};
 use ill_mail::mail::Incoming;
 use ill_night::night::Night;
 use ill_saved::{DeskFault, LockFiles};
+use ill_shelf::keyed::{exchange_of_shelf_with, inbox_of_shelf_with, outbox_of_shelf_with};
 use ill_shelf::on_shelf::{
-    act_on_shelf, exchange_of_shelf, inbox_of_shelf, loan_on_shelf, new_shelf, note_on_shelf,
-    outbox_of_shelf, retire, send_on_shelf_with, slip_on_shelf, status_of_shelf,
+    act_on_shelf, loan_on_shelf, new_shelf, note_on_shelf, retire, send_on_shelf_with,
+    slip_on_shelf, status_of_shelf,
 };
 use ill_shelf::take_home::take_on_shelf_with;
 use ill_show::loan::LoanView;
@@ -415,60 +414,15 @@ fn run_on_shelf<T: LockFiles, R: Read, W: Write, E: Write>(
             folder,
             stamp,
             key,
-        } => inbox_without(machine, file, *key, &mails_in(folder, true, stamp)),
-        Request::Outbox { file, folder, key } => { outbox_without(machine, file, *key, *folder) }
-        Request::Exchange { file, night, key } => { exchange_without(machine, file, *key, night) }
+        } => inbox_of_shelf_with(machine, file, *key, &mails_in(folder, true, stamp)),
+        Request::Outbox { file, folder, key } => {
+            outbox_of_shelf_with(machine, file, *key, *folder)
+        }
+        Request::Exchange { file, night, key } => {
+            exchange_of_shelf_with(machine, file, *key, night)
+        }
         Request::Retire { file, group } => retire(machine, file, group),
         _ => Err(ToolFault::Arguments),
-    }
-}
-
-/// Takes the mails of a folder at the desks of a shelf. With a key it is refused.
-fn inbox_without<T: LockFiles, W: Write, E: Write>(
-    machine: &mut Machine<'_, T, W, E>,
-    folder: &str,
-    key: Option<&str>,
-    incoming: &Incoming<'_, '_, '_>,
-) -> Result<bool, ToolFault>
-    ensures { UnlessKey (option_map (λ key. key.now) key.entry) (VisitsShelf true InboxAtFile) (W.contents machine.old.writer)
-        (W.contents machine.new.writer) result }
-{
-    match key {
-        Some(_) => Err(ToolFault::Arguments),
-        None => inbox_of_shelf(machine, folder, *incoming),
-    }
-}
-
-/// Sends the messages of all desks of a shelf. With a key it is refused.
-fn outbox_without<T: LockFiles, W: Write, E: Write>(
-    machine: &mut Machine<'_, T, W, E>,
-    folder: &str,
-    key: Option<&str>,
-    outgoing: Option<&str>,
-) -> Result<bool, ToolFault>
-    ensures { UnlessKey (option_map (λ key. key.now) key.entry)
-        (VisitsShelf (is_some outgoing.entry) (OutboxAtFile (is_some outgoing.entry))) (W.contents machine.old.writer)
-        (W.contents machine.new.writer) result }
-{
-    match key {
-        Some(_) => Err(ToolFault::Arguments),
-        None => outbox_of_shelf(machine, folder, outgoing),
-    }
-}
-
-/// Performs the nights of the desks of a shelf. With a key it is refused.
-fn exchange_without<T: LockFiles, W: Write, E: Write>(
-    machine: &mut Machine<'_, T, W, E>,
-    folder: &str,
-    key: Option<&str>,
-    night: &Night<'_>,
-) -> Result<bool, ToolFault>
-    ensures { UnlessKey (option_map (λ key. key.now) key.entry) (VisitsShelf true (ExchangesAtFile night.now.dates))
-        (W.contents machine.old.writer) (W.contents machine.new.writer) result }
-{
-    match key {
-        Some(_) => Err(ToolFault::Arguments),
-        None => exchange_of_shelf(machine, folder, night),
     }
 }
 

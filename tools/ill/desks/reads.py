@@ -517,7 +517,7 @@ def check_since(judge, path, sides):
     names = [(tuple(side.txn), apdu["apdu"], apdu["number"]) for side in sides for apdu in side.came]
     days = {(txn, number): f"202503{1 + 9 * place // len(names):02}" for place, (txn, _, number) in enumerate(names) if place % 3}
     lines = [f"{day} - {key(txn[0])} {key(txn[1])} {apdu} {number}\n" for place, (txn, apdu, number) in enumerate(names)
-             for day in ["20250101"] * (place % 4 == 0) + [days[txn, number]] if (txn, number) in days]
+             if (txn, number) in days for day in ["20250101"] * (place % 4 == 0) + [days[txn, number]]]
     last_days = {txn: days[txn, number] for txn, _, number in names if (txn, number) in days}
     write(f"{path}.came", came_bytes(sides))
     write(f"{path}.diary", "".join(lines).encode())

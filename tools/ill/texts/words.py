@@ -24,7 +24,7 @@ BEGIN, END = '.\\" words: ', '.\\" end'
 # Words in capitals of the help that stand for others, beside the labels of arguments and values.
 CAPITALS = {"DUE", "EXPIRY", "ITEM", "N", "RESULT", "WISHED"}
 # Words of the man page that the sources of the help do not have: those of `clap`, and a name of a file.
-OTHERS = {"error:", "ill help", "ill --version", ".unsorted.mail"}
+OTHERS = {"error:", "ill help", "ill --version", ".unsorted.mail", ".letters.mail", ".opened"}
 # The kinds of arguments that the completions know, by their variants, and those of the values of options.
 KINDS = {"File": "file", "NewFile": "file", "Paths": "files", "Folder": "folder", "OutFolder": "folder", "In": "folder",
          "Out": "folder", "Role": "role", "Group": "loan", "Transaction": "loan", "Words": "words", "NoteWords": "none",
@@ -110,12 +110,6 @@ def kinds_of():
     return {name: re.findall(r"Argument::(\w+)", code) for name, code in said.items()}
 
 
-def further_of(code):
-    """Returns the variants of the parts that some commands have besides, by the variant of the command."""
-    found = re.findall(r"((?:Name::\w+(?:\s*\| )?)+) => command\.arg\(Argument::(\w+)\.arg", code)
-    return {name: [kind] for names, kind in found for name in re.findall(r"Name::(\w+)", names)}
-
-
 def names_in(constant):
     """Returns the variants of the commands that a constant lists."""
     return re.findall(r"Name::(\w+),", find(rf"const {constant}: .*?\];", LINE)[0])
@@ -126,12 +120,12 @@ def commands():
     words, abouts = (named("Name", body(name, LINE)) for name in ("word", "about"))
     plain, shelved = parts()
     kinds, own = kinds_of(), named("Name", body("about_shelf", LINE))
-    beyond, further = (further_of(body(name, LINE)) for name in ("subcommand", "shelf_subcommand"))
+    further = dict(re.findall(r"Name::(\w+) => command\.arg\(Argument::(\w+)\.arg", body("shelf_subcommand", LINE)))
     of_shelves = re.findall(r"Name::(\w+)", body("is_of_shelves", LINE))
-    desk = [Command(words[name], abouts[name], [plain[kind] for kind in [*kinds[name], *beyond.get(name, [])]])
+    desk = [Command(words[name], abouts[name], [plain[kind] for kind in kinds[name]])
             for name in names_in("NAMES") if name not in of_shelves]
     shelf = [Command(words[name], own.get(name, abouts[name]),
-                     [shelved[kind] for kind in [*kinds[name], *further.get(name, [])]])
+                     [shelved[kind] for kind in [*kinds[name], further.get(name)] if kind])
              for name in names_in("SHELF_NAMES")]
     return desk, shelf
 

@@ -10,7 +10,7 @@ use Rattle.ill_list.proofs.finding.found_of.Goals as goal
 -- Proves the contract of `found_of` if no words are sought. By `all_found` all loans are found then.
 pub returns-in_ok-from_slice-in-None : goal.returns-in_ok-from_slice-in-None
 returns-in_ok-from_slice-in-None c =
-    let notes = lines_of c.args.sought.now.annex.now.notes in
+    let notes = lines_of c.args.notes.now in
     let sides = map (λ (side : Bor Side). side.now) c.args.sides.now in
     let found : Option (Bor (List ℕ)) → List Side = λ find.
     filter (is_found (option_map (λ words. words.now) find) notes) sides in

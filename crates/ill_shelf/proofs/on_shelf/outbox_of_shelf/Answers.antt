@@ -11,7 +11,7 @@ pub returns : goal.returns
 returns g c =
     let paths = map (λ path. string_bytes path) c.deref.result.now in
     let answer = c.visit_all-answer.result in
-    let to_folder = is_some c.args.outgoing in
+    let to_folder = is_some c.args.outlet in
     let ended = ap (λ writer. g.W.Write.contents writer) c.send_words_to.ensures.silent in
     let visited = subst (λ (end : Option (List ℕ)).
     VisitsAll to_folder (OutboxAtFile to_folder) paths (g.W.Write.contents c.args.machine.now.writer) end answer) (sym ended)

@@ -3,8 +3,9 @@ use Rattle.std.proofs.Common.{◌≡◌, Bool, Option, Some, None, refl, sym, su
 use Rattle.std.specs.Prelude.{is_some, option_map}
 use Rattle.ill_line.specs.declared.request.Request.{Request}
 use Rattle.ill_line.specs.Asked.{asked}
+use Rattle.ill_mail.specs.Keyed.{WithKey}
 use Rattle.ill_mail.specs.Nights.{OutboxAtFile}
-use Rattle.ill_tool.specs.Runs.{RunsShelf, UnlessKey}
+use Rattle.ill_tool.specs.Runs.{RunsShelf}
 use Rattle.ill_shelf.specs.Shelf.{TakesAtShelf, VisitsShelf}
 use Rattle.ill_commands.specs.Letters.{TakesWith}
 use Rattle.ill_commands.specs.Streams.{streams_of}
@@ -34,27 +35,27 @@ returns-in-Status g c =
     (g.W.Write.contents c.status_of_shelf.new.machine.writer) c.status_of_shelf.result)
     (sym c.in-Status.is) (refl, c.status_of_shelf.ensures)
 
--- Proves the contract of `run_on_shelf` for the request `Outbox`. It is the contract of `outbox_without`, which reads
+-- Proves the contract of `run_on_shelf` for the request `Outbox`. It is the contract of `outbox_of_shelf_with`, which reads
 -- no input.
 pub returns-in-Outbox : goal.returns-in-Outbox
 returns-in-Outbox g c =
     let left = g.R.Read.remaining c.args.reader.now in
     let before = g.W.Write.contents c.args.machine.now.writer in
-    let after = g.W.Write.contents c.outbox_without.new.machine.writer in
-    let result = c.outbox_without.result in
+    let after = g.W.Write.contents c.outbox_of_shelf_with.new.machine.writer in
+    let result = c.outbox_of_shelf_with.result in
     let key = option_map (λ text. text.now) c.in-Outbox.key in
-    let sent = subst (λ (has_folder : Bool). UnlessKey key (VisitsShelf has_folder (OutboxAtFile has_folder)) before after result)
-    (is_there (λ text. text.now) c.in-Outbox.folder) c.outbox_without.ensures in
+    let sent = subst (λ (has_folder : Bool). WithKey key (VisitsShelf has_folder (OutboxAtFile has_folder)) before after result)
+    (is_there (λ text. text.now) c.in-Outbox.folder) c.outbox_of_shelf_with.ensures in
     subst (λ (request : Request). RunsShelf (asked request) left left before after result) (sym c.in-Outbox.is) (refl, sent)
 
--- Proves the contract of `run_on_shelf` for the request `Exchange`. It is the contract of `exchange_without`, which
+-- Proves the contract of `run_on_shelf` for the request `Exchange`. It is the contract of `exchange_of_shelf_with`, which
 -- reads no input.
 pub returns-in-Exchange : goal.returns-in-Exchange
 returns-in-Exchange g c =
     let left = g.R.Read.remaining c.args.reader.now in
     subst (λ (request : Request). RunsShelf (asked request) left left (g.W.Write.contents c.args.machine.now.writer)
-    (g.W.Write.contents c.exchange_without.new.machine.writer) c.exchange_without.result)
-    (sym c.in-Exchange.is) (refl, c.exchange_without.ensures)
+    (g.W.Write.contents c.exchange_of_shelf_with.new.machine.writer) c.exchange_of_shelf_with.result)
+    (sym c.in-Exchange.is) (refl, c.exchange_of_shelf_with.ensures)
 
 -- Proves the contract of `run_on_shelf` for the request `Slip`. It is the contract of `slip_on_shelf`, which reads no
 -- input.

@@ -1,19 +1,18 @@
--- Answers the contract of `exchange_of_shelf` (`src/on_shelf.rt`).
-use Rattle.std.proofs.Common.{ℕ, List, Option, inr, map, true, ap, subst, sym, ◌∙◌}
+-- Answers the contract of `exchange_at_desks` (`src/on_shelf.rt`).
+use Rattle.std.proofs.Common.{ℕ, List, Option, inr, map, true, ap, subst, sym}
 use Rattle.std.specs.Prelude.{string_bytes}
 use Rattle.ill_mail.specs.Nights.{ExchangesAtFile}
 use Rattle.ill_shelf.specs.Shelf.{VisitsAll}
-use Rattle.ill_shelf.proofs.on_shelf.exchange_of_shelf.Goals as goal
+use Rattle.ill_shelf.proofs.on_shelf.exchange_at_desks.Goals as goal
 
--- Proves the contract of `exchange_of_shelf`. `visit_all` visits the desks, and `graver` combines its answer with that
+-- Proves the contract of `exchange_at_desks`. `visit_all` visits the desks, and `graver` combines its answer with that
 -- of `end_night`. All else writes nothing.
 pub returns : goal.returns
 returns g c =
     let paths = map (λ path. string_bytes path) c.deref.result.now in
     let dates = c.args.night.now.dates in
     let answer = c.visit_all-answer.result in
-    let quiet = ap (λ writer. g.W.Write.contents writer)
-    (c.in_ok-is_waiting.ensures.silent ∙ c.in_ok-look_at_places.ensures.silent) in
+    let quiet = ap (λ writer. g.W.Write.contents writer) c.in_ok-is_waiting.ensures.silent in
     let ended = ap (λ writer. g.W.Write.contents writer) c.end_night-further.ensures.silent in
     let told = g.W.Write.contents c.visit_all-answer.new.machine.writer in
     let on_dates = subst (λ dates.

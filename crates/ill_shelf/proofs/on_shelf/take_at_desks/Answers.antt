@@ -1,11 +1,11 @@
--- Answers the contract of `inbox_of_shelf` (`src/on_shelf.rt`).
+-- Answers the contract of `take_at_desks` (`src/on_shelf.rt`).
 use Rattle.std.proofs.Common.{ℕ, List, Option, inr, map, true, ap, subst}
 use Rattle.std.specs.Prelude.{string_bytes}
 use Rattle.ill_mail.specs.Nights.{InboxAtFile}
 use Rattle.ill_shelf.specs.Shelf.{VisitsAll}
-use Rattle.ill_shelf.proofs.on_shelf.inbox_of_shelf.Goals as goal
+use Rattle.ill_shelf.proofs.on_shelf.take_at_desks.Goals as goal
 
--- Proves the contract of `inbox_of_shelf`. `sort_mails` writes nothing, and `visit_all` visits the desks. `graver`
+-- Proves the contract of `take_at_desks`. `sort_mails` writes nothing, and `visit_all` visits the desks. `graver`
 -- combines its answer with that of `waiting`.
 pub returns : goal.returns
 returns g c =

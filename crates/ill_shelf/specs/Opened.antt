@@ -1,0 +1,14 @@
+-- The messages in letters that a shelf has opened (this profile's own).
+use Rattle.std.specs.Prelude.{ℕ, List, ◌++◌, take, codes}
+use Rattle.sha2.specs.Sha256.{sha256}
+use Rattle.hex.specs.Hex.{encode_lower}
+use Rattle.ill_night.specs.Outbox.{Letter}
+
+-- Returns the name of the mail of a message that came in a letter. It is of the digest of the message, so messages that
+-- differ have names that differ, and an equal message has the same name.
+abbrev pub message_name : List ℕ → List ℕ
+message_name message = codes "message-" ++ take 32 (encode_lower (sha256 message))
+
+-- Returns the mail of a message that came in a letter. It has exactly the bytes of the message.
+abbrev pub message_mail : List ℕ → Letter
+message_mail message = record { name = message_name message; bytes = message }

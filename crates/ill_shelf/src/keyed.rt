@@ -1,0 +1,148 @@
+//! The commands on the mails of a shelf, with a key or without one. With a key all messages come and go in sealed letters.
+
+ghost use Rattle.std.specs.Prelude.{true, Some, is_some, option_map};
+ghost use Rattle.ill_mail.specs.Keyed.{WithKey};
+ghost use Rattle.ill_mail.specs.Nights.{ExchangesAtFile, InboxAtFile, OutboxAtFile};
+ghost use Rattle.ill_shelf.specs.Shelf.{OpensShelf, VisitsShelf, VisitsWith};
+
+use crate::on_shelf::{
+    Way, exchange_at_desks, exchange_of_shelf, inbox_of_shelf, look_at_shelf, outbox_of_shelf,
+    take_at_desks,
+};
+use crate::opened::{Unpacking, open_letters, opened_answer, opened_folder};
+use ill_files::machine::Machine;
+use ill_files::shelf::Shelf;
+use ill_key::key_file::read_key;
+use ill_mail::exchange::Outlet;
+use ill_mail::mail::Incoming;
+use ill_night::night::Night;
+use ill_saved::LockFiles;
+use ill_text::diary::Stamp;
+use ill_text::fault::{ToolFault, graver};
+use std::io::Write;
+
+/// `ill shelf inbox`: takes the mails of a folder, or the letters in it alone if there is a file of a key.
+pub fn inbox_of_shelf_with<T: LockFiles, W: Write, E: Write>(
+    machine: &mut Machine<'_, T, W, E>,
+    folder: &str,
+    key_file: Option<&str>,
+    incoming: &Incoming<'_, '_, '_>,
+) -> Result<bool, ToolFault>
+    ensures { VisitsWith (option_map (λ file. file.now) key_file.entry) true InboxAtFile (W.contents machine.old.writer)
+        (W.contents machine.new.writer) result }
+{
+    match key_file {
+        Some(key_file) => inbox_sealed(machine, folder, key_file, incoming),
+        None => inbox_of_shelf(machine, folder, *incoming),
+    }
+}
+
+/// `ill shelf inbox --key`: opens the letters of a folder, and takes the messages in them.
+#[tactic(auto, using(crate::proofs::ShelfLemmas::not_opened, crate::proofs::ShelfLemmas::no_key))]
+fn inbox_sealed<T: LockFiles, W: Write, E: Write>(
+    machine: &mut Machine<'_, T, W, E>,
+    folder: &str,
+    key_file: &str,
+    incoming: &Incoming<'_, '_, '_>,
+) -> Result<bool, ToolFault>
+    ensures { OpensShelf true InboxAtFile (W.contents machine.old.writer) (W.contents machine.new.writer) result }
+{
+    let key = read_key(machine.rt, key_file)?;
+    let shelf = Shelf::open(machine.rt, machine.alloc, folder)?;
+    let messages = opened_folder(machine.rt, machine.alloc, &shelf)?;
+    let unpacking = Unpacking {
+        folder: incoming.folder,
+        key: &key,
+        opened: messages.as_str(),
+    };
+    let opened = open_letters(machine, &shelf, unpacking)?;
+    let mails = mails_in(messages.as_str(), incoming.stamp);
+    let done = take_at_desks(machine, &shelf, mails, true);
+    graver(done, opened_answer(opened))
+}
+
+/// Returns the mails of `folder`, with the stamp of the lines of the diary.
+fn mails_in<'a, 'b, 'c>(folder: &'a str, stamp: &'b Option<Stamp<'c>>) -> Incoming<'a, 'b, 'c> {
+    Incoming {
+        folder,
+        is_sorted: true,
+        stamp,
+        key: None,
+    }
+}
+
+/// `ill shelf outbox`: puts the messages of the loans that want sending into a folder, in letters if there is a file of a
+/// key. Without a folder it writes them one after another.
+pub fn outbox_of_shelf_with<T: LockFiles, W: Write, E: Write>(
+    machine: &mut Machine<'_, T, W, E>,
+    folder: &str,
+    key_file: Option<&str>,
+    outgoing: Option<&str>,
+) -> Result<bool, ToolFault>
+    ensures { WithKey (option_map (λ file. file.now) key_file.entry)
+        (VisitsShelf (is_some outgoing.entry) (OutboxAtFile (is_some outgoing.entry))) (W.contents machine.old.writer)
+        (W.contents machine.new.writer) result }
+{
+    match (outgoing, key_file) {
+        (Some(out), Some(key_file)) => outbox_sealed(machine, folder, key_file, out),
+        (Some(out), None) => outbox_of_shelf(machine, folder, Some(Outlet::plain(out))),
+        (None, None) => outbox_of_shelf(machine, folder, None),
+        (None, Some(_)) => outbox_of_shelf(machine, folder, None),
+    }
+}
+
+/// `ill shelf outbox --key`: puts the messages of the loans that want sending into the folder `out`, in letters.
+fn outbox_sealed<T: LockFiles, W: Write, E: Write>(
+    machine: &mut Machine<'_, T, W, E>,
+    folder: &str,
+    key_file: &str,
+    out: &str,
+) -> Result<bool, ToolFault>
+    ensures { WithKey (Some key_file.now) (VisitsShelf true (OutboxAtFile true)) (W.contents machine.old.writer)
+        (W.contents machine.new.writer) result }
+{
+    let key = read_key(machine.rt, key_file)?;
+    outbox_of_shelf(machine, folder, Some(Outlet::sealed(out, &key)))
+}
+
+/// `ill shelf exchange`: performs the nights of the desks. If there is a file of a key, all messages come and go in
+/// letters.
+pub fn exchange_of_shelf_with<T: LockFiles, W: Write, E: Write>(
+    machine: &mut Machine<'_, T, W, E>,
+    folder: &str,
+    key_file: Option<&str>,
+    night: &Night<'_>,
+) -> Result<bool, ToolFault>
+    ensures { VisitsWith (option_map (λ file. file.now) key_file.entry) true (ExchangesAtFile night.now.dates)
+        (W.contents machine.old.writer) (W.contents machine.new.writer) result }
+{
+    match key_file {
+        Some(key_file) => exchange_sealed(machine, folder, key_file, night),
+        None => exchange_of_shelf(machine, folder, night),
+    }
+}
+
+/// `ill shelf exchange --key`: performs the nights of the desks, whose messages come and go in letters.
+#[tactic(auto, using(crate::proofs::ShelfLemmas::not_opened, crate::proofs::ShelfLemmas::no_key))]
+fn exchange_sealed<T: LockFiles, W: Write, E: Write>(
+    machine: &mut Machine<'_, T, W, E>,
+    folder: &str,
+    key_file: &str,
+    night: &Night<'_>,
+) -> Result<bool, ToolFault>
+    ensures { OpensShelf true (ExchangesAtFile night.now.dates) (W.contents machine.old.writer) (W.contents machine.new.writer)
+        result }
+{
+    let key = read_key(machine.rt, key_file)?;
+    let shelf = look_at_shelf(machine, folder, night)?;
+    let messages = opened_folder(machine.rt, machine.alloc, &shelf)?;
+    let unpacking = Unpacking {
+        folder: night.incoming,
+        key: &key,
+        opened: messages.as_str(),
+    };
+    let opened = open_letters(machine, &shelf, unpacking)?;
+    let way = Way::sealed(messages.as_str(), &key);
+    let done = exchange_at_desks(machine, &shelf, night, way);
+    graver(done, opened_answer(opened))
+}

@@ -1,17 +1,15 @@
 -- Proves what holds of a request that asks for something.
-use Rattle.std.proofs.Common.{◌≡◌, ◌∙◌, ◌≤◌, ◌⊎◌, inl, inr, ⊎_elim, ℕ, Bool, true, false, List, length, Option, Some, None}
+use Rattle.std.proofs.Common.{◌≡◌, ◌∙◌, ◌≤◌, ◌⊎◌, inl, inr, ⊎_elim, ℕ, Bool, true, false, List, length}
 use Rattle.std.proofs.Common.{Result, Ok, Err, refl, sym, subst, arith, rules}
 use Rattle.std.specs.Prelude.{◌==◌, not, nat_lt, if◌then◌else◌, bytes_eq, codes}
 use Rattle.std.proofs.lemmas.Bool.Decides.{nat_tests}
 use Rattle.std.proofs.lemmas.Slice.Eq.{bytes_eq-Decides}
 use Rattle.ill_browser.specs.declared.fault.VisitFault.{VisitFault}
 use Rattle.ill_browser.specs.declared.fault.VisitFault.TheVariants as refusals
-use Rattle.ill_browser.specs.Fields.{are_named, fields_in, words_in, only_named}
+use Rattle.ill_browser.specs.Fields.{fields_in}
 use Rattle.ill_browser.specs.Visit.{RulesShown, VisitShown, body_size, decimal_value, form_size, has_user, is_form, is_look}
 use Rattle.ill_browser.specs.Visit.{is_numeral, is_own, is_post, is_root, size_said}
-use Rattle.ill_browser.specs.Wanted.{Asked, LoanAsked, Act, Loan, Desks, ◌>>=◌, act_named, acted_of, asked_by, asked_with}
-use Rattle.ill_browser.specs.Wanted.{form_names, loan_named, looked_of, or_fields, page_names, wanted_of}
-use Rattle.ill_browser.specs.OwnForm.{IsOwnForm}
+use Rattle.ill_browser.specs.Wanted.{Asked, asked_by, asked_with, looked_of, posted_of, wanted_of}
 
 -- ---- choices
 
@@ -120,17 +118,35 @@ pub record AsksByForm (rules : RulesShown) (v : VisitShown) (body : List ℕ) (a
   pub form : is_form v ≡ true
   pub few : length body ≤ 4096
   pub no_query : (length v.query == 0) ≡ true
-  pub named : are_named form_names (fields_in body) ≡ true
-  pub acts : or_fields (act_named (fields_in body)) ≡ Ok asked
+  pub posts : posted_of (fields_in body) ≡ Ok asked
 
--- What the fields of a form ask for, they ask for as an act.
-by_form : (look : Bool) (looked acted : Result Asked VisitFault) (no_query : Bool) (asked : Asked) → look ≡ false
-    → (if look then looked else if no_query then acted else Err refusals.Fields) ≡ Ok asked
-    → (no_query ≡ true) × (acted ≡ Ok asked)
-by_form false looked acted no_query asked not_look e = passed_if no_query refusals.Fields acted asked e
-by_form true looked acted no_query asked not_look e = search rules
+-- What the fields of a form ask for, they ask for without a query.
+by_form_if : (look : Bool) (looked posted : Result Asked VisitFault) (no_query : Bool) (asked : Asked) → look ≡ false
+    → (if look then looked else if no_query then posted else Err refusals.Fields) ≡ Ok asked
+    → (no_query ≡ true) × (posted ≡ Ok asked)
+by_form_if false looked posted no_query asked not_look e = passed_if no_query refusals.Fields posted asked e
+by_form_if true looked posted no_query asked not_look e = search rules
 
--- A form that asks for something is fit, has no query, and its fields name an act.
+-- The same, of a request.
+by_form : (v : VisitShown) (body : List ℕ) (asked : Asked) → is_look v ≡ false → asked_by v body ≡ Ok asked
+    → ((length v.query == 0) ≡ true) × (posted_of (fields_in body) ≡ Ok asked)
+unfolding asked_by
+by_form v body asked not_look e =
+    by_form_if (is_look v) (looked_of (fields_in v.query)) (posted_of (fields_in body)) (length v.query == 0) asked not_look e
+
+-- What a request of a page asks for, its query asks for.
+by_query_if : (look : Bool) (looked other : Result Asked VisitFault) (asked : Asked) → look ≡ true
+    → (if look then looked else other) ≡ Ok asked → looked ≡ Ok asked
+by_query_if true looked other asked look e = e
+by_query_if false looked other asked look e = search rules
+
+-- The same, of a request.
+by_query : (v : VisitShown) (body : List ℕ) (asked : Asked) → is_look v ≡ true → asked_by v body ≡ Ok asked
+    → looked_of (fields_in v.query) ≡ Ok asked
+unfolding asked_by
+by_query v body asked look e = by_query_if (is_look v) (looked_of (fields_in v.query)) _ asked look e
+
+-- A form that asks for something is fit, has no query, and its fields ask for it.
 pub asks_by_form : (rules : RulesShown) (v : VisitShown) (body : List ℕ) (asked : Asked) → is_post v ≡ true
     → wanted_of rules v body ≡ Ok asked → AsksByForm rules v body asked
 asks_by_form rules v body asked post e =
@@ -139,10 +155,7 @@ asks_by_form rules v body asked post e =
     let root = passed_unless (is_root v.path) refusals.NoPage _ whole.size whole.sized in
     let fit = form_is_fit rules v whole.size
     (at_post (is_look v) (is_post v) (form_size rules v) whole.size not_look post root.1) in
-    let acted = by_form (is_look v) (looked_of (fields_in v.query)) (acted_of (fields_in body)) (length v.query == 0) asked
-    not_look whole.by in
-    let named = passed_if (are_named form_names (fields_in body)) refusals.Fields (or_fields (act_named (fields_in body)))
-    asked acted.1 in
+    let posted = by_form v body asked not_look whole.by in
     let few : length body ≤ 4096 = subst (λ size. size ≤ 4096) (sym whole.full) fit.few in
     record {
       root = root.0;
@@ -150,9 +163,8 @@ asks_by_form rules v body asked post e =
       user = fit.user;
       form = fit.form;
       few = few;
-      no_query = acted.0;
-      named = named.0;
-      acts = named.1;
+      no_query = posted.0;
+      posts = posted.1;
     }
 
 -- The body of a request that asks for something has at most 4,096 bytes.
@@ -166,65 +178,16 @@ asks_few rules v body asked e =
     (λ post. subst (λ size. size ≤ 4096) (sym whole.full) (form_is_fit rules v whole.size post.1.1).few)
     (at_look (is_look v) (is_post v) (form_size rules v) whole.size root.1)
 
--- ---- acts
-
--- The page that a query names is no act.
-page_is_no_act : (named : Option LoanAsked) (loan : LoanAsked) (stamp : List ℕ) (words : List (List ℕ))
-    → or_fields (named >>= λ loan. Some (Loan loan)) ≡ Ok (Act loan stamp words) → ⊥
-page_is_no_act (Some named) loan stamp words e = search rules
-page_is_no_act None loan stamp words e = search rules
-
--- A look asks for no act.
-looked_is_no_act : (none fits : Bool) (named : Option LoanAsked) (loan : LoanAsked) (stamp : List ℕ) (words : List (List ℕ))
-    → (if none then Ok Desks else if fits then or_fields (named >>= λ loan. Some (Loan loan)) else Err refusals.Fields)
-    ≡ Ok (Act loan stamp words) → ⊥
-looked_is_no_act true fits named loan stamp words e = search rules
-looked_is_no_act false true named loan stamp words e = page_is_no_act named loan stamp words e
-looked_is_no_act false false named loan stamp words e = search rules
-
--- A request that looks at a page asks for no act.
-pub look_is_no_act : (rules : RulesShown) (v : VisitShown) (body : List ℕ) (loan : LoanAsked) (stamp : List ℕ)
-    (words : List (List ℕ)) → is_look v ≡ true → wanted_of rules v body ≡ Ok (Act loan stamp words) → ⊥
-look_is_no_act rules v body loan stamp words look e =
-    let whole = asks_whole rules v body (Act loan stamp words) e in
-    let fields = fields_in v.query in
-    let looked : looked_of fields ≡ Ok (Act loan stamp words) = rw look at whole.by in
-    looked_is_no_act (length fields == 0) (are_named page_names fields) (loan_named fields) loan stamp words looked
-
--- An act that fields name has their words.
-act_has_words : (named : Option LoanAsked) (stamped : Option (List ℕ)) (said : List (List ℕ)) (loan : LoanAsked)
-    (stamp : List ℕ) (words : List (List ℕ))
-    → or_fields (named >>= λ loan. stamped >>= λ stamp. Some (Act loan stamp said)) ≡ Ok (Act loan stamp words)
-    → words ≡ said
-act_has_words (Some named) (Some stamped) said loan stamp words e = search rules
-act_has_words (Some named) None said loan stamp words e = search rules
-act_has_words None stamped said loan stamp words e = search rules
+-- What a request that looks at a page asks for, its query asks for.
+pub asks_by_query : (rules : RulesShown) (v : VisitShown) (body : List ℕ) (asked : Asked) → is_look v ≡ true
+    → wanted_of rules v body ≡ Ok asked → looked_of (fields_in v.query) ≡ Ok asked
+asks_by_query rules v body asked look e = by_query v body asked look (asks_whole rules v body asked e).by
 
 -- Each method that asks for something is GET or POST.
-look_or_post : (rules : RulesShown) (v : VisitShown) (size : ℕ) → body_size rules v ≡ Ok size
+pub look_or_post : (rules : RulesShown) (v : VisitShown) (body : List ℕ) (asked : Asked) → wanted_of rules v body ≡ Ok asked
     → (is_look v ≡ true) ⊎ (is_post v ≡ true)
-look_or_post rules v size e =
-    let root = passed_unless (is_root v.path) refusals.NoPage _ size e in
+look_or_post rules v body asked e =
+    let whole = asks_whole rules v body asked e in
+    let root = passed_unless (is_root v.path) refusals.NoPage _ whole.size whole.sized in
     ⊎_elim (λ look. inl look.0) (λ post. inr post.1.0)
-    (at_look (is_look v) (is_post v) (form_size rules v) size root.1)
-
--- An act is asked for by a form of a page of this program.
-pub act_is_of_own_form : (rules : RulesShown) (v : VisitShown) (body : List ℕ) (loan : LoanAsked) (stamp : List ℕ)
-    (words : List (List ℕ)) → wanted_of rules v body ≡ Ok (Act loan stamp words) → IsOwnForm rules v body words
-act_is_of_own_form rules v body loan stamp words e =
-    let whole = asks_whole rules v body (Act loan stamp words) e in
-    let fields = fields_in body in
-    let of_form : is_post v ≡ true → IsOwnForm rules v body words = λ post.
-    let asks = asks_by_form rules v body (Act loan stamp words) post e in
-    record {
-      root = asks.root;
-      post = post;
-      own = asks.own;
-      user = asks.user;
-      form = asks.form;
-      few = asks.few;
-      words_are = act_has_words (loan_named fields) (only_named (codes "stamp") fields) (words_in fields) loan stamp words
-          asks.acts;
-    } in
-    ⊎_elim (λ look. absurd (look_is_no_act rules v body loan stamp words look e)) of_form
-    (look_or_post rules v whole.size whole.sized)
+    (at_look (is_look v) (is_post v) (form_size rules v) whole.size root.1)

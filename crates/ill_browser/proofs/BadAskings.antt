@@ -1,25 +1,26 @@
 -- The meaning of a request excludes the wrong readings.
-use Rattle.std.proofs.Common.{◌≡◌, ◌<◌, ◌≤◌, ℕ, Bool, true, false, List, [], ◌∷◌, length, Option, Some, None, Result, Ok, refl}
+use Rattle.std.proofs.Common.{◌≡◌, ◌<◌, ◌≤◌, ℕ, Bool, true, false, List, [], ◌∷◌, length, Result, Ok, refl}
 use Rattle.std.proofs.Common.{sym, subst, arith, rules}
 use Rattle.std.specs.Prelude.{◌==◌, ◌&&◌, ◌||◌, not, if◌then◌else◌, bytes_eq, codes}
-use Rattle.std.proofs.lemmas.Bool.{cond-false, ne_eqb}
 use Rattle.std.proofs.lemmas.Bool.Decides.{nat_tests}
 use Rattle.std.proofs.lemmas.Slice.Eq.{bytes_eq-Decides}
 use Rattle.ill_browser.specs.declared.fault.VisitFault.{VisitFault}
-use Rattle.ill_browser.specs.BadAsking.{IsOnce, MisreadsVisit, look_acts, foreign_site_asks, foreign_origin_asks, silence_asks}
-use Rattle.ill_browser.specs.BadAsking.{nobody_asks, long_body_asks, doubled_field_asks, stray_field_asks, query_asks}
-use Rattle.ill_browser.specs.BadAsking as names
-use Rattle.ill_browser.specs.Fields.{Pair, count_named, fields_in, first_named, only_named, words_in}
-use Rattle.ill_browser.specs.Visit.{RulesShown, VisitShown}
-use Rattle.ill_browser.specs.Wanted.{Act, Asked, LoanAsked, ◌>>=◌, act_named, loan_named, or_fields, wanted_of}
-use Rattle.ill_values.specs.TxnId.{txn_id_of}
-use Rattle.std.specs.Result.{result_ok}
-use Rattle.ill_browser.proofs.AskingLemmas.{asks_by_form, asks_few, look_is_no_act}
-
--- No Bool is both.
-not_both : (b : Bool) → b ≡ true → b ≡ false → ⊥
-not_both true is is_not = search rules
-not_both false is is_not = search rules
+use Rattle.ill_browser.specs.BadAsking.{MisreadsVisit, look_changes, form_shows, foreign_site_asks, foreign_origin_asks}
+use Rattle.ill_browser.specs.BadAsking.{silence_asks, nobody_asks, long_body_asks, doubled_field_asks, stray_field_asks}
+use Rattle.ill_browser.specs.BadAsking.{note_beside_act_asks, query_asks, other_note_is_kept, doubled_query_asks}
+use Rattle.ill_browser.specs.BadAsking.{stray_query_asks, words_beside_another_ask, figures_of_a_desk_ask}
+use Rattle.ill_browser.specs.BadAsking.{other_words_are_found, other_page_asks, page_is_passed_over, slip_of_no_page}
+use Rattle.ill_browser.specs.BadAsking.{figures_from_another_day, figures_to_another_day}
+use Rattle.ill_browser.specs.Fields.{fields_in}
+use Rattle.ill_browser.specs.Visit.{RulesShown, VisitShown, is_look}
+use Rattle.ill_browser.specs.Wanted.{Asked, Desks, Loan, Slip, Figures, Note, wanted_of}
+use Rattle.ill_browser.proofs.AskingLemmas.{asks_by_form, asks_by_query, asks_few}
+use Rattle.ill_browser.proofs.ChangeLemmas.{asks_posts, both_post_nothing, doubled_posts_nothing, look_changes_nothing}
+use Rattle.ill_browser.proofs.ChangeLemmas.{note_has_text, posts_change, stray_posts_nothing}
+use Rattle.ill_browser.proofs.LookLemmas.{LooksAt, doubled_looks_at_nothing, figures_have_days, figures_have_no_desk}
+use Rattle.ill_browser.proofs.LookLemmas.{finds_these, loan_has_no_page, looks_at, page_is_slip, slip_has_page}
+use Rattle.ill_browser.proofs.LookLemmas.{stray_looks_at_nothing, words_stand_alone}
+use Rattle.ill_browser.proofs.NamingLemmas.{not_both}
 
 -- A text that is another site is not this one.
 cross_site : (site : List ℕ) (origin : Bool) → bytes_eq site (codes "cross-site") ≡ true
@@ -43,10 +44,6 @@ no_origin [] origin none = refl
 no_origin (first ∷ more) [] none = other_origin _ _ refl
 no_origin (first ∷ more) (byte ∷ bytes) none = search rules
 
--- A count above 1 gives no value.
-twice_none : {X : Type 0} (count : ℕ) (value : Option X) → 1 < count → (if count == 1 then value else None) ≡ None
-twice_none count value more = cond-false _ _ _ (ne_eqb count 1 (omega (arith, more)))
-
 -- Without a user a form has none, unless the operator wants none.
 no_user : (is_open : Bool) (user : ℕ) → is_open ≡ false → user ≡ 0 → (is_open || not (user == 0)) ≡ false
 no_user is_open user closed nobody = simp (closed, nobody) refl
@@ -59,69 +56,22 @@ too_long size long few = omega (arith, long, few)
 no_rest : (size : ℕ) → 0 < size → (size == 0) ≡ true → ⊥
 no_rest size some none = grind (arith, nat_tests, some, none)
 
--- A name that two fields have has no only value.
-doubled_is_none : (name : List ℕ) (fields : List Pair) → 1 < count_named name fields → only_named name fields ≡ None
-doubled_is_none name fields more = twice_none (count_named name fields) (first_named name fields) more
+-- A count that is above 0 is not 0.
+not_none : (count : ℕ) → count ≡ 0 → 0 < count → ⊥
+not_none count none some = omega (arith, none, some)
 
--- Returns what fields ask for with these values of the desk, the group, the transaction and the stamp.
-abbrev act_from : (desk group transaction stamp : Option (List ℕ)) → List Pair → Result Asked VisitFault
-act_from desk group transaction stamp fields =
-    or_fields ((desk >>= λ desk. group >>= λ group. transaction >>= λ transaction.
-    result_ok (txn_id_of group transaction) >>= λ txn. Some (record { desk = desk; txn = txn }))
-    >>= λ loan. stamp >>= λ stamp. Some (Act loan stamp (words_in fields)))
-
--- Without one of these values fields ask for nothing.
-no_desk : (group transaction stamp : Option (List ℕ)) (fields : List Pair) (asked : Asked)
-    → act_from None group transaction stamp fields ≡ Ok asked → ⊥
-no_desk group transaction stamp fields asked e = search rules
-
-no_group : (desk transaction stamp : Option (List ℕ)) (fields : List Pair) (asked : Asked)
-    → act_from desk None transaction stamp fields ≡ Ok asked → ⊥
-no_group None transaction stamp fields asked e = search rules
-no_group (Some desk) transaction stamp fields asked e = search rules
-
-no_transaction : (desk group stamp : Option (List ℕ)) (fields : List Pair) (asked : Asked)
-    → act_from desk group None stamp fields ≡ Ok asked → ⊥
-no_transaction None group stamp fields asked e = search rules
-no_transaction (Some desk) None stamp fields asked e = search rules
-no_transaction (Some desk) (Some group) stamp fields asked e = search rules
-
-no_stamp : (loan : Option LoanAsked) (fields : List Pair) (asked : Asked)
-    → or_fields (loan >>= λ loan. None >>= λ stamp. Some (Act loan stamp (words_in fields))) ≡ Ok asked → ⊥
-no_stamp None fields asked e = search rules
-no_stamp (Some loan) fields asked e = search rules
-
--- Fields that give one of these names twice ask for nothing.
-doubled_asks_nothing : (name : List ℕ) (fields : List Pair) (asked : Asked) → IsOnce name → only_named name fields ≡ None
-    → or_fields (act_named fields) ≡ Ok asked → ⊥
-doubled_asks_nothing _ fields asked names.desk none e =
-    let group = only_named (codes "group") fields in
-    let transaction = only_named (codes "transaction") fields in
-    let stamp = only_named (codes "stamp") fields in
-    no_desk group transaction stamp fields asked
-    (subst (λ desk. act_from desk group transaction stamp fields ≡ Ok asked) none e)
-doubled_asks_nothing _ fields asked names.group none e =
-    let desk = only_named (codes "desk") fields in
-    let transaction = only_named (codes "transaction") fields in
-    let stamp = only_named (codes "stamp") fields in
-    no_group desk transaction stamp fields asked
-    (subst (λ group. act_from desk group transaction stamp fields ≡ Ok asked) none e)
-doubled_asks_nothing _ fields asked names.transaction none e =
-    let desk = only_named (codes "desk") fields in
-    let group = only_named (codes "group") fields in
-    let stamp = only_named (codes "stamp") fields in
-    no_transaction desk group stamp fields asked
-    (subst (λ transaction. act_from desk group transaction stamp fields ≡ Ok asked) none e)
-doubled_asks_nothing _ fields asked names.stamp none e =
-    no_stamp (loan_named fields) fields asked
-    (subst (λ stamp. or_fields (loan_named fields >>= λ loan. stamp >>= λ stamp. Some (Act loan stamp (words_in fields)))
-    ≡ Ok asked)
-    none e)
+-- What a query that asks for something looks at.
+looks : (rules : RulesShown) (v : VisitShown) (body : List ℕ) (asked : Asked) → is_look v ≡ true
+    → Ok asked ≡ wanted_of rules v body → LooksAt (fields_in v.query) asked
+looks rules v body asked look e =
+    looks_at (fields_in v.query) asked (asks_by_query rules v body asked look (sym e))
 
 -- What is asked for is no wrong reading.
 is_no_misreading : (rules : RulesShown) (v : VisitShown) (body : List ℕ) (result : Result Asked VisitFault)
     → MisreadsVisit rules v body result → result ≡ wanted_of rules v body → ⊥
-is_no_misreading r v body _ (look_acts loan stamp words look) e = look_is_no_act r v body loan stamp words look (sym e)
+is_no_misreading r v body _ (look_changes asked change look) e = look_changes_nothing r v body asked look (sym e) change
+is_no_misreading r v body _ (form_shows asked shows post) e =
+    not_both _ (posts_change (fields_in body) asked (asks_posts r v body asked post (sym e))) shows
 is_no_misreading r v body _ (foreign_site_asks asked post cross) e =
     let asks = asks_by_form r v body asked post (sym e) in
     not_both _ asks.own (cross_site v.site _ cross)
@@ -138,12 +88,35 @@ is_no_misreading r v body _ (long_body_asks asked long) e =
     let few = asks_few r v body asked (sym e) in
     too_long (length body) long few
 is_no_misreading r v body _ (doubled_field_asks asked name post once more) e =
-    let asks = asks_by_form r v body asked post (sym e) in
-    doubled_asks_nothing name (fields_in body) asked once (doubled_is_none name (fields_in body) more) asks.acts
-is_no_misreading r v body _ (stray_field_asks asked post stray) e =
-    let asks = asks_by_form r v body asked post (sym e) in not_both _ asks.named stray
+    doubled_posts_nothing (fields_in body) asked name (asks_posts r v body asked post (sym e)) once more
+is_no_misreading r v body _ (stray_field_asks asked post stray other) e =
+    stray_posts_nothing (fields_in body) asked (asks_posts r v body asked post (sym e)) stray other
+is_no_misreading r v body _ (note_beside_act_asks asked name post noted acts some) e =
+    both_post_nothing (fields_in body) asked name (asks_posts r v body asked post (sym e)) noted acts some
+is_no_misreading r v body _ (other_note_is_kept loan note post other) e =
+    other (note_has_text (fields_in body) loan note (asks_posts r v body (Note loan note) post (sym e)))
 is_no_misreading r v body _ (query_asks asked post query) e =
     let asks = asks_by_form r v body asked post (sym e) in no_rest (length v.query) query asks.no_query
+is_no_misreading r v body _ (doubled_query_asks asked name look more) e =
+    doubled_looks_at_nothing (fields_in v.query) asked name (looks r v body asked look e) more
+is_no_misreading r v body _ (stray_query_asks asked name look some stray) e =
+    stray_looks_at_nothing (fields_in v.query) asked name (looks r v body asked look e) some stray
+is_no_misreading r v body _ (words_beside_another_ask asked name look words other apart) e =
+    words_stand_alone (fields_in v.query) asked name (looks r v body asked look e) words other apart
+is_no_misreading r v body _ (figures_of_a_desk_ask asked look day desk) e =
+    figures_have_no_desk (fields_in v.query) asked (looks r v body asked look e) day desk
+is_no_misreading r v body _ (other_words_are_found find words look here other) e =
+    other (finds_these (fields_in v.query) find words (looks r v body (Desks find) look e) here)
+is_no_misreading r v body _ (other_page_asks asked page look here other) e =
+    not_both _ (page_is_slip (fields_in v.query) asked page (looks r v body asked look e) here) other
+is_no_misreading r v body _ (page_is_passed_over loan look page) e =
+    loan_has_no_page (fields_in v.query) loan (looks r v body (Loan loan) look e) page
+is_no_misreading r v body _ (slip_of_no_page loan look none) e =
+    not_none _ none (slip_has_page (fields_in v.query) loan (looks r v body (Slip loan) look e))
+is_no_misreading r v body _ (figures_from_another_day from to look other) e =
+    other (figures_have_days (fields_in v.query) from to (looks r v body (Figures from to) look e)).0
+is_no_misreading r v body _ (figures_to_another_day from to look other) e =
+    other (figures_have_days (fields_in v.query) from to (looks r v body (Figures from to) look e)).1
 
 -- What a request asks for is no wrong reading.
 pub not_misread : (rules : RulesShown) (v : VisitShown) (body : List ℕ) → MisreadsVisit rules v body (wanted_of rules v body) → ⊥

@@ -53,13 +53,13 @@ abbrev pub is_dashed : List ℕ → Bool
 is_dashed text =
     length text == 10 && bytes_eq (take 1 (drop 4 text)) (codes "-") && bytes_eq (take 1 (drop 7 text)) (codes "-")
 
--- Returns the word of a day, as `20250315` of `2025-03-15`. No text at all is `none`. A text of another shape is the
--- word itself.
+-- Returns the digits of a day, as `20250315` of `2025-03-15`. A text of another shape is returned as it is.
+abbrev pub day_digits : List ℕ → List ℕ
+day_digits text = if is_dashed text then take 4 text ++ take 2 (drop 5 text) ++ drop 8 text else text
+
+-- Returns the word of a day: its digits. No text at all is `none`.
 abbrev pub day_word : List ℕ → List ℕ
-day_word text =
-    if length text == 0 then codes "none"
-    else if is_dashed text then take 4 text ++ take 2 (drop 5 text) ++ drop 8 text
-    else text
+day_word text = if length text == 0 then codes "none" else day_digits text
 
 -- Returns the word in a field, if it has one.
 abbrev pub word_in : Pair → Option (List ℕ)

@@ -1,15 +1,16 @@
 -- What a browser asks for: the meaning of a request and its body.
-use Rattle.std.specs.Prelude.{◌≡◌, ◌⊎◌, ℕ, ◌<◌, ◌==◌, if◌then◌else◌, List, [], ◌∷◌, length, map, codes, Option, Some, None}
-use Rattle.std.specs.Prelude.{Result, Ok, Err}
+use Rattle.std.specs.Prelude.{◌≡◌, ◌⊎◌, ℕ, ◌<◌, Bool, true, false, ◌==◌, if◌then◌else◌, List, [], ◌∷◌, length, map, codes}
+use Rattle.std.specs.Prelude.{Option, Some, None, option_map, Result, Ok, Err, bytes_eq, string_bytes}
 use Rattle.std.specs.Result.{result_ok}
 use Rattle.std.specs.Io.KnownBytes.{Consumes}
+use Rattle.ill_values.specs.Day.{Date, read_date}
 use Rattle.ill_values.specs.TxnId.{Qualifiers, txn_id_of}
 use Rattle.ill_browser.specs.declared.fault.VisitFault.{VisitFault}
 use Rattle.ill_browser.specs.declared.fault.VisitFault.TheVariants.{Cut, Fields, OutOfMemory}
 use Rattle.ill_browser.specs.declared.wanted.Wanted.{Wanted}
 use Rattle.ill_browser.specs.declared.wanted.Wanted.TheVariants as wants
 use Rattle.ill_browser.specs.declared.wanted.LoanName.{LoanName}
-use Rattle.ill_browser.specs.Fields.{Pair, fields_in, only_named, are_named, words_in}
+use Rattle.ill_browser.specs.Fields.{Pair, fields_in, only_named, are_named, day_digits, words_in}
 use Rattle.ill_browser.specs.Visit.{RulesShown, VisitShown, body_size, is_look}
 
 -- A loan, and the text that names its desk.
@@ -17,11 +18,26 @@ pub record LoanAsked : Type 0 where
   pub desk : List ℕ
   pub txn : Qualifiers
 
--- What a browser asks for: the page of the desks, the page of a loan, or an act in a loan as its page was stamped.
+-- What a browser asks for.
 pub data Asked : Type 0 where
-  Desks : Asked
+  -- The page of the desks, with the loans that have these words, or with all loans.
+  Desks : (find : Option (List ℕ)) → Asked
+  -- The page of a loan.
   Loan : (loan : LoanAsked) → Asked
+  -- The slip of a loan.
+  Slip : (loan : LoanAsked) → Asked
+  -- The figures of the days from one to another.
+  Figures : (from to : Date) → Asked
+  -- An act in a loan as its page was stamped.
   Act : (loan : LoanAsked) → (stamp : List ℕ) → (words : List (List ℕ)) → Asked
+  -- A note on a loan.
+  Note : (loan : LoanAsked) → (note : List ℕ) → Asked
+
+-- Returns true if a request asks to change a desk, or what is kept beside it.
+abbrev pub is_change : Asked → Bool
+is_change (Act loan stamp words) = true
+is_change (Note loan note) = true
+is_change other = false
 
 -- Returns the loan that a `LoanName` of the code names.
 abbrev pub loan_asked : LoanName → LoanAsked
@@ -29,17 +45,36 @@ loan_asked loan = record { desk = loan.desk.items; txn = loan.txn }
 
 -- Returns what a `Wanted` of the code asks for.
 abbrev pub asked_of : Wanted → Asked
-asked_of wants.Desks = Desks
+asked_of (wants.Desks find) = Desks (option_map string_bytes find)
 asked_of (wants.Loan loan) = Loan (loan_asked loan)
+asked_of (wants.Slip loan) = Slip (loan_asked loan)
+asked_of (wants.Figures from to) = Figures from to
 asked_of (wants.Act loan stamp words) = Act (loan_asked loan) stamp.items (map (λ word. word.items) words.items)
+asked_of (wants.Note loan note) = Note (loan_asked loan) (string_bytes note)
 
--- The names of the fields in the query of a page.
-abbrev pub page_names : List (List ℕ)
-page_names = codes "desk" ∷ codes "group" ∷ codes "transaction" ∷ []
+-- The names of the fields in a query that finds loans.
+abbrev pub find_names : List (List ℕ)
+find_names = codes "find" ∷ []
 
--- The names of the fields in a form.
-abbrev pub form_names : List (List ℕ)
-form_names = codes "desk" ∷ codes "group" ∷ codes "transaction" ∷ codes "stamp" ∷ codes "word" ∷ codes "day" ∷ []
+-- The names of the fields in the query of a loan.
+abbrev pub loan_names : List (List ℕ)
+loan_names = codes "desk" ∷ codes "group" ∷ codes "transaction" ∷ []
+
+-- The names of the fields in the query of a slip.
+abbrev pub slip_names : List (List ℕ)
+slip_names = codes "desk" ∷ codes "group" ∷ codes "transaction" ∷ codes "page" ∷ []
+
+-- The names of the fields in the query of figures.
+abbrev pub figures_names : List (List ℕ)
+figures_names = codes "from" ∷ codes "to" ∷ []
+
+-- The names of the fields in the form of an act.
+abbrev pub act_names : List (List ℕ)
+act_names = codes "desk" ∷ codes "group" ∷ codes "transaction" ∷ codes "stamp" ∷ codes "word" ∷ codes "day" ∷ []
+
+-- The names of the fields in the form of a note.
+abbrev pub note_names : List (List ℕ)
+note_names = codes "desk" ∷ codes "group" ∷ codes "transaction" ∷ codes "note" ∷ []
 
 infixl 10 ◌>>=◌
 -- Returns `next` of a value, or None if there is no value.
@@ -63,33 +98,80 @@ act_named fields = do
   stamp ← only_named (codes "stamp") fields
   Some (Act loan stamp (words_in fields))
 
--- Returns the page that the fields of a query name.
+-- Returns the note that the fields of a form name.
+abbrev pub note_named : List Pair → Option Asked
+note_named fields = do
+  loan ← loan_named fields
+  note ← only_named (codes "note") fields
+  Some (Note loan note)
+
+-- Returns the page of a loan that the fields of a query name.
 abbrev pub page_named : List Pair → Option Asked
 page_named fields = do
   loan ← loan_named fields
   Some (Loan loan)
+
+-- Returns true if the page that a query names is the slip.
+abbrev pub is_slip : Option (List ℕ) → Bool
+is_slip (Some page) = bytes_eq page (codes "slip")
+is_slip None = false
+
+-- Returns the slip that the fields of a query name.
+abbrev pub slip_named : List Pair → Option Asked
+slip_named fields =
+    if is_slip (only_named (codes "page") fields) then (loan_named fields >>= λ loan. Some (Slip loan)) else None
+
+-- Returns the words to find that the fields of a query name.
+abbrev pub found_named : List Pair → Option Asked
+found_named fields = do
+  words ← only_named (codes "find") fields
+  Some (Desks (Some words))
+
+-- Returns the day in the only field with this name.
+abbrev pub day_named : List ℕ → List Pair → Option Date
+day_named name fields = do
+  text ← only_named name fields
+  result_ok (read_date (day_digits text))
+
+-- Returns the figures that the fields of a query name.
+abbrev pub figures_named : List Pair → Option Asked
+figures_named fields = do
+  from ← day_named (codes "from") fields
+  to ← day_named (codes "to") fields
+  Some (Figures from to)
 
 -- Returns what is asked for, or the refusal if nothing is.
 abbrev pub or_fields : Option Asked → Result Asked VisitFault
 or_fields (Some asked) = Ok asked
 or_fields None = Err Fields
 
+-- Returns the slip or the figures that a query asks for.
+abbrev pub looked_beside : List Pair → Result Asked VisitFault
+looked_beside fields =
+    if are_named slip_names fields then or_fields (slip_named fields)
+    else if are_named figures_names fields then or_fields (figures_named fields)
+    else Err Fields
+
 -- Returns the page that a query asks for: that of the desks, if it has no fields.
 abbrev pub looked_of : List Pair → Result Asked VisitFault
 looked_of fields =
-    if length fields == 0 then Ok Desks
-    else if are_named page_names fields then or_fields (page_named fields)
+    if length fields == 0 then Ok (Desks None)
+    else if are_named find_names fields then or_fields (found_named fields)
+    else if are_named loan_names fields then or_fields (page_named fields)
+    else looked_beside fields
+
+-- Returns the act or the note that the fields of a form ask for.
+abbrev pub posted_of : List Pair → Result Asked VisitFault
+posted_of fields =
+    if are_named act_names fields then or_fields (act_named fields)
+    else if are_named note_names fields then or_fields (note_named fields)
     else Err Fields
 
--- Returns the act that the fields of a form ask for.
-abbrev pub acted_of : List Pair → Result Asked VisitFault
-acted_of fields = if are_named form_names fields then or_fields (act_named fields) else Err Fields
-
 -- Returns what a request with this body asks for, by its fields alone.
-abbrev pub asked_by : VisitShown → (body : List ℕ) → Result Asked VisitFault
+unfoldable pub asked_by : VisitShown → (body : List ℕ) → Result Asked VisitFault
 asked_by v body =
     if is_look v then looked_of (fields_in v.query)
-    else if length v.query == 0 then acted_of (fields_in body)
+    else if length v.query == 0 then posted_of (fields_in body)
     else Err Fields
 
 -- Returns what a request with this body asks for, if it is to have `size` bytes or is refused.

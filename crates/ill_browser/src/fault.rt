@@ -33,7 +33,8 @@ pub enum VisitFault {
     /// The body broke off, or could not be read.
     #[error("cut")]
     Cut,
-    /// The fields name no loan, or no act. Or a name is there twice, or is none of a field, or a form has a query.
+    /// The fields name no loan, no act, no day or no page. Or a name is there twice, or is none of a field, or a form has
+    /// a query.
     #[error("fields")]
     Fields,
     /// Memory ran out.

@@ -2,7 +2,7 @@
 
 ghost use Rattle.std.specs.Prelude.{◌≡◌, ◌++◌, drop, length, take, map, option_map, option_copied, find, bytes_eq, string_bytes, IfOk};
 ghost use Rattle.std.specs.List.{list_any};
-ghost use Rattle.ill_browser.specs.Fields.{are_named, count_named, day_word, field_shown, fields_in, first_named, is_dashed, is_named, only_named, text_of, word_in, words_in};
+ghost use Rattle.ill_browser.specs.Fields.{are_named, count_named, day_digits, day_word, field_shown, fields_in, first_named, is_dashed, is_named, only_named, text_of, word_in, words_in};
 
 use form_urlencoded::{decode, raw_pairs};
 use ill_values::OutOfMemory;
@@ -37,7 +37,7 @@ fn text(alloc: Global, value: &[u8]) -> Result<String, OutOfMemory>
 }
 
 /// Returns the value of the only field with this name.
-pub(crate) fn only<'a>(fields: &'a [Field<'_>], name: &str) -> Option<&'a [u8]>
+pub(crate) fn only<'a>(fields: &'a [Field<'_>], name: &str) -> Option<&'a str>
     ensures { option_map (λ value. value.now) result ≡ only_named name.now (map field_shown fields.now) }
 {
     if count(fields, name) == 1 {
@@ -68,11 +68,11 @@ fn is_named(field: &Field<'_>, name: &str) -> bool
 }
 
 /// Returns the value of the first field with this name.
-fn first<'a>(fields: &'a [Field<'_>], name: &str) -> Option<&'a [u8]>
+fn first<'a>(fields: &'a [Field<'_>], name: &str) -> Option<&'a str>
     ensures { option_map (λ value. value.now) result ≡ first_named name.now (map field_shown fields.now) }
 {
     match field_named(fields, name.as_bytes()) {
-        Some(field) => Some(field.value.as_bytes()),
+        Some(field) => Some(field.value.as_str()),
         None => None,
     }
 }
@@ -141,7 +141,16 @@ fn day_word(alloc: Global, text: &[u8]) -> Result<Vec<u8>, OutOfMemory>
 {
     if text.is_empty() {
         Vec::from_slice(alloc, b"none")
-    } else if is_dashed(text) {
+    } else {
+        day_digits(alloc, text)
+    }
+}
+
+/// Returns the digits of a day, as `20250315` of `2025-03-15`. A text of another shape is returned as it is.
+pub(crate) fn day_digits(alloc: Global, text: &[u8]) -> Result<Vec<u8>, OutOfMemory>
+    ensures { IfOk result (λ digits. digits.items ≡ day_digits text.now) }
+{
+    if is_dashed(text) {
         undashed(alloc, text)
     } else {
         Vec::from_slice(alloc, text)

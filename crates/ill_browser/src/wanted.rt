@@ -1,17 +1,17 @@
 //! What a browser asks for, read from a request.
 
-ghost use Rattle.std.specs.Prelude.{map};
+ghost use Rattle.std.specs.Prelude.{◌≡◌, codes, map};
 ghost use Rattle.std.specs.Result.{result_ok};
 ghost use Rattle.ill_values.specs.TxnId.{txn_id_of};
-ghost use Rattle.ill_browser.specs.Fields.{field_shown};
+ghost use Rattle.ill_browser.specs.Fields.{field_shown, only_named};
 ghost use Rattle.ill_browser.specs.Visit.{body_size, rules_shown, visit_shown};
-ghost use Rattle.ill_browser.specs.Wanted.{Answers, Reads, ReadsNamed, acted_of, act_named, asked_by, loan_asked, loan_named, looked_of, or_fields, wanted_of};
+ghost use Rattle.ill_browser.specs.Wanted.{Answers, Reads, ReadsNamed, act_named, asked_by, day_named, figures_named, found_named, is_slip, loan_asked, loan_named, looked_beside, looked_of, note_named, or_fields, posted_of, slip_named, wanted_of};
 
 use crate::body::read_body;
 use crate::fault::VisitFault;
-use crate::field::{Field, are_named, only, read_fields, words};
+use crate::field::{Field, are_named, day_digits, only, read_fields, words};
 use crate::visit::{Rules, Visit, body_size, is_look};
-use ill_values::{TextFault, TxnId};
+use ill_values::{Day, TextFault, TxnId};
 use std::alloc::Global;
 use std::io::Read;
 
@@ -19,9 +19,21 @@ use std::io::Read;
 #[derive(Drop)]
 pub enum Wanted {
     /// The page of the desks.
-    Desks,
+    Desks {
+        /// The words that the loans on it have. Without words all loans are on it.
+        find: Option<String>,
+    },
     /// The page of one loan.
     Loan(LoanName),
+    /// The slip of one loan.
+    Slip(LoanName),
+    /// The figures of some days. The last of them may be before the first.
+    Figures {
+        /// The first day.
+        from: Day,
+        /// The last day.
+        to: Day,
+    },
     /// One act in a loan, as a form has it.
     Act {
         /// The loan.
@@ -30,6 +42,13 @@ pub enum Wanted {
         stamp: Vec<u8>,
         /// The words of the act. A title is one word with its spaces.
         words: Vec<Vec<u8>>,
+    },
+    /// One note on a loan, as a form has it.
+    Note {
+        /// The loan.
+        loan: LoanName,
+        /// The text of the note.
+        note: String,
     },
 }
 
@@ -42,11 +61,23 @@ pub struct LoanName {
     pub txn: TxnId,
 }
 
-/// The names of the fields in the query of a page.
-const PAGE_NAMES: [&str; 3] = ["desk", "group", "transaction"];
+/// The names of the fields in a query that finds loans.
+const FIND_NAMES: [&str; 1] = ["find"];
 
-/// The names of the fields in a form.
-const FORM_NAMES: [&str; 6] = ["desk", "group", "transaction", "stamp", "word", "day"];
+/// The names of the fields in the query of a loan.
+const LOAN_NAMES: [&str; 3] = ["desk", "group", "transaction"];
+
+/// The names of the fields in the query of a slip.
+const SLIP_NAMES: [&str; 4] = ["desk", "group", "transaction", "page"];
+
+/// The names of the fields in the query of figures.
+const FIGURES_NAMES: [&str; 2] = ["from", "to"];
+
+/// The names of the fields in the form of an act.
+const ACT_NAMES: [&str; 6] = ["desk", "group", "transaction", "stamp", "word", "day"];
+
+/// The names of the fields in the form of a note.
+const NOTE_NAMES: [&str; 4] = ["desk", "group", "transaction", "note"];
 
 /// Reads what a request asks for. If it is no refusal before, exactly the bytes of its body are read from `reader`.
 pub fn read_wanted<R: Read>(
@@ -69,13 +100,14 @@ pub fn read_wanted<R: Read>(
 }
 
 /// Reads what a request with this body asks for, by its fields alone.
+#[tactic(auto, unfolding(crate::specs::Wanted::asked_by))]
 fn asked_by(alloc: Global, visit: &Visit<'_>, body: &[u8]) -> Result<Wanted, VisitFault>
     ensures { Reads (asked_by (visit_shown visit.now) body.now) result }
 {
     if is_look(visit) {
         looked(alloc, &read_fields(alloc, visit.query.as_bytes())?)
     } else if visit.query.is_empty() {
-        acted(alloc, &read_fields(alloc, body)?)
+        posted(alloc, &read_fields(alloc, body)?)
     } else {
         Err(VisitFault::Fields)
     }
@@ -86,23 +118,107 @@ fn looked(alloc: Global, fields: &[Field<'_>]) -> Result<Wanted, VisitFault>
     ensures { Reads (looked_of (map field_shown fields.now)) result }
 {
     if fields.is_empty() {
-        Ok(Wanted::Desks)
-    } else if are_named(fields, &PAGE_NAMES) {
+        Ok(Wanted::Desks { find: None })
+    } else if are_named(fields, &FIND_NAMES) {
+        found(alloc, fields)
+    } else if are_named(fields, &LOAN_NAMES) {
         Ok(Wanted::Loan(loan(alloc, fields)?))
+    } else {
+        looked_beside(alloc, fields)
+    }
+}
+
+/// Reads the slip or the figures that the fields of a query ask for.
+fn looked_beside(alloc: Global, fields: &[Field<'_>]) -> Result<Wanted, VisitFault>
+    ensures { Reads (looked_beside (map field_shown fields.now)) result }
+{
+    if are_named(fields, &SLIP_NAMES) {
+        slip(alloc, fields)
+    } else if are_named(fields, &FIGURES_NAMES) {
+        figures(alloc, fields)
     } else {
         Err(VisitFault::Fields)
     }
 }
 
-/// Reads the act that the fields of a form ask for.
-fn acted(alloc: Global, fields: &[Field<'_>]) -> Result<Wanted, VisitFault>
-    ensures { Reads (acted_of (map field_shown fields.now)) result }
+/// Reads the words to find that the fields name.
+fn found(alloc: Global, fields: &[Field<'_>]) -> Result<Wanted, VisitFault>
+    ensures { Reads (or_fields (found_named (map field_shown fields.now))) result }
 {
-    if are_named(fields, &FORM_NAMES) {
-        act(alloc, fields)
+    let Some(words) = only(fields, "find") else {
+        return Err(VisitFault::Fields);
+    };
+    let find = Some(String::from_str(alloc, words)?);
+    Ok(Wanted::Desks { find })
+}
+
+/// Reads the slip that the fields name.
+fn slip(alloc: Global, fields: &[Field<'_>]) -> Result<Wanted, VisitFault>
+    ensures { Reads (or_fields (slip_named (map field_shown fields.now))) result }
+{
+    if is_slip(fields) {
+        Ok(Wanted::Slip(loan(alloc, fields)?))
     } else {
         Err(VisitFault::Fields)
     }
+}
+
+/// Returns true if the page that the fields name is the slip.
+fn is_slip(fields: &[Field<'_>]) -> bool
+    ensures { result ≡ is_slip (only_named (codes "page") (map field_shown fields.now)) }
+{
+    match only(fields, "page") {
+        Some(page) => page == "slip",
+        None => false,
+    }
+}
+
+/// Reads the figures that the fields name.
+fn figures(alloc: Global, fields: &[Field<'_>]) -> Result<Wanted, VisitFault>
+    ensures { Reads (or_fields (figures_named (map field_shown fields.now))) result }
+{
+    let from = day(alloc, fields, "from")?;
+    let to = day(alloc, fields, "to")?;
+    Ok(Wanted::Figures { from, to })
+}
+
+/// Reads the day in the only field with this name.
+fn day(alloc: Global, fields: &[Field<'_>], name: &str) -> Result<Day, VisitFault>
+    ensures { ReadsNamed (λ day. day) (day_named name.now (map field_shown fields.now)) result }
+{
+    let Some(text) = only(fields, name) else {
+        return Err(VisitFault::Fields);
+    };
+    let digits = day_digits(alloc, text.as_bytes())?;
+    match Day::read(&digits) {
+        Ok(day) => Ok(day),
+        Err(_) => Err(VisitFault::Fields),
+    }
+}
+
+/// Reads what the fields of a form ask for.
+fn posted(alloc: Global, fields: &[Field<'_>]) -> Result<Wanted, VisitFault>
+    ensures { Reads (posted_of (map field_shown fields.now)) result }
+{
+    if are_named(fields, &ACT_NAMES) {
+        act(alloc, fields)
+    } else if are_named(fields, &NOTE_NAMES) {
+        note(alloc, fields)
+    } else {
+        Err(VisitFault::Fields)
+    }
+}
+
+/// Reads the note that the fields name.
+fn note(alloc: Global, fields: &[Field<'_>]) -> Result<Wanted, VisitFault>
+    ensures { Reads (or_fields (note_named (map field_shown fields.now))) result }
+{
+    let loan = loan(alloc, fields)?;
+    let Some(note) = only(fields, "note") else {
+        return Err(VisitFault::Fields);
+    };
+    let note = String::from_str(alloc, note)?;
+    Ok(Wanted::Note { loan, note })
 }
 
 /// Reads the act that the fields name.
@@ -113,7 +229,7 @@ fn act(alloc: Global, fields: &[Field<'_>]) -> Result<Wanted, VisitFault>
     let Some(stamp) = only(fields, "stamp") else {
         return Err(VisitFault::Fields);
     };
-    let stamp = Vec::from_slice(alloc, stamp)?;
+    let stamp = Vec::from_slice(alloc, stamp.as_bytes())?;
     let words = words(alloc, fields)?;
     Ok(Wanted::Act { loan, stamp, words })
 }
@@ -129,9 +245,9 @@ fn loan(alloc: Global, fields: &[Field<'_>]) -> Result<LoanName, VisitFault>
     else {
         return Err(VisitFault::Fields);
     };
-    let txn = txn(alloc, group, transaction)?;
+    let txn = txn(alloc, group.as_bytes(), transaction.as_bytes())?;
     Ok(LoanName {
-        desk: Vec::from_slice(alloc, desk)?,
+        desk: Vec::from_slice(alloc, desk.as_bytes())?,
         txn,
     })
 }

@@ -2,9 +2,10 @@
 
 use crate::case::{Case, length_text};
 use ill_browser::{LoanName, VisitFault, Wanted, read_wanted};
-use ill_test_kit::marks::tried;
+use ill_test_kit::marks::{TRIES, begin, is_refused, is_refused_or_without};
 use ill_test_kit::{INDENT, Lines, Page};
-use std::alloc::{AllocError, Global};
+use ill_values::Day;
+use std::alloc::Global;
 
 /// Performs each line of the input as a case.
 #[derive(Drop)]
@@ -56,8 +57,7 @@ fn parts(line: &str) -> (&str, &str) {
     line.split_once(" ").unwrap_or((line, ""))
 }
 
-/// Adds the answer to a case, with these other texts, and the number of bytes that were left. A fault may be found after a
-/// growth, so it counts as an answer, and the call is not made again as a quiet one.
+/// Adds the answer to a case with these other texts, and the number of bytes that were left.
 fn push_answer<'a>(
     alloc: Global,
     output: &mut Page,
@@ -69,30 +69,90 @@ fn push_answer<'a>(
             case.set(word)?;
         }
     }
-    let mut left = 0;
-    let answer = tried(alloc, AllocError, || {
+    let answer = answer_of(alloc, &case)?;
+    output.push(answer.bytes()?);
+    Some(())
+}
+
+/// Makes the call of a case, and makes it again while one of its growths is refused. Returns the page of its answer.
+///
+/// To decode a value with `+`, the kit asks for the room of the whole value first. If that is refused, it asks for room
+/// for one byte. So a call may do without one growth for each such value, and for no other. Then its answer must be the
+/// same.
+fn answer_of(alloc: Global, case: &Case<'_>) -> Option<Page> {
+    let mut left = case.spaced_fields();
+    let mut before = None;
+    for _ in 0..TRIES {
+        begin(alloc);
+        let call = Call::made(alloc, case);
+        if !call.is_refused(alloc, left > 0) {
+            return call.told(alloc, before.as_ref());
+        }
+        if !call.says_memory() {
+            left = left.saturating_sub(1);
+            before = call.told(alloc, before.as_ref());
+        }
+    }
+    None
+}
+
+/// A call of `read_wanted`.
+#[derive(Drop)]
+struct Call {
+    /// What it answered.
+    answer: Result<Wanted, VisitFault>,
+    /// The number of bytes that were left.
+    left: usize,
+}
+
+impl Call {
+    /// Makes the call of a case.
+    fn made(alloc: Global, case: &Case<'_>) -> Call {
         let mut reader = case.body.as_bytes();
         let answer = read_wanted(alloc, &case.rules, &case.visit, &mut reader);
-        left = reader.len();
-        match answer {
-            Err(VisitFault::OutOfMemory) => Err(AllocError),
-            answer => Ok(answer),
+        Call {
+            answer,
+            left: reader.len(),
         }
-    });
-    match answer.ok()? {
-        Ok(wanted) => push_wanted(output, &wanted),
-        Err(fault) => output.text(fault_word(fault)),
     }
-    output.text(", left ");
-    output.show(&left);
-    Some(())
+
+    /// Returns true if it answered out of memory.
+    fn says_memory(&self) -> bool {
+        matches!(&self.answer, Err(VisitFault::OutOfMemory))
+    }
+
+    /// Ends the marks of the call, which may do without a refused growth or not. Returns true if one was refused.
+    fn is_refused(&self, alloc: Global, may_do_without: bool) -> bool {
+        if may_do_without {
+            is_refused_or_without(alloc, self.says_memory())
+        } else {
+            is_refused(alloc, self.says_memory())
+        }
+    }
+
+    /// Returns the page of the answer. It tells if the call before, which did without a growth, had another one.
+    fn told(&self, alloc: Global, before: Option<&Page>) -> Option<Page> {
+        let mut page = Page::new(alloc);
+        match &self.answer {
+            Ok(wanted) => push_wanted(&mut page, wanted),
+            Err(fault) => page.text(fault_word(*fault)),
+        }
+        page.text(", left ");
+        page.show(&self.left);
+        if before.is_some_and(|before| before.bytes() != page.bytes()) {
+            page.text(", and another answer without a growth");
+        }
+        Some(page)
+    }
 }
 
 /// Adds what was asked for.
 fn push_wanted(output: &mut Page, wanted: &Wanted) {
     match wanted {
-        Wanted::Desks => output.text("desks"),
+        Wanted::Desks { find } => push_desks(output, find.as_ref()),
         Wanted::Loan(loan) => push_loan(output, "loan", loan),
+        Wanted::Slip(loan) => push_loan(output, "slip", loan),
+        Wanted::Figures { from, to } => push_figures(output, from, to),
         Wanted::Act { loan, stamp, words } => {
             push_loan(output, "act", loan);
             push_text(output, stamp);
@@ -100,7 +160,27 @@ fn push_wanted(output: &mut Page, wanted: &Wanted) {
                 push_text(output, word);
             }
         }
+        Wanted::Note { loan, note } => {
+            push_loan(output, "note", loan);
+            push_text(output, note.as_bytes());
+        }
     }
+}
+
+/// Adds a word, and the words to find, if there are any.
+fn push_desks(output: &mut Page, find: Option<&String>) {
+    output.text("desks");
+    if let Some(words) = find {
+        push_text(output, words.as_bytes());
+    }
+}
+
+/// Adds a word, and the days of figures.
+fn push_figures(output: &mut Page, from: &Day, to: &Day) {
+    output.text("figures ");
+    output.show(from);
+    output.text(" ");
+    output.show(to);
 }
 
 /// Adds a word, and the name of a loan.

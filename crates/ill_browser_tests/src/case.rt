@@ -57,6 +57,22 @@ impl<'a> Case<'a> {
         }
     }
 
+    /// Returns the number of fields in the form of the request that have `+`.
+    pub fn spaced_fields(&self) -> usize {
+        let form = if self.visit.method == "GET" {
+            self.visit.query
+        } else {
+            self.body
+        };
+        let mut count: usize = 0;
+        for field in form.split("&") {
+            if field.contains("+") {
+                count = count.saturating_add(1);
+            }
+        }
+        count
+    }
+
     /// Puts in what `word` says. Returns `None` if it says nothing.
     pub fn set(&mut self, word: &'a str) -> Option<()> {
         let (name, text) = word.split_once(":")?;

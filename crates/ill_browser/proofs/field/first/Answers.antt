@@ -10,7 +10,7 @@ pub returns-in-Some : goal.returns-in-Some
 returns-in-Some c =
     let same = ap (λ (name : List ℕ). find (λ (field : Field). bytes_eq field.name.now name) c.args.fields.now)
     c.as_bytes.ensures.value in
-    ap Some c.as_bytes-in-Some.ensures.value
+    ap Some c.as_str.ensures.value
     ∙ ap (option_map (λ (field : Field). string_bytes field.value)) (c.in-Some.ensures ∙ same)
     ∙ sym (first_is c.args.name.now c.args.fields.now)
 

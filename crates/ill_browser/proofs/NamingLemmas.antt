@@ -1,0 +1,153 @@
+-- Proves what fields have that name a loan, a page or a change.
+use Rattle.std.proofs.Common.{◌≡◌, ◌∙◌, ◌<◌, ◌⊎◌, inl, inr, ⊎_elim, ℕ, Bool, true, false, List, [], ◌∷◌, Option}
+use Rattle.std.proofs.Common.{Some, None}
+use Rattle.std.proofs.Common.{Result, Ok, refl, sym, subst, arith, rules}
+use Rattle.std.specs.Prelude.{◌==◌, ◌&&◌, ◌||◌, if◌then◌else◌, bytes_eq, codes}
+use Rattle.std.specs.List.{list_all, list_any}
+use Rattle.std.proofs.lemmas.Bool.Decides.{nat_tests}
+use Rattle.std.proofs.lemmas.Slice.Eq.{bytes_eq-Decides}
+use Rattle.ill_browser.specs.declared.fault.VisitFault.{VisitFault}
+use Rattle.ill_browser.specs.BadAsking.{is_among}
+use Rattle.ill_browser.specs.Fields.{Pair, are_named, count_named, first_named, is_named, only_named}
+use Rattle.ill_browser.specs.Wanted.{Asked, LoanAsked, ◌>>=◌, loan_named, or_fields}
+
+-- What is bound is the value of a first, given to the next.
+pub bound : {A B : Type 0} (first : Option A) (next : A → Option B) (b : B) → (first >>= next) ≡ Some b
+    → (a : A) × ((first ≡ Some a) × (next a ≡ Some b))
+bound (Some a) next b e = (a, (refl, e))
+bound None next b e = search rules
+
+-- What is asked for by fields, they name.
+pub named_by : (named : Option Asked) (asked : Asked) → or_fields named ≡ Ok asked → named ≡ Some asked
+named_by (Some named) asked e = search rules
+named_by None asked e = search rules
+
+-- A choice gave its first result, or its other.
+pub either : {X : Type 0} (test : Bool) (one other : Result X VisitFault) (x : X) → (if test then one else other) ≡ Ok x
+    → ((test ≡ true) × (one ≡ Ok x)) ⊎ (other ≡ Ok x)
+either true one other x e = inl (refl, e)
+either false one other x e = inr e
+
+-- A value is no absence.
+pub some_is_none : {X : Type 0} (x : X) (o : Option X) → o ≡ Some x → o ≡ None → ⊥
+some_is_none x (Some y) some none = search rules
+some_is_none x None some none = search rules
+
+-- A value that a test let through passed it.
+pub if_some : {X : Type 0} (test : Bool) (o : Option X) (x : X) → (if test then o else None) ≡ Some x → (test ≡ true)
+    × (o ≡ Some x)
+if_some true o x e = (refl, e)
+if_some false o x e = search rules
+
+-- Fields with an only value of a name have this name once.
+pub only_once : (name : List ℕ) (fields : List Pair) (text : List ℕ) → only_named name fields ≡ Some text
+    → (count_named name fields == 1) ≡ true
+only_once name fields text e = (if_some (count_named name fields == 1) (first_named name fields) text e).0
+
+-- A number that is found to be 1 is above 0.
+one_counts : (count : ℕ) → (count == 1) ≡ true → 0 < count
+one_counts count one = grind (arith, nat_tests, one)
+
+-- Fields with an only value of a name have this name.
+pub only_counts : (name : List ℕ) (fields : List Pair) (text : List ℕ) → only_named name fields ≡ Some text
+    → 0 < count_named name fields
+only_counts name fields text e = one_counts (count_named name fields) (only_once name fields text e)
+
+-- The same for one field more, which has the name or not.
+counted_more : (names : List (List ℕ)) (name : List ℕ) (field : Pair) (fields : List Pair) (is : Bool)
+    → (0 < count_named name fields → is_among name names ≡ true) → is_named name field ≡ is
+    → list_any (λ known. is_named known field) names ≡ true → 0 < count_named name (field ∷ fields) → is_among name names ≡ true
+counted_more names name field fields true rest same one some =
+    subst (λ text. is_among text names ≡ true) ((bytes_eq-Decides field.0 name).0 same) one
+counted_more names name field fields false rest same one some = rest (subst (λ count. 0 < count) (simp (same) refl) some)
+
+-- A conjunction is true at both sides.
+and_both : (a b : Bool) → (a && b) ≡ true → (a ≡ true) × (b ≡ true)
+and_both true b e = (refl, e)
+and_both false b e = search rules
+
+-- A name that a field has is one of the names that all fields have.
+pub one_of : (names : List (List ℕ)) (name : List ℕ) (fields : List Pair) → are_named names fields ≡ true
+    → 0 < count_named name fields → is_among name names ≡ true
+one_of names name [] named some = search (arith, rules)
+one_of names name (field ∷ fields) named some =
+    let both = and_both (list_any (λ known. is_named known field) names) (are_named names fields) named in
+    counted_more names name field fields (is_named name field) (one_of names name fields both.1) refl both.0 some
+
+-- No Bool is both.
+pub not_both : (b : Bool) → b ≡ true → b ≡ false → ⊥
+not_both true is is_not = search rules
+not_both false is is_not = search rules
+
+-- A name that is none of the names that all fields have is on no field.
+pub no_stranger : (names : List (List ℕ)) (name : List ℕ) (fields : List Pair) → are_named names fields ≡ true
+    → 0 < count_named name fields → is_among name names ≡ false → ⊥
+no_stranger names name fields named some stranger =
+    not_both (is_among name names) (one_of names name fields named some) stranger
+
+-- A name is among names if it is the first of some of them, or among the others.
+among_first : (name known : List ℕ) (all : List (List ℕ)) (same other among : Bool) → bytes_eq name known ≡ same
+    → (other ≡ true → is_among name all ≡ true) → among ≡ true → is_among known all ≡ among → (same || other) ≡ true
+    → is_among name all ≡ true
+among_first name known all true other among same rest is e one =
+    subst (λ text. is_among text all ≡ true) (sym ((bytes_eq-Decides name known).0 same)) (e ∙ is)
+among_first name known all false other among same rest is e one = rest one
+
+-- A name that is among some of the names is among all.
+pub within : (names all : List (List ℕ)) (name : List ℕ) → list_all (λ known. is_among known all) names ≡ true
+    → is_among name names ≡ true → is_among name all ≡ true
+within [] all name known one = search rules
+within (first ∷ names) all name known one =
+    let both = and_both (is_among first all) (list_all (λ known. is_among known all) names) known in
+    among_first name first all (bytes_eq name first) (is_among name names) (is_among first all) refl
+    (within names all name both.1) both.0 refl one
+
+-- Returns true if each of these names is on one field alone.
+abbrev pub are_once : List (List ℕ) → List Pair → Bool
+are_once names fields = list_all (λ name. count_named name fields == 1) names
+
+-- Found once, a name is not found twice.
+pub not_twice : (count : ℕ) → (count == 1) ≡ true → 1 < count → ⊥
+not_twice count one more = grind (arith, nat_tests, one, more)
+
+-- The same for one name more.
+among_more : (name known : List ℕ) (same other once rest : Bool) → (same || other) ≡ true → (once && rest) ≡ true
+    → ((same ≡ true) × (once ≡ true)) ⊎ ((other ≡ true) × (rest ≡ true))
+among_more name known true other once rest one all = inl (refl, (and_both once rest all).0)
+among_more name known false other once rest one all = inr (one, (and_both once rest all).1)
+
+-- No name is on two fields, if it is one of the names that are each on one.
+once_not_twice : (names : List (List ℕ)) (name : List ℕ) (fields : List Pair) → are_once names fields ≡ true
+    → is_among name names ≡ true → 1 < count_named name fields → ⊥
+once_not_twice [] name fields once one more = search rules
+once_not_twice (known ∷ names) name fields once one more =
+    ⊎_elim
+    (λ here. not_twice (count_named known fields) here.1
+    (subst (λ text. 1 < count_named text fields) ((bytes_eq-Decides name known).0 here.0) more))
+    (λ there. once_not_twice names name fields there.1 there.0 more)
+    (among_more name known (bytes_eq name known) (is_among name names) (count_named known fields == 1) (are_once names fields)
+    one once)
+
+-- Fields with these names alone, each once, have no name twice.
+pub no_doubled : (names : List (List ℕ)) (name : List ℕ) (fields : List Pair) → are_named names fields ≡ true
+    → are_once names fields ≡ true → 1 < count_named name fields → ⊥
+no_doubled names name fields named once more =
+    once_not_twice names name fields once (one_of names name fields named (omega (arith, more))) more
+
+-- What fields that name a loan have: a desk, a group and a transaction, each once.
+pub record HasLoan (fields : List Pair) : Type 0 where
+  pub desk : (count_named (codes "desk") fields == 1) ≡ true
+  pub group : (count_named (codes "group") fields == 1) ≡ true
+  pub transaction : (count_named (codes "transaction") fields == 1) ≡ true
+
+-- Fields that name a loan have its parts.
+pub has_loan : (fields : List Pair) (loan : LoanAsked) → loan_named fields ≡ Some loan → HasLoan fields
+has_loan fields loan e =
+    let desk = bound (only_named (codes "desk") fields) _ loan e in
+    let group = bound (only_named (codes "group") fields) _ loan desk.1.1 in
+    let transaction = bound (only_named (codes "transaction") fields) _ loan group.1.1 in
+    record {
+      desk = only_once (codes "desk") fields desk.0 desk.1.0;
+      group = only_once (codes "group") fields group.0 group.1.0;
+      transaction = only_once (codes "transaction") fields transaction.0 transaction.1.0;
+    }

@@ -1,0 +1,70 @@
+//! What the operator says: the words of the script that runs the program.
+
+use ill_values::{Day, OutOfMemory};
+use std::alloc::Global;
+
+/// What the operator says of all requests.
+#[derive(Drop)]
+pub struct Operator<'a> {
+    /// The origin of the pages, as browsers see it.
+    pub origin: &'a str,
+    /// The day.
+    pub today: Day,
+    /// A form of nobody is taken.
+    pub is_open: bool,
+    /// The paths of desks and of folders of desks.
+    pub paths: Vec<&'a str>,
+}
+
+/// The options so far.
+#[derive(Drop)]
+struct Options<'a> {
+    origin: Option<&'a str>,
+    today: Option<Day>,
+    is_open: bool,
+}
+
+impl<'a> Operator<'a> {
+    /// Reads the words of a command line, the program's name first. Returns `None` if they are no such line.
+    pub fn read(alloc: Global, words: &[&'a str]) -> Result<Option<Operator<'a>>, OutOfMemory> {
+        let mut options = Options {
+            origin: None,
+            today: None,
+            is_open: false,
+        };
+        let Some(paths) = options.take(words.get(1..).unwrap_or(&[])) else {
+            return Ok(None);
+        };
+        let (Some(origin), Some(today), false) = (options.origin, options.today, paths.is_empty())
+        else {
+            return Ok(None);
+        };
+        Ok(Some(Operator {
+            origin,
+            today,
+            is_open: options.is_open,
+            paths: Vec::from_slice(alloc, paths)?,
+        }))
+    }
+}
+
+impl<'a> Options<'a> {
+    /// Takes the options at the front of `words`, and returns the words after them. Returns `None` if one is none.
+    fn take<'b>(&mut self, words: &'b [&'a str]) -> Option<&'b [&'a str]> {
+        match words {
+            ["--open", rest @ ..] => {
+                self.is_open = true;
+                self.take(rest)
+            }
+            ["--origin", origin, rest @ ..] => {
+                self.origin = Some(origin);
+                self.take(rest)
+            }
+            ["--today", day, rest @ ..] => {
+                self.today = Some(Day::read(day.as_bytes()).ok()?);
+                self.take(rest)
+            }
+            rest => Some(rest),
+        }
+    }
+}

@@ -1,0 +1,146 @@
+"""Web servers on the loopback that run `ill-web`: lighttpd and busybox httpd, with a login, and nginx as a proxy before.
+
+Each has its files in a folder, and its port. `ended` stops them.
+"""
+import os
+import shutil
+import socket
+import subprocess
+
+from ill import harness
+from ill.driving import patiently
+
+USERS = {"anna": "secret", "bert": "hidden"}
+LIGHTTPD = """\
+server.modules = ("mod_auth", "mod_authn_file", "mod_cgi"{modules})
+server.document-root = "{folder}/www"
+server.port = {port}
+server.bind = "127.0.0.1"
+server.errorlog = "{folder}/lighttpd.log"
+server.breakagelog = "{folder}/breakage.log"
+auth.backend = "htpasswd"
+auth.backend.htpasswd.userfile = "{folder}/users"
+auth.require = ("/ill/" => ("method" => "basic", "realm" => "ill", "require" => "valid-user"))
+$HTTP["url"] =~ "^/ill/" {{ cgi.assign = ("" => "") }}
+{more}"""
+TLS = 'ssl.engine = "enable"\nssl.pemfile = "{folder}/both.pem"\n'
+NGINX = """\
+daemon off;
+pid {folder}/nginx.pid;
+error_log {folder}/nginx.log;
+events {{}}
+http {{
+  access_log off;
+  client_body_temp_path {folder}/nginx.body;
+  proxy_temp_path {folder}/nginx.proxy;
+  fastcgi_temp_path {folder}/nginx.fastcgi;
+  uwsgi_temp_path {folder}/nginx.uwsgi;
+  scgi_temp_path {folder}/nginx.scgi;
+  server {{ listen 127.0.0.1:{port}{ssl}; location / {{ proxy_pass http://127.0.0.1:{behind}; }} }}
+}}
+"""
+
+
+def has_tls():
+    """Returns true if lighttpd has its module for TLS, which is a package of its own."""
+    return any(os.path.exists(f"{folder}/lighttpd/mod_openssl.so") for folder in ("/usr/lib", "/usr/lib64", "/usr/local/lib"))
+
+
+def is_there(name):
+    """Returns true if a program is installed, for root or for all."""
+    return shutil.which(name, path=f"{os.environ['PATH']}:/usr/sbin:/sbin") is not None
+
+
+def free_port():
+    """Returns a port of the loopback that no process has."""
+    with socket.socket() as one:
+        one.bind(("127.0.0.1", 0))
+        return one.getsockname()[1]
+
+
+def answers(port):
+    """Returns true if a server listens at a port."""
+    try:
+        socket.create_connection(("127.0.0.1", port), 1).close()
+    except OSError:
+        return False
+    return True
+
+
+class Servers:
+    """Web servers over one folder. A script in `www/ill` is a page."""
+
+    def __init__(self, folder, web):
+        self.folder, self.web, self.running = folder, web, []
+        os.makedirs(f"{folder}/www/ill")
+
+    def script(self, name, *words, before=""):
+        """Writes the script of a page, which runs `ill-web` with these words after other commands."""
+        path = f"{self.folder}/www/ill/{name}"
+        quoted = " ".join("'" + word.replace("'", "'\\''") + "'" for word in [self.web, *words])
+        harness.write(path + ".new", f"#!/bin/sh\n{before}exec {quoted}\n")
+        os.chmod(path + ".new", 0o755)
+        os.replace(path + ".new", path)
+
+    def limited_script(self, name, *words):
+        """Writes the script of a page that may write no byte to a file."""
+        self.script(name, *words, before="trap '' XFSZ\nulimit -f 0\n")
+
+    def lighttpd(self, has_tls=False):
+        """Begins lighttpd, and returns its port."""
+        lines = [f"{name}:{encoded(password)}\n" for name, password in USERS.items()]
+        harness.write(f"{self.folder}/users", "".join(lines))
+        port, path = free_port(), f"{self.folder}/lighttpd{len(self.running)}.conf"
+        more = TLS.format(folder=self.folder) if has_tls else ""
+        harness.write(path, LIGHTTPD.format(folder=self.folder, port=port, more=more,
+                                            modules=', "mod_openssl"' if has_tls else ""))
+        return self._begin(port, ["lighttpd", "-D", "-f", path])
+
+    def busybox(self):
+        """Begins busybox httpd, and returns its port. Its scripts are in `cgi-bin`."""
+        port, path = free_port(), f"{self.folder}/httpd.conf"
+        harness.write(path, "".join(f"/cgi-bin:{name}:{password}\n" for name, password in USERS.items()))
+        harness.remove(f"{self.folder}/www/cgi-bin")
+        os.symlink("ill", f"{self.folder}/www/cgi-bin")
+        return self._begin(port, ["busybox", "httpd", "-f", "-p", f"127.0.0.1:{port}", "-h", f"{self.folder}/www", "-c", path])
+
+    def nginx(self, behind, has_tls=False):
+        """Begins nginx before another server, whose Host it sends in place of the browser's. Returns its port."""
+        port, path = free_port(), f"{self.folder}/nginx{len(self.running)}.conf"
+        pem = f"{self.folder}/both.pem"
+        ssl = f" ssl; ssl_certificate {pem}; ssl_certificate_key {pem}" if has_tls else ""
+        harness.write(path, NGINX.format(folder=self.folder, port=port, behind=behind, ssl=ssl))
+        return self._begin(port, ["nginx", "-c", path])
+
+    def certificate(self, name):
+        """Makes a certificate of one's own for a host."""
+        key, certificate = f"{self.folder}/key.pem", f"{self.folder}/certificate.pem"
+        subprocess.run(["openssl", "req", "-x509", "-newkey", "rsa:2048", "-nodes", "-days", "2", "-subj", f"/CN={name}",
+                        "-addext", f"subjectAltName=DNS:{name}", "-keyout", key, "-out", certificate],
+                       check=True, capture_output=True)
+        harness.write(f"{self.folder}/both.pem", harness.read(key) + harness.read(certificate))
+
+    def _begin(self, port, words):
+        """Begins a server, and waits until it answers."""
+        path = f"{os.environ['PATH']}:/usr/sbin:/sbin"
+        log = open(f"{self.folder}/server{len(self.running)}.log", "wb")
+        # A session of its own: busybox httpd ends with its scripts.
+        process = subprocess.Popen(words, stdout=log, stderr=log, stdin=subprocess.DEVNULL, start_new_session=True,
+                                   env={**os.environ, "PATH": path})
+        log.close()
+        self.running.append(process)
+        harness.expect(patiently(lambda: answers(port) or process.poll() is not None, 20) and process.poll() is None,
+                       f"{words[0]} does not run: {harness.short(harness.read(log.name))}")
+        return port
+
+    def ended(self):
+        """Stops all servers."""
+        for process in self.running:
+            process.terminate()
+            process.wait()
+
+
+def encoded(password):
+    """Returns a password as `htpasswd` keeps it."""
+    done = subprocess.run(["openssl", "passwd", "-apr1", password], check=True, capture_output=True)
+    return done.stdout.decode().strip()

@@ -2,4 +2,4 @@ pub mod Nights
 pub mod Keyed
 pub mod Rooms
 pub mod BadRooms
-pub mod HostRooms
+pub mod HostBackup

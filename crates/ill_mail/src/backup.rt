@@ -1,7 +1,7 @@
 //! The files that a night writes beside its mail: the copy of each desk, and a sign of life.
 
 ghost use Rattle.std.specs.Prelude.{◌≡◌, IfErr};
-ghost use Rattle.ill_mail.specs.HostRooms.{host_backup};
+ghost use Rattle.ill_mail.specs.HostBackup.{host_backup};
 ghost use Rattle.ill_text.specs.Fault.{IsFileFault};
 
 use crate::sending::SentAll;

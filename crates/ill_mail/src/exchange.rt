@@ -8,12 +8,12 @@ ghost use Rattle.ill_desk.specs.Performing.{command_state, view_of};
 ghost use Rattle.ill_text.specs.Fault.{IsOpenFault};
 
 use crate::backup::HostBackup;
-use crate::fault_lines::{NO_BOX, NO_RUN, NOT_READ, report_fault_of_mail};
-use crate::host_room::{HostRoom, NOT_ASKED};
-use crate::mail::{Incoming, Mails, Opening, Source, begin_run, claim_mails, sorted_mails};
-use crate::mail_box::{MailBox, MailPaths, asked_bytes, open_box};
-use crate::mail_folder::MailFolder;
-use crate::places::{Places, look_at_out, look_at_places};
+use ill_mailbox::fault_lines::{NO_BOX, NO_RUN, NOT_READ, report_fault_of_mail};
+use ill_mailbox::host_room::{HostRoom, NOT_ASKED};
+use ill_mailbox::mail::{Incoming, Mails, Opening, Source, begin_run, claim_mails, sorted_mails};
+use ill_mailbox::mail_box::{MailBox, MailPaths, asked_bytes, open_box};
+use ill_mailbox::mail_folder::MailFolder;
+use ill_mailbox::places::{Places, look_at_out, look_at_places};
 use crate::rooms::{Plan, Rooms, night_in, take_in};
 use crate::sending::send_asked;
 use ill_files::came::{CameFile, open_came};

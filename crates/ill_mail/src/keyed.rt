@@ -5,7 +5,7 @@ ghost use Rattle.ill_mail.specs.Keyed.{WithKey};
 ghost use Rattle.ill_mail.specs.Nights.{ExchangesAtFile, InboxAtFile, OutboxAtFile};
 
 use crate::exchange::{Outlet, exchange, inbox, outbox};
-use crate::mail::Incoming;
+use ill_mailbox::mail::Incoming;
 use ill_files::machine::Machine;
 use ill_key::Key;
 use ill_key::key_file::read_key;

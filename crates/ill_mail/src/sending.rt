@@ -5,8 +5,8 @@ ghost use Rattle.ill_mail.specs.Nights.{SendsAsked};
 ghost use Rattle.ill_text.specs.Fault.{IsFileFault};
 
 use crate::exchange::Outlet;
-use crate::fault_lines::report_fault_of_mail;
-use crate::mail_folder::MailFolder;
+use ill_mailbox::fault_lines::report_fault_of_mail;
+use ill_mailbox::mail_folder::MailFolder;
 use crate::rooms::put_asked;
 use ill_der::encode;
 use ill_files::machine::Machine;

@@ -2,16 +2,10 @@
 -- gives the name of its desk (this profile's own).
 use Rattle.std.specs.Prelude.{◌≡◌, ◌⊎◌, ℕ, ◌-◌, Bool, true, false, ◌&&◌, List, codes, Option, None, Some, is_some, Result, Ok}
 use Rattle.std.specs.Prelude.{Err}
-use Rattle.ill_saved.specs.declared.role.Role.{Role}
-use Rattle.ill_saved.specs.declared.role.Role.TheVariants.{Responder}
 use Rattle.ill_text.specs.declared.fault.ToolFault.{ToolFault}
 use Rattle.ill_text.specs.declared.fault.ToolFault.TheVariants.{Left}
 use Rattle.ill_text.specs.declared.form.Form.{Form}
 use Rattle.ill_text.specs.declared.form.Form.TheVariants.{Lines}
-use Rattle.ill_files.specs.declared.home.Home.{Home}
-use Rattle.ill_files.specs.declared.home.Home.TheVariants as homes
-use Rattle.ill_shelf.specs.declared.sorting.Route.{Route}
-use Rattle.ill_shelf.specs.declared.sorting.Route.TheVariants as routes
 use Rattle.ill_shelf.specs.declared.visit.Visit.{Visit}
 use Rattle.ill_shelf.specs.declared.visit.Visit.TheVariants as visits
 use Rattle.ill_der.specs.Handling.{Handles}
@@ -28,20 +22,7 @@ use Rattle.ill_text.specs.Output.{WritesText}
 use Rattle.ill_text.specs.Visits.{Stop, VisitsEach, graver}
 use Rattle.ill_text.specs.Fault.{IsFileFault}
 use Rattle.ill_key.specs.KeyCommand.{FailsAtKey}
-
--- ---- mail
-
--- Returns the way of a mail's message, by the role of the shelf and the home of the message's group.
--- `has_room` is true if this run may make further desks. A mail makes a desk only if it is an ILL-Request to
--- a responder's shelf, and its group is new. No mail makes the desk of a retired group, or of a group whose
--- desk is lost.
-abbrev pub route_of : Role → Home → (is_request has_room : Bool) → Route
-route_of role homes.Desk is_request has_room = routes.Home
-route_of role homes.Retired is_request has_room = routes.Gone
-route_of role homes.Lost is_request has_room = routes.Back
-route_of Responder homes.Nothing true true = routes.New
-route_of Responder homes.Nothing true false = routes.Back
-route_of role homes.Nothing is_request has_room = routes.Stray
+use Rattle.ill_sorting.specs.Opened.{opened_answer}
 
 -- ---- one desk after another
 
@@ -98,12 +79,6 @@ VisitsShelf is_headed Runs before after result =
     × IsFurther further × (result ≡ graver answer further))
 
 -- ---- letters
-
--- Returns the answer of letters that were opened: a file waits for the next run, or whether each file was a letter of the
--- other library.
-abbrev pub opened_answer : (is_waiting are_sealed : Bool) → Result Bool ToolFault
-opened_answer true are_sealed = Err Left
-opened_answer false are_sealed = Ok are_sealed
 
 -- The letters that had come to a shelf were opened, and then its desks were visited. The result is graver than that of the
 -- visits if a file waits, or was no letter. Or the shelf could not be opened, or no key could be used.

@@ -9,14 +9,14 @@ use crate::on_shelf::{
     Way, exchange_at_desks, exchange_of_shelf, inbox_of_shelf, look_at_shelf, outbox_of_shelf,
     take_at_desks,
 };
-use crate::opened::{Unpacking, open_letters, opened_answer, opened_folder};
 use ill_files::machine::Machine;
 use ill_files::shelf::Shelf;
 use ill_key::key_file::read_key;
 use ill_mail::exchange::Outlet;
-use ill_mail::mail::Incoming;
+use ill_mailbox::mail::Incoming;
 use ill_night::night::Night;
 use ill_saved::LockFiles;
+use ill_sorting::opened::{Unpacking, open_letters, opened_answer, opened_folder};
 use ill_text::diary::Stamp;
 use ill_text::fault::{ToolFault, graver};
 use std::io::Write;

@@ -2,9 +2,6 @@
 #![tactic(auto)]
 
 pub mod keyed;
-mod last_words;
 pub mod on_shelf;
-mod opened;
-pub mod sorting;
 pub mod take_home;
 mod visit;

@@ -9,8 +9,6 @@ ghost use Rattle.ill_mail.specs.Nights.{ExchangesAtFile, InboxAtFile, OutboxAtFi
 ghost use Rattle.ill_shelf.specs.Shelf.{IsFurther, RetiresAtFile, VisitsShelf, is_lines, retired_line, told_with};
 ghost use Rattle.ill_text.specs.Fault.{IsOpenFault};
 
-use crate::last_words::{load_mark, send_last_words};
-use crate::sorting::{MailsFrom, sort_mails};
 use crate::visit::{Visit, visit_all};
 use ill_commands::commands::{act_at, loan, new, slip};
 use ill_commands::letters::send_with;
@@ -25,13 +23,15 @@ use ill_files::shelf::{Shelf, is_retired, names_of_desks, own_path, refuse_retir
 use ill_key::Key;
 use ill_mail::backup::beat;
 use ill_mail::exchange::Outlet;
-use ill_mail::mail::{Incoming, names_in};
-use ill_mail::mail_box::remove_if_there;
-use ill_mail::places::{Places, look_at_places};
+use ill_mailbox::mail::{Incoming, names_in};
+use ill_mailbox::mail_box::remove_if_there;
+use ill_mailbox::places::{Places, look_at_places};
 use ill_night::night::Night;
 use ill_night::retire::run_desk_retire;
 use ill_saved::{Desk, FileStore, LockFiles, LockedDesk, RECORD_LIMIT, Role, Store};
 use ill_show::loan::LoanView;
+use ill_sorting::last_words::{load_mark, send_last_words};
+use ill_sorting::sorting::{MailsFrom, sort_mails};
 use ill_text::diary::Stamp;
 use ill_text::fault::{STORE_FAILED, ToolFault, graver};
 use ill_text::form::Form;

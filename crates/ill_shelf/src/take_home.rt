@@ -7,7 +7,6 @@ ghost use Rattle.ill_commands.specs.Streams.{streams_of};
 ghost use Rattle.ill_shelf.specs.Shelf.{TakesAtShelf, TakesAtHome};
 ghost use Rattle.ill_text.specs.Fault.{IsOpenFault};
 
-use crate::sorting::{Route, make_desk, route_of};
 use ill_commands::commands::{TakeView, take};
 use ill_der::{ApduView, BodyView, Handler, encode};
 use ill_files::home::home_at;
@@ -17,6 +16,7 @@ use ill_key::key_file::read_key;
 use ill_key::letter::open_letter;
 use ill_key::role::other_sender;
 use ill_saved::{DeskFault, LockFiles};
+use ill_sorting::sorting::{Route, make_desk, route_of};
 use ill_text::fault::ToolFault;
 use ill_text::input::{Counted, handle_input};
 use ill_values::OutOfMemory;

@@ -12,7 +12,7 @@ use ill_files::machine::Machine;
 use ill_key::Key;
 use ill_list::listed::{Listed, heading};
 use ill_mail::exchange::{Outlet, exchange, inbox, outbox};
-use ill_mail::mail::Incoming;
+use ill_mailbox::mail::Incoming;
 use ill_night::night::Night;
 use ill_saved::LockFiles;
 use ill_text::fault::{ToolFault, graver};

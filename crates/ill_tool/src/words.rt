@@ -24,7 +24,7 @@ use ill_key::key::key;
 use ill_line::guard::refuse_desk_of_shelf;
 use ill_line::request::{Call, Refusal, Request, read_words};
 use ill_mail::keyed::{exchange_with, inbox_with, outbox_with};
-use ill_mail::mail::Incoming;
+use ill_mailbox::mail::Incoming;
 use ill_night::night::Night;
 use ill_saved::{DeskFault, LockFiles};
 use ill_shelf::keyed::{exchange_of_shelf_with, inbox_of_shelf_with, outbox_of_shelf_with};

@@ -5,6 +5,7 @@ then the edit must name the functions that are to be refused. So a source that c
 """
 import os
 
+from ill.bodies import BODIES
 from ill.repository import full, libraries, read
 from ill.strength import contracts
 from ill.strength.edits import BadEdit, changed
@@ -38,13 +39,19 @@ def fault_of(edit, crate):
     return None if edit.refuses else "it changes no body, and names no function that must be refused"
 
 
+def faults_of_bodies():
+    """Returns the faults of the wrong bodies that a script refuses: an old text that does not stand once in its source."""
+    return [f"tools/ill/bodies.py: {name}: {file} has not once: {old}" for name, _, _, file, changes in BODIES
+            for old, _ in changes if read(full("crates", file)).count(old) != 1]
+
+
 def compare():
     """Returns the faults that were found, and how much was compared."""
-    faults, count = [], 0
+    faults, count = faults_of_bodies(), len(BODIES)
     for crate in libraries():
         for edit in edits_of(crate):
             count += 1
             fault = fault_of(edit, crate)
             if fault:
                 faults.append(f"strength: {crate}/{edit.name}: {fault}")
-    return faults, f"the {count} wrong bodies that the prover must refuse fit the sources that they change"
+    return faults, f"the {count} wrong bodies that the prover or a script must refuse fit the sources that they change"

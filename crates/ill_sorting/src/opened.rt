@@ -6,8 +6,7 @@
 
 ghost use Rattle.std.specs.Prelude.{◌≡◌, IfErr, IfOk};
 ghost use Rattle.ill_night.specs.Outbox.{PutsOne};
-ghost use Rattle.ill_shelf.specs.Opened.{message_mail, message_name};
-ghost use Rattle.ill_shelf.specs.Shelf.{opened_answer};
+ghost use Rattle.ill_sorting.specs.Opened.{message_mail, message_name, opened_answer};
 ghost use Rattle.ill_text.specs.Fault.{IsOpenFault};
 
 use ill_files::durable::flush;
@@ -16,12 +15,12 @@ use ill_files::open::lock;
 use ill_files::shelf::Shelf;
 use ill_key::Key;
 use ill_key::role::other_sender;
-use ill_mail::fault_lines::{NO_BOX, NO_RUN, NOT_READ};
-use ill_mail::host_room::remove_runs;
-use ill_mail::mail::{Mails, Opening, Source, begin_run, claim_mails};
-use ill_mail::mail_box::{MailBox, give_back, open_box, open_own_folder, remove_if_there};
-use ill_mail::mail_folder::MailFolder;
-use ill_mail::reserved::is_within;
+use ill_mailbox::fault_lines::{NO_BOX, NO_RUN, NOT_READ};
+use ill_mailbox::host_room::remove_runs;
+use ill_mailbox::mail::{Mails, Opening, Source, begin_run, claim_mails};
+use ill_mailbox::mail_box::{MailBox, give_back, open_box, open_own_folder, remove_if_there};
+use ill_mailbox::mail_folder::MailFolder;
+use ill_mailbox::reserved::is_within;
 use ill_night::outgoing::Outgoing;
 use ill_night::person::tell_person;
 use ill_night::verdict::{Mail, Unfit, Verdict, push_unfit};
@@ -49,7 +48,7 @@ const NOT_OPENED: &str = " is not opened, and stays among the letters that were 
 
 /// The result of the opening of letters.
 #[derive(Clone, Copy)]
-pub(crate) struct Opened {
+pub struct Opened {
     /// Set if a file waits for the next run.
     pub is_waiting: bool,
     /// Set if each file was a letter that the other library has sealed with the key.
@@ -57,7 +56,7 @@ pub(crate) struct Opened {
 }
 
 /// Returns the answer of letters that were opened.
-pub(crate) fn opened_answer(opened: Opened) -> Result<bool, ToolFault>
+pub fn opened_answer(opened: Opened) -> Result<bool, ToolFault>
     ensures { result ≡ opened_answer opened.is_waiting opened.are_sealed }
 {
     if opened.is_waiting {
@@ -68,7 +67,7 @@ pub(crate) fn opened_answer(opened: Opened) -> Result<bool, ToolFault>
 }
 
 /// Returns the path of the folder of the messages in the letters of `shelf`.
-pub(crate) fn opened_folder<T: Files>(
+pub fn opened_folder<T: Files>(
     rt: &T,
     alloc: Global,
     shelf: &Shelf<'_>,
@@ -83,7 +82,7 @@ pub(crate) fn opened_folder<T: Files>(
 
 /// The folders between which letters are opened.
 #[derive(Clone, Copy)]
-pub(crate) struct Unpacking<'a> {
+pub struct Unpacking<'a> {
     /// The folder to which the letters come.
     pub folder: &'a str,
     /// The key with which they are sealed.
@@ -94,7 +93,7 @@ pub(crate) struct Unpacking<'a> {
 
 /// Opens the letters that have come to `shelf`, and puts the messages in them into a folder. It writes a line to `errors`
 /// about each other file.
-pub(crate) fn open_letters<T: LockFiles, W: Write, E: Write>(
+pub fn open_letters<T: LockFiles, W: Write, E: Write>(
     machine: &mut Machine<'_, T, W, E>,
     shelf: &Shelf<'_>,
     unpacking: Unpacking<'_>,

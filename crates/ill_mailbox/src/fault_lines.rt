@@ -20,7 +20,7 @@ const NOT_SENT: &str = " is not written, so nothing more is sent";
 pub(crate) const NO_FOLDER: &str = " is no folder";
 
 /// Returns `sent`. If a mail could not be put into its folder, a line with its path goes to the errors.
-pub(crate) fn report_fault_of_mail<A: Drop, T: Files, W: Write, E: Write>(
+pub fn report_fault_of_mail<A: Drop, T: Files, W: Write, E: Write>(
     machine: &mut Machine<'_, T, W, E>,
     sent: Result<A, ToolFault>,
     out: &MailFolder<'_, '_, T>,

@@ -1,5 +1,7 @@
 -- The messages in letters that a shelf has opened (this profile's own).
-use Rattle.std.specs.Prelude.{ℕ, List, ◌++◌, take, codes}
+use Rattle.std.specs.Prelude.{ℕ, Bool, true, false, List, ◌++◌, take, codes, Result, Ok, Err}
+use Rattle.ill_text.specs.declared.fault.ToolFault.{ToolFault}
+use Rattle.ill_text.specs.declared.fault.ToolFault.TheVariants.{Left}
 use Rattle.sha2.specs.Sha256.{sha256}
 use Rattle.hex.specs.Hex.{encode_lower}
 use Rattle.ill_night.specs.Outbox.{Letter}
@@ -12,3 +14,9 @@ message_name message = codes "message-" ++ take 32 (encode_lower (sha256 message
 -- Returns the mail of a message that came in a letter. It has exactly the bytes of the message.
 abbrev pub message_mail : List ℕ → Letter
 message_mail message = record { name = message_name message; bytes = message }
+
+-- Returns the answer of letters that were opened: a file waits for the next run, or whether each file was a letter of the
+-- other library.
+abbrev pub opened_answer : (is_waiting are_sealed : Bool) → Result Bool ToolFault
+opened_answer true are_sealed = Err Left
+opened_answer false are_sealed = Ok are_sealed

@@ -1,6 +1,6 @@
 //! The room of a desk's mail in folders of the host's.
 
-ghost use Rattle.ill_mail.specs.HostRooms.{host_room};
+ghost use Rattle.ill_mailbox.specs.HostRoom.{host_room};
 
 use crate::mail::Mails;
 use crate::mail_box::{MailPaths, give_back, remove_if_there};
@@ -16,14 +16,14 @@ use std::rt::Files;
 use std::{fs, io};
 
 /// The text about the file of the messages that ask, after the path of the desk's file.
-pub(crate) const NOT_ASKED: &str = ".mail/asked cannot be read or written";
+pub const NOT_ASKED: &str = ".mail/asked cannot be read or written";
 
 /// The mails that a run has found in the folders of a desk. A mail that could not be claimed stays in its folder.
 ///
 /// No contract says what a folder of the host's has, so this room is not honest. docs/STORES.md says what each call does
 /// there.
 #[derive(Drop)]
-pub(crate) struct HostRoom<'r, 'a, T: Files> {
+pub struct HostRoom<'r, 'a, T: Files> {
     rt: &'r T,
     alloc: Global,
     place: MailPaths<'a>,
@@ -34,7 +34,7 @@ pub(crate) struct HostRoom<'r, 'a, T: Files> {
 
 impl<'r, 'a, T: Files> HostRoom<'r, 'a, T> {
     /// Returns the room of the mails `found` at `place`. If `is_telling` is set, it tells a person of mails.
-    pub(crate) fn at(
+    pub fn at(
         rt: &'r T,
         alloc: Global,
         place: MailPaths<'a>,

@@ -41,7 +41,7 @@ struct Misplaced<'a> {
 }
 
 /// Looks at the folder OUT of the desk in `file`. If it is no folder for mails, it writes a line to `errors`.
-pub(crate) fn look_at_out<T: Files, W: Write, E: Write>(
+pub fn look_at_out<T: Files, W: Write, E: Write>(
     machine: &mut Machine<'_, T, W, E>,
     file: &str,
     out: &str,

@@ -9,8 +9,8 @@ use ill_files::durable::error_of_store;
 use ill_files::machine::Machine;
 use ill_files::shelf::{Shelf, retired_path};
 use ill_mail::exchange::Outlet;
-use ill_mail::mail_box::asked_bytes;
 use ill_mail::sending::{SentAll, send_words};
+use ill_mailbox::mail_box::asked_bytes;
 use ill_night::retire::words_in;
 use ill_saved::{FileStore, RECORD_LIMIT, Store};
 use ill_text::fault::ToolFault;
@@ -21,7 +21,7 @@ use std::io::{self, Write};
 use std::rt::Files;
 
 /// Returns the bytes of the mark of the group of `desk`, if the group is retired.
-pub(crate) fn load_mark<T: Files>(
+pub fn load_mark<T: Files>(
     rt: &T,
     alloc: Global,
     desk: &str,
@@ -36,7 +36,7 @@ pub(crate) fn load_mark<T: Files>(
 
 /// The last words in the mark of a retired group.
 #[derive(Drop)]
-pub(crate) struct LastWords {
+pub struct LastWords {
     /// The path of the desk that the mark has replaced.
     desk: String,
     words: Vec<Apdu>,
@@ -44,7 +44,7 @@ pub(crate) struct LastWords {
 
 impl LastWords {
     /// Reads the mark of the group of `desk`. There are no last words if it is not retired.
-    pub(crate) fn read<T: Files>(rt: &T, alloc: Global, desk: &str) -> io::Result<LastWords> {
+    pub fn read<T: Files>(rt: &T, alloc: Global, desk: &str) -> io::Result<LastWords> {
         let words = match load_mark(rt, alloc, desk)? {
             Some(mark) => apdus_in(alloc, words_in(&mark))?,
             None => Vec::new(alloc),
@@ -54,12 +54,12 @@ impl LastWords {
     }
 
     /// Returns true if these are the last words of the group of `desk`.
-    pub(crate) fn is_of(&self, desk: &str) -> bool {
+    pub fn is_of(&self, desk: &str) -> bool {
         self.desk.as_str() == desk
     }
 
     /// Returns the last word of the loan of `message`, if there is one.
-    pub(crate) fn find(&self, alloc: Global, message: &ApduView<'_>) -> io::Result<Option<Apdu>> {
+    pub fn find(&self, alloc: Global, message: &ApduView<'_>) -> io::Result<Option<Apdu>> {
         for word in &self.words {
             let txn = &word.txn;
             if txn.group() == message.group() && txn.transaction() == message.transaction() {
@@ -71,7 +71,7 @@ impl LastWords {
 }
 
 /// Puts the last words that were asked for at `shelf` into the folder of `outlet`.
-pub(crate) fn send_last_words<T: Files, W: Write, E: Write>(
+pub fn send_last_words<T: Files, W: Write, E: Write>(
     machine: &mut Machine<'_, T, W, E>,
     shelf: &Shelf<'_>,
     outlet: Outlet<'_>,

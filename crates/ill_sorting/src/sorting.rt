@@ -5,7 +5,7 @@
 //! answers as a desk without the loan. It gets no message that would begin a loan.
 
 ghost use Rattle.std.specs.Prelude.{◌≡◌, IfErr};
-ghost use Rattle.ill_shelf.specs.Shelf.{route_of};
+ghost use Rattle.ill_sorting.specs.Sorting.{route_of};
 ghost use Rattle.ill_text.specs.Fault.{IsOpenFault};
 
 use crate::last_words::LastWords;
@@ -16,11 +16,11 @@ use ill_files::machine::Machine;
 use ill_files::open::lock;
 use ill_files::paths::{CAME, MAIL, RETIRED, path_of};
 use ill_files::shelf::{Shelf, names_of_desks, refuse_retired};
-use ill_mail::fault_lines::{NO_BOX, NO_RUN, NOT_READ};
-use ill_mail::host_room::remove_runs;
-use ill_mail::mail::{Mails, Source, begin_run, claim_mails, new_run};
-use ill_mail::mail_box::{MailBox, give_back, open_box, remove_if_there};
-use ill_mail::reserved::is_within;
+use ill_mailbox::fault_lines::{NO_BOX, NO_RUN, NOT_READ};
+use ill_mailbox::host_room::remove_runs;
+use ill_mailbox::mail::{Mails, Source, begin_run, claim_mails, new_run};
+use ill_mailbox::mail_box::{MailBox, give_back, open_box, remove_if_there};
+use ill_mailbox::reserved::is_within;
 use ill_night::inbox::message_in;
 use ill_night::verdict::Mail;
 use ill_saved::{DeskFault, FileStore, LockFiles, RECORD_LIMIT, Role};
@@ -38,7 +38,7 @@ const NEW_DESKS: usize = 16;
 
 /// The way of a mail.
 #[derive(Clone, Copy)]
-pub(crate) enum Route {
+pub enum Route {
     /// To the desk of its group.
     Home,
     /// To the desk of its group, which is made for it.
@@ -52,7 +52,7 @@ pub(crate) enum Route {
 }
 
 /// Returns the way of a mail.
-pub(crate) fn route_of(role: Role, home: Home, is_request: bool, has_room: bool) -> Route
+pub fn route_of(role: Role, home: Home, is_request: bool, has_room: bool) -> Route
     ensures { result ≡ route_of role home is_request has_room }
 {
     match (home, role) {
@@ -68,7 +68,7 @@ pub(crate) fn route_of(role: Role, home: Home, is_request: bool, has_room: bool)
 
 /// The folder from which a shelf takes its mails.
 #[derive(Clone, Copy)]
-pub(crate) struct MailsFrom<'a> {
+pub struct MailsFrom<'a> {
     /// Its path.
     pub folder: &'a str,
     /// Set if the shelf has put the mails there, which are messages in letters that it has opened.
@@ -78,7 +78,7 @@ pub(crate) struct MailsFrom<'a> {
 /// Sorts the mails of a folder to the desks of `shelf`. Returns true if a mail waits for the next run, or a desk is
 /// lost. It writes lines to `errors` about these, new desks, and mails of retired groups. `copies` is the folder that has
 /// copies of the desks, if the run makes any.
-pub(crate) fn sort_mails<T: LockFiles, W: Write, E: Write>(
+pub fn sort_mails<T: LockFiles, W: Write, E: Write>(
     machine: &mut Machine<'_, T, W, E>,
     shelf: &Shelf<'_>,
     from: MailsFrom<'_>,
@@ -526,7 +526,7 @@ impl<T: LockFiles> Sorting<'_, T> {
 }
 
 /// Makes the desk of a group at the path `desk`, unless the group is retired or the desk exists.
-pub(crate) fn make_desk<T: LockFiles>(
+pub fn make_desk<T: LockFiles>(
     rt: &T,
     alloc: Global,
     role: Role,

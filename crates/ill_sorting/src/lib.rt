@@ -1,0 +1,6 @@
+//! The mail that comes to a shelf: letters are opened, and each mail is sorted to the desk of its group.
+#![tactic(auto)]
+
+pub mod last_words;
+pub mod opened;
+pub mod sorting;

@@ -1,0 +1,43 @@
+"""Wrong bodies of functions that touch files, of which no contract knows. `tools/exchange` refuses programs with them."""
+
+# Each wrong body: its name, the attack that has to refuse it, the fault for which that happens, the file of
+# crates/ in which it is, and what is changed there. No contract says what these functions do to files.
+BODIES = [
+    ("in place", "a link that comes in out", "0 times in place of 1", "ill_mailbox/src/mail_folder.rt", [
+        ('let new = format!(in self.alloc; "{folder}/.{name}")?;', 'let new = format!(in self.alloc; "{folder}/{name}")?;')]),
+    ("from IN", "another thing in place of a mail", "0 times in place of 1", "ill_mailbox/src/mail.rt", [
+        ("    fs::rename(rt, path, file.as_str())?;\n    Ok(file)", "    Ok(String::from_str(alloc, path)?)")]),
+    ("takes links", "what is no mail", "the desk has a loan", "ill_mailbox/src/mail.rt", [
+        ("match fs::symlink_metadata(rt, path) {\n        Ok(found) if found.is_file() =>",
+         "match fs::metadata(rt, path) {\n        Ok(found) if found.is_file() =>")]),
+    ("waits", "another thing in place of a mail", "waits", "ill_mailbox/src/mail.rt", [
+        ("Ok(None) => {\n                return no_failure(give_back(rt, alloc, source.folder, file.as_str(), &name));\n            }",
+         "Ok(None) => first_bytes(rt, alloc, file.as_str(), 0),")]),
+    ("moves folders", "what is no mail", "it moves", "ill_mailbox/src/mail.rt", [("nlink() != 2)", "nlink() == 0)")]),
+    ("keeps what is no mail", "what is no mail", "something in in is gone", "ill_mailbox/src/mail.rt", [
+        ("return no_failure(give_back(rt, alloc, source.folder, file.as_str(), &name));", "return Ok(());")]),
+    ("all of it", "mails that are too long", "more than 362 bytes", "ill_mailbox/src/mail.rt", [
+        ("file.take(MOST.saturating_sub(count) as u64)\n            .read_to_end", "file.read_to_end")]),
+    ("in aside", "a link at in/aside", "carried", "ill_mailbox/src/host_room.rt", [
+        ("self.place\n            .mail_box\n            .put_aside(self.rt, file, digest.as_str(), &why)",
+         'fs::rename(self.rt, file, (format!(in self.alloc; "{}/aside/{}", self.place.folder, digest)?).as_str())')]),
+    ("through", "links in out", "is written", "ill_mailbox/src/mail_folder.rt", [
+        ("        let _ = fs::remove_file(self.rt, new.as_str());\n        let written", "        let written"),
+        ("    options.create_new(true);\n", "    options.create(true);\n    options.truncate(true);\n")]),
+    ("lets others in", "a folder of others", "begins", "ill_mailbox/src/mail_box.rt", [
+        ("if found.permissions().mode() & 0o077 == 0 {", "if found.is_dir() {")]),
+    ("gives back over", "a mail that stays", "what has come there is gone", "ill_mailbox/src/mail_box.rt", [
+        ("match fs::hard_link(rt, file, path.as_str()) {", "match fs::rename(rt, file, path.as_str()) {")]),
+    ("keeps who asked", "who asks", "is sent without end", "ill_mailbox/src/mail_box.rt", [
+        ("return remove_if_there(rt, path.as_str());", "return Ok(());")]),
+    ("first copy", "a clerk acts, with a copy", "copy.new is not called", "ill_mail/src/backup.rt", [
+        ("    let mut copy = FileStore::at(", "    if fs::symlink_metadata(rt, path).is_ok() {\n        return Ok(Copied::Done);\n    }\n"
+         "    let mut copy = FileStore::at(")]),
+    ("as they come", "names in another order", "out of step", "ill_mailbox/src/mail.rt", [("    mails.by_loan()\n}", "    Ok(mails)\n}")]),
+    ("over the desk", "a copy that is the desk", "status", "ill_mailbox/src/places.rt", [
+        ("        && is_one(rt, path, places.original)?\n", "        && path == places.original\n")]),
+    ("among its own", "folders of a desk", "is taken for a folder of mails", "ill_mailbox/src/reserved.rt", [
+        ("            || is_within_mail(rt, alloc, folder)?,", "            || (false && is_within_mail(rt, alloc, folder)?),")]),
+    ("as root", "root has run it", "belongs to", "ill_files/src/durable.rt", [
+        ("        let _ = lchown(rt, path, Some(self.user), Some(self.group));", "        let _ = lchown(rt, path, None, None);")]),
+]

@@ -656,7 +656,8 @@ The words of what a responder hears:
 With --since only what came on DAY or later is told. FILE.diary says on which
 day a message came, if the command that took it had --today. Told is all that
 stands after the last message of an earlier day. So a message without a day is
-told with those around it.
+told with those around it. A message that came on an earlier day, too, is not
+told again.
 
 With --last only the last N messages are told, 1 to 255. The last line counts
 the messages, and those of them that are shown.

@@ -1,16 +1,21 @@
 -- Proves which messages came since a day.
 use Rattle.std.proofs.Common.{◌≡◌, ℕ, ◌+◌, ◌-◌, Bool, true, false, cond, not, List, [], ◌∷◌, ◌++◌, ap, refl, sym, ◌∙◌, length}
 use Rattle.std.proofs.Common.{drop, take}
-use Rattle.std.proofs.Common.{append_assoc, arith, reverse, ◌&&◌, Some}
+use Rattle.std.proofs.Common.{append_assoc, arith, reverse, ◌&&◌, ◌≤◌, Option, None, Some, absurd, subst, true≢false}
+use Rattle.std.specs.Prelude.{bytes_eq, filter}
 use Rattle.std.specs.List.{after_last, list_any, prefix_len, suffix_len}
 use Rattle.std.proofs.Math.Seq.{drop-append_seam}
 use Rattle.std.proofs.lemmas.Bool.{or_parts}
-use Rattle.std.proofs.lemmas.List.{length-append, length-drop, length-reverse, reverse-append, take_all}
+use Rattle.std.proofs.lemmas.Slice.Eq.{bytes_eq-Decides}
+use Rattle.std.proofs.lemmas.List.Elements.{filter-append}
+use Rattle.std.proofs.lemmas.List.{drop-append-le, length-append, length-drop, length-reverse, reverse-append, take_all}
 use Rattle.std.proofs.lemmas.List.Folds.{list_any-append}
 use Rattle.ill_values.specs.Day.{Date}
 use Rattle.ill_values.specs.declared.apdu.Apdu.{Apdu}
-use Rattle.ill_list.specs.CameSince.{came_before, came_key, is_named_since, came_since}
-use Rattle.ill_show.specs.Diary.{is_named}
+use Rattle.ill_list.specs.CameSince.{came_before, came_key, came_since, is_named_before, is_named_since, is_new}
+use Rattle.ill_list.specs.CameSince.{says_before}
+use Rattle.ill_saved.specs.Ranges.{Each}
+use Rattle.ill_show.specs.Diary.{Said, has_key, is_named, said_by}
 
 -- The last items that pass a test go on before the last item, if it passes. Else there are none.
 pub suffix_last : {X : Type 0} (p : X → Bool) (before : List X) (x : X)
@@ -92,23 +97,57 @@ after_it f before x after passes none =
     ∙ ap (λ n. drop n (xs ++ after)) cut
     ∙ drop-append_seam xs after
 
--- All messages from `past` on are told, if the last ones that did not come before the day are as many.
+-- The last items that fail a test, and those behind them, are the last ones of all.
+fail_over : {X : Type 0} (f : X → Bool) (before after : List X) → list_any f before ≡ false
+    → prefix_len (λ x. not (f x)) (before ++ after) ≡ length before + prefix_len (λ x. not (f x)) after
+fail_over f [] after none = refl
+fail_over f (x ∷ before) after none =
+    let both = or_parts (f x) (list_any f before) none in
+    rw (both.0, fail_over f before after both.1) refl
+
+-- At most all items are the first ones that pass a test.
+few_first : {X : Type 0} (p : X → Bool) (xs : List X) → prefix_len p xs ≤ length xs
+few_first p [] = omega arith
+few_first p (x ∷ xs) = go (p x) (few_first p xs)
+  where
+    go : (passes : Bool) → prefix_len p xs ≤ length xs → cond passes (1 + prefix_len p xs) 0 ≤ 1 + length xs
+    go true few = omega (arith, few)
+    go false few = omega arith
+
+-- Items behind others that pass no test stay behind the last one that does.
+pub after_more : {X : Type 0} (f : X → Bool) (xs later : List X) → list_any f later ≡ false
+    → after_last f (xs ++ later) ≡ after_last f xs ++ later
+after_more f xs later none =
+    let fails = λ x. not (f x) in
+    let many : suffix_len fails (xs ++ later) ≡ length later + suffix_len fails xs =
+    ap (prefix_len fails) (reverse-append xs later)
+    ∙ fail_over f (reverse later) (reverse xs) (none_reversed f later none)
+    ∙ ap (λ n. n + suffix_len fails xs) (length-reverse later) in
+    let few : suffix_len fails xs ≤ length xs =
+    subst (λ n. suffix_len fails xs ≤ n) (length-reverse xs) (few_first fails (reverse xs)) in
+    let cut : length (xs ++ later) - suffix_len fails (xs ++ later) ≡ length xs - suffix_len fails xs =
+    omega (arith, many, few, length-append xs later) in
+    ap (λ n. drop n (xs ++ later)) cut ∙ drop-append-le (length xs - suffix_len fails xs) xs later (omega arith)
+
+-- The messages from `past` on are those after the last one that came before the day, if so many did not.
 pub told_from : (day : Date) (lines : List (List ℕ)) (came : List Apdu) (past : ℕ)
     → past + suffix_len (λ a. not (came_before day lines a)) came ≡ length came
-    → take (length came - past) (drop past came) ≡ came_since (Some day) lines came
+    → take (length came - past) (drop past came) ≡ after_last (came_before day lines) came
 told_from day lines came past is =
     let cut : past ≡ length came - suffix_len (λ a. not (came_before day lines a)) came = omega (arith, is) in
     take_all (length came - past) (drop past came) (omega (arith, length-drop past came)) ∙ ap (λ n. drop n came) cut
 
--- If no message came before the day, all are told.
+-- If no message came before the day, all that are no repeats are told.
 pub all_told : (day : Date) (lines : List (List ℕ)) (came : List Apdu) → list_any (came_before day lines) came ≡ false
-    → came_since (Some day) lines came ≡ came
-all_told day lines came none = all_after (came_before day lines) came none
+    → came_since (Some day) lines came ≡ filter (is_new day lines) came
+all_told day lines came none = ap (filter (is_new day lines)) (all_after (came_before day lines) came none)
 
--- Told is what came after the last message that came before the day.
+-- Told is what came after the last message that came before the day, but for repeats.
 pub later_told : (day : Date) (lines : List (List ℕ)) (came later : List Apdu) (a : Apdu) → came_before day lines a ≡ true
-    → list_any (came_before day lines) later ≡ false → came_since (Some day) lines (came ++ a ∷ later) ≡ later
-later_told day lines came later a before none = after_it (came_before day lines) came a later before none
+    → list_any (came_before day lines) later ≡ false
+    → came_since (Some day) lines (came ++ a ∷ later) ≡ filter (is_new day lines) later
+later_told day lines came later a before none =
+    ap (filter (is_new day lines)) (after_it (came_before day lines) came a later before none)
 
 -- A message that no line names did not come before the day.
 pub unnamed_told : (day : Date) (lines : List (List ℕ)) (a : Apdu) → is_named (came_key a) lines ≡ false
@@ -123,3 +162,64 @@ named_told day lines a named = go (is_named (came_key a) lines)
     go : (is : Bool) → (is && not (is_named_since day (came_key a) lines)) ≡ false
     go true = rw named refl
     go false = refl
+
+-- ---- repeats
+
+-- A text that no line names, no line of an earlier day names.
+unnamed_before : (day : Date) (key : List ℕ) (lines : List (List ℕ)) → is_named key lines ≡ false
+    → is_named_before day key lines ≡ false
+unnamed_before day key [] none = refl
+unnamed_before day key (line ∷ lines) none =
+    let both = or_parts (has_key key (said_by line)) (is_named key lines) none in
+    rw (go (said_by line) both.0, unnamed_before day key lines both.1) refl
+  where
+    go : (said : Option Said) → has_key key said ≡ false → says_before day key said ≡ false
+    go None none = refl
+    go (Some said) none = both_off (is_before said.day day) (bytes_eq said.message key) none
+
+    both_off : (one other : Bool) → other ≡ false → (one && other) ≡ false
+    both_off true other off = off
+    both_off false other off = refl
+
+-- No message that passes a test is among those that fail it.
+none_kept : {X : Type 0} (f p : X → Bool) (xs : List X) → ((x : X) → f x ≡ true → p x ≡ false)
+    → list_any f (filter p xs) ≡ false
+none_kept f p [] apart = refl
+none_kept f p (x ∷ xs) apart = go (p x) (f x) refl refl
+  where
+    go : (keeps is : Bool) → p x ≡ keeps → f x ≡ is → list_any f (cond keeps (x ∷ filter p xs) (filter p xs)) ≡ false
+    go false is kept one = none_kept f p xs apart
+    go true true kept one = absurd (true≢false (sym kept ∙ apart x one))
+    go true false kept one = rw (one, none_kept f p xs apart) refl
+
+-- What a line of an earlier day names is not told.
+pub no_repeat : (day : Date) (lines : List (List ℕ)) (came : List Apdu) (a : Apdu)
+    → is_named_before day (came_key a) lines ≡ true
+    → list_any (λ b. bytes_eq (came_key b) (came_key a)) (came_since (Some day) lines came) ≡ false
+no_repeat day lines came a named =
+    none_kept (λ b. bytes_eq (came_key b) (came_key a)) (is_new day lines) (after_last (came_before day lines) came)
+    (λ b same. ap not (ap (λ key. is_named_before day key lines) ((bytes_eq-Decides (came_key b) (came_key a)).0 same) ∙ named))
+
+-- If each of the messages is named by a line of the day or later, none came before.
+none_before_day : (day : Date) (lines : List (List ℕ)) (later : List Apdu)
+    → Each (λ b. is_named_since day (came_key b) lines ≡ true) later → list_any (came_before day lines) later ≡ false
+unfolding Each
+none_before_day day lines [] each = refl
+none_before_day day lines (b ∷ later) each =
+    rw (named_told day lines b each.0, none_before_day day lines later each.1) refl
+
+-- A message that no line names is told, whatever came again after it.
+pub not_hidden : (day : Date) (lines : List (List ℕ)) (came repeats : List Apdu) (a : Apdu) → is_named (came_key a) lines ≡ false
+    → Each (λ b. is_named_since day (came_key b) lines ≡ true) repeats
+    → (before after : List Apdu) × (came_since (Some day) lines (came ++ a ∷ repeats) ≡ before ++ a ∷ after)
+not_hidden day lines came repeats a unnamed each =
+    let none : list_any (came_before day lines) (a ∷ repeats) ≡ false =
+    rw (unnamed_told day lines a unnamed, none_before_day day lines repeats each) refl in
+    let kept : is_new day lines a ≡ true = ap not (unnamed_before day (came_key a) lines unnamed) in
+    let before = after_last (came_before day lines) came in (
+      filter (is_new day lines) before,
+      filter (is_new day lines) repeats,
+      ap (filter (is_new day lines)) (after_more (came_before day lines) came (a ∷ repeats) none)
+          ∙ filter-append (is_new day lines) before (a ∷ repeats)
+          ∙ ap (λ rest. filter (is_new day lines) before ++ rest) (rw kept refl),
+    )

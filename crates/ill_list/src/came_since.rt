@@ -1,10 +1,10 @@
 //! What came to a desk since a day, by its diary. The diary may lack a message, which then came when its neighbours did.
 
-ghost use Rattle.std.specs.Prelude.{◌≡◌, ◌+◌, not, length, map, IfOk, Some};
-ghost use Rattle.std.specs.List.{suffix_len};
+ghost use Rattle.std.specs.Prelude.{◌≡◌, ◌+◌, ◌++◌, ◌∷◌, [], not, filter, length, map, IfOk, OnOk, Some};
+ghost use Rattle.std.specs.List.{after_last, suffix_len};
 ghost use Rattle.ill_show.specs.FileLines.{lines_of};
 ghost use Rattle.ill_show.specs.Diary.{said_by};
-ghost use Rattle.ill_list.specs.CameSince.{came_before, came_key, is_named_since, says_since, came_since};
+ghost use Rattle.ill_list.specs.CameSince.{came_before, came_key, is_named_before, is_named_since, is_new, says_before, says_since, came_since};
 
 use ill_show::diary::{is_named, said_by};
 use ill_show::file_lines::FileLines;
@@ -26,33 +26,93 @@ pub struct Came<'a> {
 }
 
 impl Came<'_> {
-    /// Returns those of the messages `apdus` that are told: all after the last one that came before the day.
+    /// Returns those of the messages `apdus` that are told: those that came on the day or later, or all without a day.
     pub(crate) fn told<'b>(
         &self,
         alloc: Global,
         apdus: &'b [Apdu],
-    ) -> Result<&'b [Apdu], OutOfMemory>
-        ensures { IfOk result (λ told. told.now ≡ came_since self.now.since (lines_of self.now.diary.now) apdus.now) }
+    ) -> Result<Vec<&'b Apdu>, OutOfMemory>
+        ensures { IfOk result (λ told. map (λ a. a.now) told.items
+            ≡ came_since self.now.since (lines_of self.now.diary.now) apdus.now) }
     {
         match self.since {
-            None => Ok(apdus),
+            None => all_of(alloc, apdus),
             Some(day) => later(alloc, day, self.diary.lines(), apdus),
         }
     }
 }
 
-/// Returns the messages of `apdus` after the last one that came before `day`.
-#[tactic(auto, using(crate::proofs::CameSinceLemmas::told_from))]
+/// Returns references to all of the messages `apdus`.
+fn all_of<'a>(alloc: Global, apdus: &'a [Apdu]) -> Result<Vec<&'a Apdu>, OutOfMemory>
+    ensures { IfOk result (λ all. map (λ a. a.now) all.items ≡ apdus.now) }
+{
+    let mut all = Vec::new(alloc);
+    for apdu in apdus {
+        all.push(apdu)?;
+    }
+    Ok(all)
+}
+
+/// Returns those of the messages `apdus` that came on `day` or later, by the lines of a diary.
 pub(crate) fn later<'a>(
     alloc: Global,
     day: Day,
     lines: &[Vec<u8>],
     apdus: &'a [Apdu],
+) -> Result<Vec<&'a Apdu>, OutOfMemory>
+    ensures { IfOk result (λ told. map (λ a. a.now) told.items
+        ≡ came_since (Some day) (map (λ line. line.items) lines.now) apdus.now) }
+{
+    let end = end_of(alloc, day, lines, apdus)?;
+    new_of(alloc, day, lines, end)
+}
+
+/// Returns the messages of `apdus` after the last one that came before `day`.
+#[tactic(auto, using(crate::proofs::CameSinceLemmas::told_from))]
+fn end_of<'a>(
+    alloc: Global,
+    day: Day,
+    lines: &[Vec<u8>],
+    apdus: &'a [Apdu],
 ) -> Result<&'a [Apdu], OutOfMemory>
-    ensures { IfOk result (λ told. told.now ≡ came_since (Some day) (map (λ line. line.items) lines.now) apdus.now) }
+    ensures { IfOk result (λ end. end.now
+        ≡ after_last (came_before day (map (λ line. line.items) lines.now)) apdus.now) }
 {
     let past = past_of(alloc, day, lines, apdus)?;
     Ok(&apdus[past..])
+}
+
+/// Returns those of the messages `apdus` that no line of an earlier day than `day` names, in their order.
+fn new_of<'a>(
+    alloc: Global,
+    day: Day,
+    lines: &[Vec<u8>],
+    apdus: &'a [Apdu],
+) -> Result<Vec<&'a Apdu>, OutOfMemory>
+    ensures { IfOk result (λ new. map (λ a. a.now) new.items
+        ≡ filter (is_new day (map (λ line. line.items) lines.now)) apdus.now) }
+{
+    let mut new = Vec::new(alloc);
+    for apdu in apdus {
+        push_if_new(&mut new, day, lines, apdu)?;
+    }
+    Ok(new)
+}
+
+/// Appends the message `apdu` to `new`, if no line of an earlier day than `day` names it.
+fn push_if_new<'a>(
+    new: &mut Vec<&'a Apdu>,
+    day: Day,
+    lines: &[Vec<u8>],
+    apdu: &'a Apdu,
+) -> Result<(), OutOfMemory>
+    ensures { OnOk result (map (λ a. a.now) new.new.items ≡ map (λ a. a.now) new.old.items
+        ++ filter (is_new day (map (λ line. line.items) lines.now)) (apdu.now ∷ [])) }
+{
+    if is_new(*new.allocator(), day, lines, apdu)? {
+        new.push(apdu)?;
+    }
+    Ok(())
 }
 
 /// Returns the number of messages up to the last one of `apdus` that came before `day`.
@@ -79,6 +139,14 @@ fn came_before(alloc: Global, day: Day, lines: &[Vec<u8>], apdu: &Apdu) -> Resul
     Ok(is_named(&key, lines) && !is_named_since(day, &key, lines))
 }
 
+/// Returns true if no line of an earlier day than `day` names the message `apdu`.
+fn is_new(alloc: Global, day: Day, lines: &[Vec<u8>], apdu: &Apdu) -> Result<bool, OutOfMemory>
+    ensures { IfOk result (λ is. is ≡ is_new day (map (λ line. line.items) lines.now) apdu.now) }
+{
+    let key = came_key(alloc, apdu)?;
+    Ok(!is_named_before(day, &key, lines))
+}
+
 /// Returns the key by which a diary names the message `apdu`, which came.
 fn came_key(alloc: Global, apdu: &Apdu) -> Result<Vec<u8>, OutOfMemory>
     ensures { IfOk result (λ key. key.items ≡ came_key apdu.now) }
@@ -100,6 +168,23 @@ fn says_since(day: Day, key: &[u8], line: &[u8]) -> bool
 {
     match said_by(line) {
         Some(entry) => !(entry.day < day) && entry.message.as_bytes() == key,
+        None => false,
+    }
+}
+
+/// Returns true if one of `lines`, of an earlier day than `day`, names the message with the key `key`.
+fn is_named_before(day: Day, key: &[u8], lines: &[Vec<u8>]) -> bool
+    ensures { result ≡ is_named_before day key.now (map (λ line. line.items) lines.now) }
+{
+    lines.iter().any(|line| says_before(day, key, line))
+}
+
+/// Returns true if `line` is of an earlier day than `day`, and names the message with the key `key`.
+fn says_before(day: Day, key: &[u8], line: &[u8]) -> bool
+    ensures { result ≡ says_before day key.now (said_by line.now) }
+{
+    match said_by(line) {
+        Some(entry) => entry.day < day && entry.message.as_bytes() == key,
         None => false,
     }
 }

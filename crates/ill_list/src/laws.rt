@@ -1,11 +1,12 @@
 //! States the laws of what came to a desk, and of lists without days, as contracts of functions that do nothing.
 
-ghost use Rattle.std.specs.Prelude.{◌≡◌, ◌++◌, ◌∷◌, ◌&&◌, ℕ, Bool, true, false, find, List, Option, Some};
+ghost use Rattle.std.specs.Prelude.{◌≡◌, ◌++◌, ◌∷◌, ◌&&◌, ℕ, Bool, true, false, bytes_eq, filter, find, List, Option, Some};
 ghost use Rattle.std.specs.List.{list_any};
 ghost use Rattle.ill_values.specs.Day.{Date};
 ghost use Rattle.ill_values.specs.declared.apdu.Apdu.{Apdu};
 ghost use Rattle.ill_saved.specs.declared.side.Side.{Side};
-ghost use Rattle.ill_list.specs.CameSince.{came_before, came_key, came_since, is_named_since};
+ghost use Rattle.ill_list.specs.CameSince.{came_before, came_key, came_since, is_named_before, is_named_since, is_new};
+ghost use Rattle.ill_saved.specs.Ranges.{Each};
 ghost use Rattle.ill_show.specs.Diary.{is_named};
 ghost use Rattle.ill_show.specs.Since.{AnnexRead, notes_alone};
 ghost use Rattle.ill_list.specs.Listing.{listed_desk};
@@ -28,19 +29,36 @@ pub fn nothing_else_is_news()
         list_any (λ b. is_same b a && heard_at sides b) came ≡ true }
 {}
 
-/// What came since a day is told: all after the last message that came before, or all if none did. A message came before if
-/// a line of the diary names it, and no line of the day or later does.
+/// What came since a day is told, but for repeats: all after the last message that came before, or all if none did. A
+/// message came before if a line of the diary names it, and no line of the day or later does.
 #[tactic(auto, using(crate::proofs::CameSinceLemmas::all_told, crate::proofs::CameSinceLemmas::later_told, crate::proofs::CameSinceLemmas::unnamed_told, crate::proofs::CameSinceLemmas::named_told))]
 pub fn what_came_since_is_told()
     ensures all { (day : Date) (lines : List (List ℕ)) (came : List Apdu) →
-        list_any (came_before day lines) came ≡ false → came_since (Some day) lines came ≡ came }
+        list_any (came_before day lines) came ≡ false →
+        came_since (Some day) lines came ≡ filter (is_new day lines) came }
     ensures later { (day : Date) (lines : List (List ℕ)) (came later : List Apdu) (a : Apdu) →
         came_before day lines a ≡ true → list_any (came_before day lines) later ≡ false →
-        came_since (Some day) lines (came ++ a ∷ later) ≡ later }
+        came_since (Some day) lines (came ++ a ∷ later) ≡ filter (is_new day lines) later }
     ensures unnamed { (day : Date) (lines : List (List ℕ)) (a : Apdu) → is_named (came_key a) lines ≡ false →
         came_before day lines a ≡ false }
     ensures named { (day : Date) (lines : List (List ℕ)) (a : Apdu) → is_named_since day (came_key a) lines ≡ true →
         came_before day lines a ≡ false }
+{}
+
+/// No repeat is told: a message that a line of an earlier day names is not among what came since the day.
+#[tactic(auto, using(crate::proofs::CameSinceLemmas::no_repeat))]
+pub fn no_repeat_is_news()
+    ensures { (day : Date) (lines : List (List ℕ)) (came : List Apdu) (a : Apdu) →
+        is_named_before day (came_key a) lines ≡ true →
+        list_any (λ b. bytes_eq (came_key b) (came_key a)) (came_since (Some day) lines came) ≡ false }
+{}
+
+/// No repeat hides news: a message that no line names is told, whatever came again after it on the day or later.
+#[tactic(auto, using(crate::proofs::CameSinceLemmas::not_hidden))]
+pub fn no_repeat_hides_news()
+    ensures { (day : Date) (lines : List (List ℕ)) (came repeats : List Apdu) (a : Apdu) →
+        is_named (came_key a) lines ≡ false → Each (λ b. is_named_since day (came_key b) lines ≡ true) repeats →
+        (before after : List Apdu) × (came_since (Some day) lines (came ++ a ∷ repeats) ≡ before ++ a ∷ after) }
 {}
 
 /// Lines of a list without days do not depend on the diary, nor on the messages that came, but for the news that are told.

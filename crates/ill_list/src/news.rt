@@ -1,6 +1,6 @@
 //! The command `news`.
 
-ghost use Rattle.std.specs.Prelude.{◌≡◌, [], ◌++◌, option_map, option_copied, IfOk, OnOk};
+ghost use Rattle.std.specs.Prelude.{◌≡◌, [], ◌++◌, map, option_map, option_copied, IfOk, OnOk};
 ghost use Rattle.std.specs.List.{flat_map};
 ghost use Rattle.ill_saved.specs.ManySides.{sides_held};
 ghost use Rattle.ill_text.specs.Json.{joined, member, optional, quoted, value_text};
@@ -85,7 +85,7 @@ fn text_of_news(
 {
     let apdus = apdus_in(alloc, came.bytes)?;
     let told = came.told(alloc, &apdus)?;
-    let news = news_of(alloc, sides, told)?;
+    let news = news_of(alloc, sides, &told)?;
     desk_text(alloc, sides, listed, came.last, &news)
 }
 
@@ -104,14 +104,14 @@ pub fn news_since(
         None => Ok(None),
         Some(day) => {
             let came = later(alloc, day, annex.diary.lines(), &annex.came)?;
-            Ok(Some(news_of(alloc, sides, came)?))
+            Ok(Some(news_of(alloc, sides, &came)?))
         }
     }
 }
 
 /// Returns the messages in `came` that a side of `sides` has taken, each once.
-fn news_of(alloc: Global, sides: &Sides, came: &[Apdu]) -> Result<Vec<Apdu>, OutOfMemory>
-    ensures { IfOk result (λ news. news.items ≡ news_of sides.now.sides came.now) }
+fn news_of(alloc: Global, sides: &Sides, came: &[&Apdu]) -> Result<Vec<Apdu>, OutOfMemory>
+    ensures { IfOk result (λ news. news.items ≡ news_of sides.now.sides (map (λ a. a.now) came.now)) }
 {
     let mut news = Vec::new(alloc);
     for apdu in came {

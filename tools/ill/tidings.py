@@ -1,4 +1,4 @@
-"""What came to a desk, as `ill news` writes it, in the words of its help. The sources have no part in it.
+"""The news of a desk, as `ill news` writes them, in the words of its help. The sources have no part in it.
 
 A side of the model tells which messages it has taken. So nothing here asks a record whether it shows a message.
 """
@@ -6,9 +6,12 @@ import functools
 import re
 
 from ill.der import spelled
+from ill.model import RESPONDER
 from ill.screen import shown
 from ill.texts import news
 
+# What dates make due at a responder, with the verbs by which a diary names it.
+DUE = {"Overdue": "overdue", "Expired": "expire"}
 # What the help says after a type whose date may be missing.
 DATED = {"ILL-Request": " with an expiry day", "Renew": " with a wished day"}
 
@@ -30,7 +33,9 @@ def column(text):
 
 
 def words_of(side, apdu):
-    """Returns the words of a message that a side has taken."""
+    """Returns the words of a message in the news of the loan of a side."""
+    if is_own(side, apdu):
+        return table()[apdu["apdu"] + news.OWN]
     answer = {None: "", True: " yes", False: " no"}[apdu.get("reply")]
     name, date = apdu["apdu"] + (f" {apdu['result']}" if "result" in apdu else answer), apdu.get("date")
     if name == "Renew-Answer no":
@@ -40,31 +45,50 @@ def words_of(side, apdu):
     return table()[name].replace("DAY", iso(date) or "")
 
 
+def is_own(side, apdu):
+    """Returns True if a date has made a message of the side itself due."""
+    return side.role == RESPONDER and apdu["apdu"] in DUE
+
+
 def came_bytes(sides):
     """Returns the bytes of all that came to these sides."""
     return b"".join(spelled(side.txn, apdu) for side in sides for apdu in side.came)
 
 
 class Since:
-    """A day since which news are told, and the days of some messages, by their transactions and numbers."""
+    """A day since which news are told. `days` has the days of the lines that name a message, by its transaction, the word for it
+    and its number. `again` has what came once more after all else."""
 
-    def __init__(self, day, days):
-        self.day, self.days = day, days
+    def __init__(self, day, days, again=()):
+        self.day, self.days, self.again = day, days, list(again)
 
-    def day_of(self, side, apdu):
-        """Returns the day of a message, or the day itself if it has none."""
-        return self.days.get((tuple(side.txn), apdu["number"]), self.day)
+    def days_of(self, side, apdu):
+        """Returns the days of the lines that name a message."""
+        what = DUE[apdu["apdu"]] if is_own(side, apdu) else apdu["apdu"]
+        return self.days.get((tuple(side.txn), what, apdu["number"]), [])
 
-    def of(self, messages):
-        """Returns the messages after the last one of an earlier day."""
-        older = [place for place, message in enumerate(messages) if self.day_of(*message) < self.day]
-        return messages[older[-1] + 1:] if older else messages
+    def is_older(self, message):
+        """Returns True if only earlier lines name a message."""
+        return max(self.days_of(*message), default=self.day) < self.day
+
+    def is_new(self, message):
+        """Returns True if no earlier line names a message."""
+        return min(self.days_of(*message), default=self.day) >= self.day
+
+    def of(self, sides, messages):
+        """Returns what is new after the last message that is older, each once, and then what dates have made due."""
+        came = messages + self.again
+        older = [place for place, message in enumerate(came) if self.is_older(message)]
+        news = filter(self.is_new, came[older[-1] + 1:] if older else came)
+        own = [(side, apdu) for side in sides for apdu in side.issued if is_own(side, apdu)]
+        return [*{(tuple(side.txn), apdu["number"]): (side, apdu) for side, apdu in news}.values(),
+                *(message for message in own if self.days_of(*message) and self.is_new(message))]
 
 
 def told(sides, last=None, since=None):
     """Returns what is told: of each message its side and itself, and how many there are in all."""
     all_of = [(side, apdu) for side in sides for apdu in side.came]
-    all_of = since.of(all_of) if since else all_of
+    all_of = since.of(sides, all_of) if since else all_of
     return all_of[-last:] if last else all_of, len(all_of)
 
 

@@ -30,9 +30,9 @@ use Rattle.ill_show.specs.Verify.{VerifiesLoaded}
 use Rattle.ill_list.specs.declared.wanted.Wanted.{Wanted}
 use Rattle.ill_list.specs.Listing.{between, listed_desk}
 use Rattle.ill_show.specs.ItemLine.{item_line}
-use Rattle.ill_list.specs.News.{WritesNews, news_text}
+use Rattle.ill_list.specs.News.{WritesNews, news_desk}
 use Rattle.ill_show.specs.ItemLine.{item_of}
-use Rattle.ill_list.specs.CameSince.{came_since, news_since}
+use Rattle.ill_list.specs.Told.{news_since, told_since}
 use Rattle.ill_show.specs.Since.{AnnexRead}
 use Rattle.ill_list.specs.Report.{Part, gravest_part, report_page}
 use Rattle.ill_text.specs.declared.form.Form.{Form}
@@ -100,14 +100,15 @@ ListsDesk form wanted find is_headed is_first stop =
     (between form is_first ++ listed_desk form is_headed wanted (record { find = find; annex = annex }) stop.path sides))
     stop.answer)
 
--- What came to a desk since the day, if one is given, was told in a visit, as `news_text` does. If `is_first`, no desk is
+-- What came to a desk since the day, if one is given, was told in a visit, as `news_desk` does. If `is_first`, no desk is
 -- before it. Or a file could not be opened, and nothing was written.
 abbrev pub TellsDesk : Form → Option ℕ → (since : Option Date) → (is_headed is_first : Bool) → Stop → Type 0
 TellsDesk form last since is_headed is_first stop =
     FailsToOpen stop.before stop.after stop.answer
     ⊎ ((sides : List Side) × (came : List ℕ) × (lines : List (List ℕ))
     × GoesWell (WritesNews (λ apdus. between form is_first
-    ++ news_text form is_headed last stop.path sides (came_since since lines apdus)) came stop.before stop.after) stop.answer)
+    ++ news_desk form is_headed last stop.path sides (told_since since lines sides apdus)) came stop.before stop.after)
+        stop.answer)
 
 -- The figures of a desk were written in a visit, by its diary and by what came. Or a file could not be opened, and nothing was
 -- written.

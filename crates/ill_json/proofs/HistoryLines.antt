@@ -113,7 +113,7 @@ taken_are (a ∷ apdus) each =
     (record { what = type_printable (type_of a.body); number = each.0.number }, taken_are apdus each.1)
 
 -- If each item of a list has a property, so has each item that is kept.
-filter_each : {X : Type 0} (P : X → Type 0) (keeps : X → Bool) (xs : List X) → Each P xs → Each P (filter keeps xs)
+pub filter_each : {X : Type 0} (P : X → Type 0) (keeps : X → Bool) (xs : List X) → Each P xs → Each P (filter keeps xs)
 unfolding Each
 filter_each P keeps [] each = tt
 filter_each P keeps (x ∷ xs) each = go (keeps x) (filter_each P keeps xs each.1)

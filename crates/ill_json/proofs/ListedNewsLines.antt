@@ -1,19 +1,18 @@
 -- Proves that the field of the news of a listed loan is read.
 use Rattle.std.proofs.Common.{Bool, true, false, cond, not, ◌&&◌, List, [], ◌∷◌, ◌++◌, fold, Option, Some, None, refl}
 use Rattle.std.proofs.Common.{IfSome}
-use Rattle.ill_values.specs.Day.{Date}
 use Rattle.ill_values.specs.TxnId.{Qualifiers}
 use Rattle.ill_values.specs.declared.apdu.Apdu.{Apdu}
 use Rattle.ill_values.specs.Apdu.{IsApdu}
 use Rattle.ill_core.specs.Issued.{is_same_txn}
 use Rattle.ill_saved.specs.declared.side.Side.{Side}
-use Rattle.ill_saved.specs.Side.{due_date_of, txn_of}
+use Rattle.ill_saved.specs.Side.{txn_of}
 use Rattle.ill_saved.specs.Ranges.{Each}
 use Rattle.ill_text.specs.Json.{optional}
 use Rattle.ill_show.specs.Kept.{is_among, kept_of, with_new}
 use Rattle.ill_list.specs.ListedNews.{heard_array, heard_fields, heard_object, listed_news_fields}
 use Rattle.ill_json.proofs.Fields.{array_value, field_reads, optional_value, text_value}
-use Rattle.ill_json.proofs.NewsTexts.{words_utf8}
+use Rattle.ill_json.proofs.NewsTexts.{told_utf8}
 use Rattle.ill_json.proofs.Sides.{each_append, message_number}
 use Rattle.ill_json.proofs.Values.{FieldReads, HasValue, object_reads}
 
@@ -30,30 +29,30 @@ kept_each P txn kept (a ∷ came) so_far each =
     go false = so_far
 
 -- The fields of a message are read.
-heard_reads : (due : Option Date) (a : Apdu) → IsApdu a → Each (FieldReads 0) (heard_fields due a)
+heard_reads : (side : Side) (a : Apdu) → IsApdu a → Each (FieldReads 0) (heard_fields side a)
 unfolding Each
-heard_reads due a is = (
+heard_reads side a is = (
   field_reads 0 _ _ refl (message_number 0 a.number is.number),
-  (field_reads 0 _ _ refl (text_value 0 _ (words_utf8 due a.body)), tt),
+  (field_reads 0 _ _ refl (text_value 0 _ (told_utf8 side a.body)), tt),
 )
 
 -- The objects of messages have values.
-heard_values : (due : Option Date) (apdus : List Apdu) → Each IsApdu apdus → Each (λ a. HasValue 1 (heard_object due a)) apdus
+heard_values : (side : Side) (apdus : List Apdu) → Each IsApdu apdus → Each (λ a. HasValue 1 (heard_object side a)) apdus
 unfolding Each
-heard_values due [] each = tt
-heard_values due (a ∷ apdus) each = (
-  record { value = _; reads = object_reads 0 (heard_fields due a) (heard_reads due a each.0) refl },
-  heard_values due apdus each.1,
+heard_values side [] each = tt
+heard_values side (a ∷ apdus) each = (
+  record { value = _; reads = object_reads 0 (heard_fields side a) (heard_reads side a each.0) refl },
+  heard_values side apdus each.1,
 )
 
 -- An array of messages, if there is one, has a value.
 news_has : (side : Side) (news : Option (List Apdu)) → IfSome news (Each IsApdu)
-    → HasValue 2 (optional (λ told. heard_array (due_date_of side) (kept_of (txn_of side) told)) news)
+    → HasValue 2 (optional (λ told. heard_array side (kept_of (txn_of side) told)) news)
 unfolding Each
-news_has side None told = optional_value 2 (λ told. heard_array (due_date_of side) (kept_of (txn_of side) told)) None tt
+news_has side None told = optional_value 2 (λ told. heard_array side (kept_of (txn_of side) told)) None tt
 news_has side (Some news) told =
-    array_value 1 (heard_object (due_date_of side)) (kept_of (txn_of side) news)
-    (heard_values (due_date_of side) (kept_of (txn_of side) news) (kept_each IsApdu (txn_of side) [] news tt told))
+    array_value 1 (heard_object side) (kept_of (txn_of side) news)
+    (heard_values side (kept_of (txn_of side) news) (kept_each IsApdu (txn_of side) [] news tt told))
 
 -- The field of the news of a loan is read.
 pub listed_news_reads : (news : Option (List Apdu)) (side : Side) → IfSome news (Each IsApdu)

@@ -2,11 +2,13 @@
 use Rattle.std.proofs.Common.{ℕ, zero, suc, ◌-◌, Bool, true, false, cond, not, ◌&&◌, List, [], ◌∷◌, ◌++◌, drop, fold, length}
 use Rattle.std.proofs.Common.{map}
 use Rattle.std.proofs.Common.{Option, Some, None, IsUtf8, IfSome}
+use Rattle.ill_values.specs.Day.{Date}
 use Rattle.ill_values.specs.TxnId.{Qualifiers}
 use Rattle.ill_values.specs.declared.apdu.Apdu.{Apdu}
 use Rattle.ill_values.specs.Apdu.{IsApdu}
 use Rattle.ill_core.specs.Issued.{is_same_txn}
 use Rattle.ill_saved.specs.declared.side.Side.{Side}
+use Rattle.ill_saved.specs.declared.side.Side.TheVariants as sides
 use Rattle.ill_saved.specs.Side.{txn_of}
 use Rattle.ill_saved.specs.Ranges.{Each, IsSide}
 use Rattle.ill_saved.specs.RecordsV2.{AreSides}
@@ -14,12 +16,17 @@ use Rattle.ill_saved.specs.Sides.{SidesOf, found_by, side_with}
 use Rattle.ill_text.specs.declared.form.Form.TheVariants as forms
 use Rattle.ill_text.specs.ApduObject.{object_line}
 use Rattle.ill_list.specs.Listing.{between, file_told}
-use Rattle.ill_list.specs.News.{heard_at, is_told, last_of, news_fields, news_of, news_objects, news_text, with_news, words_at}
+use Rattle.ill_list.specs.News.{heard_at, is_told, last_of, news_desk, news_fields, news_of, news_objects, with_news}
+use Rattle.ill_list.specs.News.{words_at}
+use Rattle.ill_list.specs.CameSince.{came_since, is_new}
+use Rattle.ill_list.specs.Deeds.{deeds_at, deeds_since, is_deed_since}
+use Rattle.ill_list.specs.Told.{told_since}
 use Rattle.ill_list.specs.ListObjects.{file_fields}
 use Rattle.ill_json.specs.Lines.{fields_of_news}
 use Rattle.ill_json.specs.Objects.{AreObjectLines, IsObjectLine}
+use Rattle.ill_json.proofs.HistoryLines.{filter_each}
 use Rattle.ill_json.proofs.LineLemmas.{line_is, lines_each}
-use Rattle.ill_json.proofs.NewsTexts.{words_utf8}
+use Rattle.ill_json.proofs.NewsTexts.{words_by_utf8}
 use Rattle.ill_json.proofs.Sides.{each_append, file_reads, news_apart, told_reads}
 use Rattle.ill_json.proofs.Values.{FieldReads}
 
@@ -61,16 +68,16 @@ last_each P (Some count) news each = dropped_each P (length news - count) news e
 
 -- ---- lines
 
--- The line of a message that came is an object line.
+-- The line of a message is an object line.
 news_line : (file : Option (List ℕ)) (sides : List Side) (a : Apdu) → IfSome file IsUtf8 → Each IsSide sides → IsApdu a
     → IsObjectLine (object_line (fields_of_news file sides a)) (fields_of_news file sides a)
 news_line file sides a u each is =
     line_is (fields_of_news file sides a)
     (each_append (FieldReads 2) (news_fields sides a) (file_fields file)
-    (told_reads (side_with a.txn sides) (words_at sides a) a (found_each IsSide a.txn sides each) (words_utf8 _ a.body) is)
+    (told_reads (side_with a.txn sides) (words_at sides a) a (found_each IsSide a.txn sides each) (words_by_utf8 _ a.body) is)
     (file_reads file u)) (news_apart file sides a)
 
--- The objects of messages that came are object lines.
+-- The objects of messages are object lines.
 objects_are : (file : Option (List ℕ)) (sides : List Side) (shown : List Apdu) → IfSome file IsUtf8 → Each IsSide sides
     → Each IsApdu shown → AreObjectLines (news_objects file sides shown) (map (fields_of_news file sides) shown)
 unfolding Each
@@ -82,14 +89,44 @@ objects_are file sides shown u each are = lines_each (fields_of_news file sides)
     go (a ∷ shown) are = (news_line file sides a u each are.0, go shown are.1)
 
 -- The text of `news` is object lines, at the first desk and at others, with its path and without it.
-pub news_are : (is_first is_headed : Bool) (last : Option ℕ) (path : List ℕ) (held : SidesOf) (came : List Apdu) → IsUtf8 path
-    → AreSides held → Each IsApdu came
-    → AreObjectLines (between forms.Json is_first ++ news_text forms.Json is_headed last path held.sides came)
-    (map (fields_of_news (file_told is_headed path) held.sides) (last_of last (news_of held.sides came)))
+pub news_are : (is_first is_headed : Bool) (last : Option ℕ) (path : List ℕ) (held : SidesOf) (news : List Apdu) → IsUtf8 path
+    → AreSides held → Each IsApdu news
+    → AreObjectLines (between forms.Json is_first ++ news_desk forms.Json is_headed last path held.sides news)
+    (map (fields_of_news (file_told is_headed path) held.sides) (last_of last news))
+news_are is_first false last path held news u are each =
+    objects_are None held.sides (last_of last news) tt are.each (last_each IsApdu last news each)
+news_are is_first true last path held news u are each =
+    objects_are (Some path) held.sides (last_of last news) u are.each (last_each IsApdu last news each)
+
+-- ---- what is told
+
+-- What came since a day are messages.
+since_each : (since : Option Date) (lines : List (List ℕ)) (came : List Apdu) → Each IsApdu came
+    → Each IsApdu (came_since since lines came)
+since_each None lines came each = each
+since_each (Some day) lines came each = filter_each IsApdu (is_new day lines) _ (dropped_each IsApdu _ came each)
+
+-- What dates have made due at a side are messages.
+deeds_at_each : (day : Date) (lines : List (List ℕ)) (side : Side) → IsSide side → Each IsApdu (deeds_at day lines side)
 unfolding Each
-news_are is_first false last path held came u are each =
-    objects_are None held.sides (last_of last (news_of held.sides came)) tt are.each
-    (last_each IsApdu last _ (news_each IsApdu held.sides [] came tt each))
-news_are is_first true last path held came u are each =
-    objects_are (Some path) held.sides (last_of last (news_of held.sides came)) u are.each
-    (last_each IsApdu last _ (news_each IsApdu held.sides [] came tt each))
+deeds_at_each day lines (sides.Requester x) is = tt
+deeds_at_each day lines (sides.Responder y) is = filter_each IsApdu (is_deed_since day lines) y.issued is.1.issued
+
+-- What dates have made due at a desk are messages.
+deeds_each : (since : Option Date) (lines : List (List ℕ)) (sides : List Side) → Each IsSide sides
+    → Each IsApdu (deeds_since since lines sides)
+unfolding Each
+deeds_each None lines sides each = tt
+deeds_each (Some day) lines [] each = tt
+deeds_each (Some day) lines (side ∷ sides) each =
+    each_append IsApdu (deeds_at day lines side) (deeds_since (Some day) lines sides)
+    (deeds_at_each day lines side each.0) (deeds_each (Some day) lines sides each.1)
+
+-- What is told of a desk are messages.
+pub told_each : (since : Option Date) (lines : List (List ℕ)) (held : SidesOf) (came : List Apdu) → AreSides held
+    → Each IsApdu came → Each IsApdu (told_since since lines held.sides came)
+unfolding Each
+told_each since lines held came are each =
+    each_append IsApdu (news_of held.sides (came_since since lines came)) (deeds_since since lines held.sides)
+    (news_each IsApdu held.sides [] (came_since since lines came) tt (since_each since lines came each))
+    (deeds_each since lines held.sides are.each)

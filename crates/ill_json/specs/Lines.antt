@@ -55,7 +55,7 @@ fields_of_list file wanted seeking sides = fields_in_order file wanted seeking (
 
 -- ---- `news`
 
--- Returns the fields in the line of a message that came.
+-- Returns the fields in the line of a message that is told.
 abbrev pub fields_of_news : Option (List ℕ) → List Side → Apdu → List Field
 fields_of_news file sides a = news_fields sides a ++ file_fields file
 

@@ -26,7 +26,8 @@ ghost use Rattle.ill_show.specs.Diary.{history_of, messages_of, part_fields, par
 ghost use Rattle.ill_show.specs.Loan.{loan_text};
 ghost use Rattle.ill_show.specs.Notes.{note_of};
 ghost use Rattle.ill_saved.specs.Side.{txn_of};
-ghost use Rattle.ill_list.specs.News.{last_of, news_of, news_text};
+ghost use Rattle.ill_list.specs.News.{last_of, news_desk};
+ghost use Rattle.ill_list.specs.Told.{told_since};
 ghost use Rattle.ill_show.specs.Objects.{message_object, status_of_desk};
 ghost use Rattle.ill_show.specs.Verify.{fault_fields, record_fields, record_text};
 ghost use Rattle.ill_json.specs.BadLines.{AreBadLines, IsBadLine, broken_texts};
@@ -42,12 +43,18 @@ pub fn list_is_json()
         (fields_of_list (file_told is_headed path) wanted seeking held.sides) }
 {}
 
-/// Each line of `news` is an object of JSON with the fields of a message that came. The path of the desk is UTF-8.
+/// Each line of `news` is an object of JSON with the fields of a message that is told. The path of the desk is UTF-8.
 pub fn news_is_json()
-    ensures { (is_first is_headed : Bool) (last : Option ℕ) (path : List ℕ) (held : SidesOf) (came : List Apdu) →
-        IsUtf8 path → AreSides held → Each IsApdu came →
-        AreObjectLines (between forms.Json is_first ++ news_text forms.Json is_headed last path held.sides came)
-        (map (fields_of_news (file_told is_headed path) held.sides) (last_of last (news_of held.sides came))) }
+    ensures { (is_first is_headed : Bool) (last : Option ℕ) (path : List ℕ) (held : SidesOf) (news : List Apdu) →
+        IsUtf8 path → AreSides held → Each IsApdu news →
+        AreObjectLines (between forms.Json is_first ++ news_desk forms.Json is_headed last path held.sides news)
+        (map (fields_of_news (file_told is_headed path) held.sides) (last_of last news)) }
+{}
+
+/// What is told of a desk are messages, if what came to it are messages. So it has lines of JSON.
+pub fn news_are_messages()
+    ensures { (since : Option Date) (lines : List (List ℕ)) (held : SidesOf) (came : List Apdu) →
+        AreSides held → Each IsApdu came → Each IsApdu (told_since since lines held.sides came) }
 {}
 
 /// Each line of `status` is an object of JSON with the fields of a side.

@@ -573,9 +573,9 @@ With --notes the note on a loan stands on a line below it, after `note`. With
 --since-when such a line has the day of its last message, after `since`. It is
 there if FILE.diary tells that day, as `ill loan` does.
 
-With --since DAY what came to a loan on DAY or later stands below it, on a line
-for each message, after `news`. The words are those of `ill news`, whose help
-says what came since.
+With --since DAY the news of a loan since DAY stand below it, on a line for each
+message, after `news`. The words are those of `ill news`, whose help says what
+is told.
 
 The last line counts all loans of the desk, whichever are listed. It says how
 many want a hand, to do, and for how many more there is room. From 900 loans on
@@ -653,11 +653,16 @@ The words of what a responder hears:
   asks to renew, until DAY         Renew with a wished day
   on its way back                  Returned
 
+The words of what a responder has sent:
+  overdue notice sent              Overdue of its own
+  expired                          Expired of its own
+
 With --since only what came on DAY or later is told. FILE.diary says on which
 day a message came, if the command that took it had --today. Told is all that
 stands after the last message of an earlier day. So a message without a day is
 told with those around it. A message that came on an earlier day, too, is not
-told again.
+told again. Last come an Overdue and an Expired that the desk itself has sent.
+Such a message is told if FILE.diary has it on DAY or later, and not before.
 
 With --last only the last N messages are told, 1 to 255. The last line counts
 the messages, and those of them that are shown.

@@ -1,4 +1,5 @@
 pub mod CameSinceLemmas
+pub mod DeedLemmas
 pub mod FindingLemmas
 pub mod ListLaws
 pub mod ListLemmas

@@ -1,15 +1,12 @@
 -- What came to a desk since a day, by its diary.
-use Rattle.std.specs.Prelude.{ℕ, Bool, false, not, ◌&&◌, List, filter, bytes_eq, Option, None, Some, option_map}
+use Rattle.std.specs.Prelude.{ℕ, Bool, false, not, ◌&&◌, List, filter, bytes_eq, Option, None, Some}
 use Rattle.std.specs.List.{after_last, list_any}
 use Rattle.ill_values.specs.Day.{Date}
 use Rattle.ill_values.specs.Types.{type_name}
 use Rattle.ill_values.specs.declared.apdu.Apdu.{Apdu}
 use Rattle.ill_core.specs.Dates.{is_before}
-use Rattle.ill_saved.specs.declared.side.Side.{Side}
 use Rattle.ill_text.specs.Diary.{message_key}
 use Rattle.ill_show.specs.Diary.{Said, is_named, said_by}
-use Rattle.ill_list.specs.News.{news_of}
-use Rattle.ill_show.specs.Since.{AnnexRead}
 
 -- Returns the key by which a diary names a message that came.
 abbrev pub came_key : Apdu → List ℕ
@@ -47,8 +44,3 @@ is_new day lines a = not (is_named_before day (came_key a) lines)
 abbrev pub came_since : Option Date → (lines : List (List ℕ)) → List Apdu → List Apdu
 came_since None lines came = came
 came_since (Some day) lines came = filter (is_new day lines) (after_last (came_before day lines) came)
-
--- Returns the news of a desk since a day: the messages that its sides have taken since, by its annex. Without a day no news are
--- told.
-abbrev pub news_since : Option Date → AnnexRead → List Side → Option (List Apdu)
-news_since since annex sides = option_map (λ day. news_of sides (came_since (Some day) annex.diary annex.came)) since

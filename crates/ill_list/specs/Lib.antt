@@ -1,4 +1,5 @@
 pub mod CameSince
+pub mod Deeds
 pub mod Finding
 pub mod Link
 pub mod List
@@ -7,3 +8,4 @@ pub mod ListedNews
 pub mod Listing
 pub mod News
 pub mod Report
+pub mod Told

@@ -4,11 +4,10 @@ use Rattle.std.specs.Prelude.{fold, codes, Option, None, Some, Result, Err}
 use Rattle.std.specs.List.{flat_map, list_any}
 use Rattle.std.specs.Fmt.{decimal}
 use Rattle.std.specs.Io.KnownBytes.{Appends}
-use Rattle.ill_values.specs.Day.{Date}
+use Rattle.ill_values.specs.Body.{Body}
 use Rattle.ill_values.specs.declared.apdu.Apdu.{Apdu}
 use Rattle.ill_core.specs.Issued.{is_same_txn}
 use Rattle.ill_saved.specs.declared.side.Side.{Side}
-use Rattle.ill_saved.specs.Side.{due_date_of}
 use Rattle.ill_saved.specs.Sides.{side_with}
 use Rattle.ill_text.specs.declared.fault.ToolFault.{ToolFault}
 use Rattle.ill_text.specs.declared.fault.ToolFault.TheVariants.{OutOfMemory}
@@ -23,7 +22,7 @@ use Rattle.ill_show.specs.Heard.{is_heard}
 use Rattle.ill_list.specs.List.{cell, column, title_text}
 use Rattle.ill_list.specs.Listing.{file_told, heading}
 use Rattle.ill_show.specs.ItemLine.{item_of}
-use Rattle.ill_show.specs.NewsWords.{news_words}
+use Rattle.ill_show.specs.NewsWords.{news_words, told_words}
 use Rattle.ill_list.specs.ListObjects.{file_fields}
 
 -- ---- the news
@@ -60,14 +59,14 @@ last_of (Some count) news = drop (length news - count) news
 
 -- ---- the loan of a message
 
--- Returns the day on which the item of a loan is due, if there is one.
-abbrev pub due_of : Option Side → Option Date
-due_of None = None
-due_of (Some side) = due_date_of side
+-- Returns the words of a message with this body in the loan of a side, if there is one.
+abbrev pub words_by : Option Side → Body → List ℕ
+words_by None body = news_words None body
+words_by (Some side) body = told_words side body
 
 -- Returns the words of the message. Those of a refused renewal have the due date of the record.
 abbrev pub words_at : List Side → Apdu → List ℕ
-words_at sides a = news_words (due_of (side_with a.txn sides)) a.body
+words_at sides a = words_by (side_with a.txn sides) a.body
 
 -- ---- lines
 
@@ -134,10 +133,6 @@ news_objects file sides shown = flat_map (news_object file sides) shown
 abbrev pub news_desk : Form → (is_headed : Bool) → (last : Option ℕ) → (path : List ℕ) → List Side → List Apdu → List ℕ
 news_desk Lines is_headed last path sides news = heading is_headed path ++ news_lines sides news (last_of last news)
 news_desk Json is_headed last path sides news = news_objects (file_told is_headed path) sides (last_of last news)
-
--- Returns the text of a desk with `sides` to which `came` came.
-abbrev pub news_text : Form → (is_headed : Bool) → (last : Option ℕ) → (path : List ℕ) → List Side → List Apdu → List ℕ
-news_text form is_headed last path sides came = news_desk form is_headed last path sides (news_of sides came)
 
 -- `written` is the text of the messages in `bytes`.
 abbrev pub IsTextOf : (List Apdu → List ℕ) → List ℕ → List ℕ → Type 0

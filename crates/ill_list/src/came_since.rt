@@ -156,7 +156,7 @@ fn came_key(alloc: Global, apdu: &Apdu) -> Result<Vec<u8>, OutOfMemory>
 }
 
 /// Returns true if one of `lines`, of `day` or later, names the message with the key `key`.
-fn is_named_since(day: Day, key: &[u8], lines: &[Vec<u8>]) -> bool
+pub(crate) fn is_named_since(day: Day, key: &[u8], lines: &[Vec<u8>]) -> bool
     ensures { result ≡ is_named_since day key.now (map (λ line. line.items) lines.now) }
 {
     lines.iter().any(|line| says_since(day, key, line))
@@ -173,7 +173,7 @@ fn says_since(day: Day, key: &[u8], line: &[u8]) -> bool
 }
 
 /// Returns true if one of `lines`, of an earlier day than `day`, names the message with the key `key`.
-fn is_named_before(day: Day, key: &[u8], lines: &[Vec<u8>]) -> bool
+pub(crate) fn is_named_before(day: Day, key: &[u8], lines: &[Vec<u8>]) -> bool
     ensures { result ≡ is_named_before day key.now (map (λ line. line.items) lines.now) }
 {
     lines.iter().any(|line| says_before(day, key, line))

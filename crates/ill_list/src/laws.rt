@@ -1,4 +1,4 @@
-//! States the laws of what came to a desk, and of lists without days, as contracts of functions that do nothing.
+//! States the laws of the news of a desk, and of lists without days, as contracts of functions that do nothing.
 
 ghost use Rattle.std.specs.Prelude.{◌≡◌, ◌++◌, ◌∷◌, ◌&&◌, ℕ, Bool, true, false, bytes_eq, filter, find, List, Option, Some};
 ghost use Rattle.std.specs.List.{list_any};
@@ -9,7 +9,11 @@ ghost use Rattle.ill_list.specs.CameSince.{came_before, came_key, came_since, is
 ghost use Rattle.ill_saved.specs.Ranges.{Each};
 ghost use Rattle.ill_show.specs.Diary.{is_named};
 ghost use Rattle.ill_show.specs.Since.{AnnexRead, notes_alone};
+ghost use Rattle.ill_core.specs.Responder.{ResponderRecord};
+ghost use Rattle.ill_list.specs.Deeds.{deeds_since, is_by_date, is_deed_since};
 ghost use Rattle.ill_list.specs.Listing.{listed_desk};
+ghost use Rattle.ill_saved.specs.declared.side.Side.TheVariants.{Responder};
+ghost use Rattle.ill_show.specs.Heard.{is_heard};
 ghost use Rattle.ill_list.specs.declared.wanted.Wanted.{Wanted};
 ghost use Rattle.ill_text.specs.declared.form.Form.TheVariants as forms;
 ghost use Rattle.ill_show.specs.declared.loan.LoanForm.TheVariants.{Lines};
@@ -59,6 +63,23 @@ pub fn no_repeat_hides_news()
     ensures { (day : Date) (lines : List (List ℕ)) (came repeats : List Apdu) (a : Apdu) →
         is_named (came_key a) lines ≡ false → Each (λ b. is_named_since day (came_key b) lines ≡ true) repeats →
         (before after : List Apdu) × (came_since (Some day) lines (came ++ a ∷ repeats) ≡ before ++ a ∷ after) }
+{}
+
+/// What a date made due is told: a message of a lender that the diary names on the day or later, and not before.
+#[tactic(auto, using(crate::proofs::DeedLemmas::deed_told))]
+pub fn what_a_date_made_due_is_news()
+    ensures { (day : Date) (lines : List (List ℕ)) (before after : List Side) (y : ResponderRecord) (first last : List Apdu)
+        (a : Apdu) → y.issued ≡ first ++ a ∷ last → is_deed_since day lines a ≡ true →
+        (more less : List Apdu) × (deeds_since (Some day) lines (before ++ Responder y ∷ after) ≡ more ++ a ∷ less) }
+{}
+
+/// Nothing else is told as such: an Overdue or an Expired that the diary names on the day or later, and not before. No
+/// message that came to a lender is one, so the words tell both apart.
+#[tactic(auto, using(crate::proofs::DeedLemmas::deeds_alone, crate::proofs::DeedLemmas::heard_apart))]
+pub fn nothing_else_was_made_due()
+    ensures deeds { (day : Date) (lines : List (List ℕ)) (sides : List Side) →
+        Each (λ a. is_deed_since day lines a ≡ true) (deeds_since (Some day) lines sides) }
+    ensures came { (y : ResponderRecord) (a : Apdu) → is_heard (Responder y) a ≡ true → is_by_date a.body ≡ false }
 {}
 
 /// Lines of a list without days do not depend on the diary, nor on the messages that came, but for the news that are told.

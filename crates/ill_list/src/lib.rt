@@ -3,6 +3,7 @@
 
 pub mod came_since;
 mod counts;
+mod deeds;
 pub mod finding;
 pub mod laws;
 pub mod link;

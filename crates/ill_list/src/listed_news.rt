@@ -1,8 +1,7 @@
-//! The news of a loan in `list`: the words of what came to it.
+//! The news of a loan in `list`: the words of each message.
 
 ghost use Rattle.std.specs.Prelude.{◌≡◌, [], ◌++◌, codes, OnOk};
 ghost use Rattle.std.specs.List.{flat_map};
-ghost use Rattle.ill_saved.specs.Side.{due_date_of};
 ghost use Rattle.ill_text.specs.Json.{joined, member};
 ghost use Rattle.ill_show.specs.Since.{annex_of};
 ghost use Rattle.ill_list.specs.ListedNews.{heard_array, heard_fields, heard_object, listed_news, listed_news_fields, news_line, news_value};
@@ -10,9 +9,9 @@ ghost use Rattle.ill_list.specs.ListedNews.{heard_array, heard_fields, heard_obj
 use ill_saved::Side;
 use ill_show::annex::Annex;
 use ill_show::kept::kept_of;
-use ill_show::news_words::news_words;
+use ill_show::news_words::told_words;
 use ill_text::json::{ItemForm, Value, push_array, push_label, push_members, push_plain};
-use ill_values::{Apdu, Day, OutOfMemory};
+use ill_values::{Apdu, OutOfMemory};
 
 /// Appends the lines of the news of `annex` that came to the loan of `side`, if news are told.
 pub(crate) fn push_listed_news(
@@ -34,8 +33,7 @@ pub(crate) fn push_listed_news(
 
 /// Appends a line for each message of `kept`, in the loan of `side`.
 fn push_news_lines(lines: &mut Vec<u8>, side: &Side, kept: &[Apdu]) -> Result<(), OutOfMemory>
-    ensures { OnOk result (lines.new.items ≡ lines.old.items
-        ++ flat_map (news_line (due_date_of side.now)) kept.now) }
+    ensures { OnOk result (lines.new.items ≡ lines.old.items ++ flat_map (news_line side.now) kept.now) }
 {
     for apdu in kept {
         push_news_line(lines, side, apdu)?;
@@ -45,9 +43,9 @@ fn push_news_lines(lines: &mut Vec<u8>, side: &Side, kept: &[Apdu]) -> Result<()
 
 /// Appends the line of `apdu`, in the loan of `side`.
 fn push_news_line(lines: &mut Vec<u8>, side: &Side, apdu: &Apdu) -> Result<(), OutOfMemory>
-    ensures { OnOk result (lines.new.items ≡ lines.old.items ++ news_line (due_date_of side.now) apdu.now) }
+    ensures { OnOk result (lines.new.items ≡ lines.old.items ++ news_line side.now apdu.now) }
 {
-    let words = news_words(*lines.allocator(), side.due(), &apdu.body)?;
+    let words = told_words(*lines.allocator(), side, &apdu.body)?;
     lines.extend_from_slice(b"    news ")?;
     lines.extend_from_slice(&words)?;
     lines.push(b'\n')?;
@@ -77,48 +75,48 @@ fn push_news_value(text: &mut Vec<u8>, annex: &Annex, side: &Side) -> Result<(),
     match &annex.news {
         Some(news) => {
             let kept = kept_of(*text.allocator(), side.txn(), news)?;
-            push_heard(text, side.due(), &kept)
+            push_heard(text, side, &kept)
         }
         None => push_plain(text, "null"),
     }
 }
 
-/// Appends an array of the messages `kept`, in a loan that is due on `due`.
-fn push_heard(text: &mut Vec<u8>, due: Option<Day>, kept: &[Apdu]) -> Result<(), OutOfMemory>
-    ensures { OnOk result (text.new.items ≡ text.old.items ++ heard_array due kept.now) }
+/// Appends an array of the messages `kept`, in the loan of `side`.
+fn push_heard(text: &mut Vec<u8>, side: &Side, kept: &[Apdu]) -> Result<(), OutOfMemory>
+    ensures { OnOk result (text.new.items ≡ text.old.items ++ heard_array side.now kept.now) }
 {
-    push_array(text, kept, &HeardObjects { due })
+    push_array(text, kept, &HeardObjects { side })
 }
 
-/// Messages that came to a loan, as objects. The item of the loan is due on this day.
+/// Messages in the loan of a side, as objects.
 #[derive(Clone, Copy)]
-struct HeardObjects {
-    due: Option<Day>,
+struct HeardObjects<'a> {
+    side: &'a Side,
 }
 
-impl ItemForm<Apdu> for HeardObjects {
-    ghost text_of = { λ objects apdu. heard_object objects.due apdu };
+impl ItemForm<Apdu> for HeardObjects<'_> {
+    ghost text_of = { λ objects apdu. heard_object objects.side.now apdu };
 
     fn push(&self, text: &mut Vec<u8>, apdu: &Apdu) -> Result<(), OutOfMemory> {
-        push_object(text, self.due, apdu)
+        push_object(text, self.side, apdu)
     }
 }
 
-/// Appends the object of `apdu`, in a loan that is due on `due`.
-fn push_object(text: &mut Vec<u8>, due: Option<Day>, apdu: &Apdu) -> Result<(), OutOfMemory>
-    ensures { OnOk result (text.new.items ≡ text.old.items ++ heard_object due apdu.now) }
+/// Appends the object of `apdu`, in the loan of `side`.
+fn push_object(text: &mut Vec<u8>, side: &Side, apdu: &Apdu) -> Result<(), OutOfMemory>
+    ensures { OnOk result (text.new.items ≡ text.old.items ++ heard_object side.now apdu.now) }
 {
     push_plain(text, "{")?;
-    push_fields(text, due, apdu)?;
+    push_fields(text, side, apdu)?;
     push_plain(text, "}")
 }
 
-/// Appends the fields of `apdu`, in a loan that is due on `due`.
+/// Appends the fields of `apdu`, in the loan of `side`.
 #[tactic(auto, unfolding(ill_text::specs::Json::joined))]
-fn push_fields(text: &mut Vec<u8>, due: Option<Day>, apdu: &Apdu) -> Result<(), OutOfMemory>
-    ensures { OnOk result (text.new.items ≡ text.old.items ++ joined member [] (heard_fields due apdu.now)) }
+fn push_fields(text: &mut Vec<u8>, side: &Side, apdu: &Apdu) -> Result<(), OutOfMemory>
+    ensures { OnOk result (text.new.items ≡ text.old.items ++ joined member [] (heard_fields side.now apdu.now)) }
 {
-    let words = news_words(*text.allocator(), due, &apdu.body)?;
+    let words = told_words(*text.allocator(), side, &apdu.body)?;
     push_members(
         text,
         b"",

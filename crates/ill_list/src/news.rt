@@ -8,26 +8,27 @@ ghost use Rattle.ill_list.specs.List.{title_text};
 ghost use Rattle.ill_list.specs.Listing.{between, file_told, gap, heading};
 ghost use Rattle.ill_list.specs.ListObjects.{file_fields};
 ghost use Rattle.ill_show.specs.FileLines.{lines_of};
-ghost use Rattle.ill_list.specs.CameSince.{came_since, news_since};
+ghost use Rattle.ill_list.specs.Told.{news_since, told_since};
 ghost use Rattle.ill_show.specs.Since.{annex_of};
-ghost use Rattle.ill_list.specs.News.{IsTextOf, WritesNews, columns_of, due_of, heard_at, heard_by, is_same, is_told, last_of, named, news_counts, news_desk, news_fields, news_lines, news_object, news_objects, news_of, news_row, news_text, told_fields, widened, with_news, words_at};
+ghost use Rattle.ill_list.specs.News.{IsTextOf, WritesNews, columns_of, heard_at, heard_by, is_same, is_told, last_of, named, news_counts, news_desk, news_fields, news_lines, news_object, news_objects, news_of, news_row, told_fields, widened, with_news, words_at, words_by};
 ghost use Rattle.ill_show.specs.ItemLine.{item_of};
 
-use crate::came_since::{Came, later};
+use crate::came_since::Came;
+use crate::deeds::push_deeds;
 use crate::list_objects::push_file;
 use crate::listed::{Listed, heading};
 use crate::row::{column, push_cell, push_title};
 use ill_saved::{Desk, Side, Sides, Store};
 use ill_show::annex::Annex;
 use ill_show::heard::is_heard;
-use ill_show::news_words::news_words;
+use ill_show::news_words::{news_words, told_words};
 use ill_show::objects::title;
 use ill_text::fault::ToolFault;
 use ill_text::form::Form;
 use ill_text::input::apdus_in;
 use ill_text::json::{Value, push_members, push_plain};
 use ill_text::output::write_whole;
-use ill_values::{Apdu, Day, Number, OutOfMemory};
+use ill_values::{Apdu, Body, Day, Number, OutOfMemory};
 use itoa::Buffer;
 use std::alloc::Global;
 use std::io::Write;
@@ -51,8 +52,8 @@ pub(crate) struct NewsColumns {
 /// that counts the messages.
 ///
 /// `came` has the bytes that `take --keep`, `inbox` and `exchange` have kept. A part that is no message, and all bytes
-/// after it, are ignored. With a day, only what came since is written: all after the last message that the diary names
-/// before that day.
+/// after it, are ignored. With a day, only what came since is written. After it stand the messages of the desk itself that
+/// dates have made due since that day.
 pub fn run_desk_news<S: Store, W: Write>(
     alloc: Global,
     desk: &Desk<S>,
@@ -61,8 +62,8 @@ pub fn run_desk_news<S: Store, W: Write>(
     writer: &mut W,
 ) -> Result<(), ToolFault>
     ensures { WritesNews (λ apdus. between listed.now.form listed.now.is_first
-        ++ news_text listed.now.form listed.now.is_headed came.now.last listed.now.path.now (sides_held desk.now.live).sides
-        (came_since came.now.since (lines_of came.now.diary.now) apdus))
+        ++ news_desk listed.now.form listed.now.is_headed came.now.last listed.now.path.now (sides_held desk.now.live).sides
+        (told_since came.now.since (lines_of came.now.diary.now) (sides_held desk.now.live).sides apdus))
         came.now.bytes.now (W.contents writer.old) (W.contents writer.new) result }
 {
     match text_of_news(alloc, desk.sides(), listed, came) {
@@ -79,18 +80,33 @@ fn text_of_news(
     came: &Came<'_>,
 ) -> Result<Vec<u8>, OutOfMemory>
     ensures { IfOk result (λ text. IsTextOf (λ apdus. between listed.now.form listed.now.is_first
-        ++ news_text listed.now.form listed.now.is_headed came.now.last listed.now.path.now sides.now.sides
-        (came_since came.now.since (lines_of came.now.diary.now) apdus))
+        ++ news_desk listed.now.form listed.now.is_headed came.now.last listed.now.path.now sides.now.sides
+        (told_since came.now.since (lines_of came.now.diary.now) sides.now.sides apdus))
         came.now.bytes.now text.items) }
 {
     let apdus = apdus_in(alloc, came.bytes)?;
-    let told = came.told(alloc, &apdus)?;
-    let news = news_of(alloc, sides, &told)?;
+    let news = told_since(alloc, sides, came, &apdus)?;
     desk_text(alloc, sides, listed, came.last, &news)
 }
 
-/// Returns the news of a desk with these sides since a day: the messages that they have taken since, by `annex`, each once.
-/// Without a day no news are told.
+/// Returns the news of a desk with these sides, to which `apdus` came: what they have taken, and what dates have made due.
+fn told_since(
+    alloc: Global,
+    sides: &Sides,
+    came: &Came<'_>,
+    apdus: &[Apdu],
+) -> Result<Vec<Apdu>, OutOfMemory>
+    ensures { IfOk result (λ news. news.items
+        ≡ told_since came.now.since (lines_of came.now.diary.now) sides.now.sides apdus.now) }
+{
+    let told = came.told(alloc, apdus)?;
+    let mut news = news_of(alloc, sides, &told)?;
+    push_deeds(&mut news, came.since, came.diary.lines(), sides)?;
+    Ok(news)
+}
+
+/// Returns the news of a desk with these sides since a day: the messages that they have taken since, by `annex`, each once, and
+/// then what dates have made due. Without a day no news are told.
 pub fn news_since(
     alloc: Global,
     sides: &Sides,
@@ -102,9 +118,14 @@ pub fn news_since(
 {
     match since {
         None => Ok(None),
-        Some(day) => {
-            let came = later(alloc, day, annex.diary.lines(), &annex.came)?;
-            Ok(Some(news_of(alloc, sides, &came)?))
+        Some(_) => {
+            let came = Came {
+                bytes: b"",
+                diary: &annex.diary,
+                since,
+                last: None,
+            };
+            Ok(Some(told_since(alloc, sides, &came, &annex.came)?))
         }
     }
 }
@@ -273,16 +294,16 @@ fn widened(
 fn words_at(alloc: Global, sides: &Sides, apdu: &Apdu) -> Result<Vec<u8>, OutOfMemory>
     ensures { IfOk result (λ words. words.items ≡ words_at sides.now.sides apdu.now) }
 {
-    news_words(alloc, due_of(sides.get(&apdu.txn)), &apdu.body)
+    words_by(alloc, sides.get(&apdu.txn), &apdu.body)
 }
 
-/// Returns the day on which the item of the loan of `side` is due, if there is one.
-fn due_of(side: Option<&Side>) -> Option<Day>
-    ensures { result ≡ due_of (option_copied side.entry) }
+/// Returns the words of a message with this body in the loan of `side`, if there is one.
+fn words_by(alloc: Global, side: Option<&Side>, body: &Body) -> Result<Vec<u8>, OutOfMemory>
+    ensures { IfOk result (λ words. words.items ≡ words_by (option_copied side.entry) body.now) }
 {
     match side {
-        Some(side) => side.due(),
-        None => None,
+        Some(side) => told_words(alloc, side, body),
+        None => news_words(alloc, None, body),
     }
 }
 

@@ -7,6 +7,9 @@ use Rattle.ill_values.specs.declared.apdu.BodyWith.TheVariants.{Shipped, Receive
 use Rattle.ill_values.specs.declared.apdu.BodyWith.TheVariants.{RenewAnswer, Expired}
 use Rattle.ill_values.specs.declared.apdu.AnswerResult.{AnswerResult}
 use Rattle.ill_values.specs.declared.apdu.AnswerResult.TheVariants as results
+use Rattle.ill_saved.specs.declared.side.Side.{Side}
+use Rattle.ill_saved.specs.declared.side.Side.TheVariants as sides
+use Rattle.ill_saved.specs.Side.{due_date_of}
 
 -- Returns the words of an ILL-Answer with this result.
 abbrev pub answer_words : AnswerResult → List ℕ
@@ -44,6 +47,17 @@ news_words due (Renew (Some day)) = codes "asks to renew, until " ++ iso_text da
 news_words due (RenewAnswer answers None) = refused_words due
 news_words due (RenewAnswer answers (Some day)) = codes "renewed, due " ++ iso_text day
 news_words due Expired = codes "no: the request has expired"
+
+-- Returns the words of a message in the news of a lender's loan. What a date has made due is the lender's own message.
+abbrev pub lender_words : Option Date → Body → List ℕ
+lender_words due (Overdue day) = codes "overdue notice sent"
+lender_words due Expired = codes "expired"
+lender_words due other = news_words due other
+
+-- Returns the words of a message in the news of a loan.
+abbrev pub told_words : Side → Body → List ℕ
+told_words (sides.Requester x) body = news_words (due_date_of (sides.Requester x)) body
+told_words (sides.Responder y) body = lender_words (due_date_of (sides.Responder y)) body
 
 -- Returns true if the words begin with `no: `.
 abbrev pub says_no : List ℕ → Bool

@@ -2,8 +2,9 @@
 
 ghost use Rattle.std.specs.Prelude.{◌≡◌, ◌++◌, IfOk};
 ghost use Rattle.ill_values.specs.Day.{iso_text};
-ghost use Rattle.ill_show.specs.NewsWords.{answer_words, news_words, refused_words};
+ghost use Rattle.ill_show.specs.NewsWords.{answer_words, lender_words, news_words, refused_words, told_words};
 
+use ill_saved::Side;
 use ill_values::{AnswerResult, Body, Day, OutOfMemory};
 use std::alloc::Global;
 
@@ -37,6 +38,27 @@ pub fn news_words(alloc: Global, due: Option<Day>, body: &Body) -> Result<Vec<u8
             ..
         } => dated(alloc, "renewed, due ", *day),
         Body::Expired => plain(alloc, "no: the request has expired"),
+    }
+}
+
+/// Returns the words of a message with this body in the news of the loan of `side`.
+pub fn told_words(alloc: Global, side: &Side, body: &Body) -> Result<Vec<u8>, OutOfMemory>
+    ensures { IfOk result (λ words. words.items ≡ told_words side.now body.now) }
+{
+    match side {
+        Side::Requester(_) => news_words(alloc, side.due(), body),
+        Side::Responder(_) => lender_words(alloc, side.due(), body),
+    }
+}
+
+/// Returns the words of a message with this body in the news of a lender's loan, which is due on `due`.
+fn lender_words(alloc: Global, due: Option<Day>, body: &Body) -> Result<Vec<u8>, OutOfMemory>
+    ensures { IfOk result (λ words. words.items ≡ lender_words due body.now) }
+{
+    match body {
+        Body::Overdue { .. } => plain(alloc, "overdue notice sent"),
+        Body::Expired => plain(alloc, "expired"),
+        _ => news_words(alloc, due, body),
     }
 }
 

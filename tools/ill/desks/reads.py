@@ -10,7 +10,8 @@ same courses must have the same bytes. Of each desk the program writes
 - what shows the notes that are written beside the desk, and what is found in them, and the notes that `note` keeps,
 - `figures` and its records of CSV, by a diary with lines that count and lines that do not;
 - `news` and its objects of what came, which is written beside the desk once, twice and torn, with `--last` too;
-- `news` and `list` since a day, by a diary that lacks some messages and has older lines of others;
+- `news` and `list` since a day, by a diary that lacks some messages and has older lines of others. Some
+  messages came again, and dates have made some due;
 - `status`, its objects, `report` and `verify`;
 
 and all but the slowest once more to a full device, to a closed output and to a pipe that is read byte by byte.
@@ -42,7 +43,7 @@ from ill.notes import is_found, kept, key, note_line, notes_of
 from ill.records import desk_record
 from ill.screen import ACTING, shown
 from ill.slips import Slip
-from ill.tidings import Since, came_bytes, column, heard, iso, news_lines, news_objects
+from ill.tidings import DUE, Since, came_bytes, column, heard, is_own, iso, news_lines, news_objects
 
 REPORT = harness.Report()
 
@@ -511,18 +512,32 @@ def compare_figures(judge, path, figures):
     judge.same(f"the ends of the records of {path}", (text.count("\r\n"), text.count("\n")), (2, 2))
 
 
+def days_of(sides):
+    """Returns the days of the lines of a diary, by the transaction, the word and the number of a message, and what came once more
+    after all else. No line names a third of what came. An older line names a fourth of the other messages, and a line of the last
+    day what came once more. Of what dates have made due, the diary lacks a third, and has an older line of another third."""
+    came = [(side, apdu) for side in sides for apdu in side.came]
+    days = {(tuple(side.txn), apdu["apdu"], apdu["number"]):
+            ["20250101"] * (place % 4 == 0) + [f"202503{1 + 9 * place // len(came):02}"]
+            for place, (side, apdu) in enumerate(came) if place % 3}
+    own = [(side, apdu) for side in sides for apdu in side.issued if is_own(side, apdu)]
+    days |= {(tuple(side.txn), DUE[apdu["apdu"]], apdu["number"]): ["20250102"] * (place % 3 == 1) + [f"202503{1 + place % 9:02}"]
+             for place, (side, apdu) in enumerate(own) if place % 3}
+    again = came[::5]
+    for side, apdu in again:
+        days.setdefault((tuple(side.txn), apdu["apdu"], apdu["number"]), []).append("20250310")
+    return days, again
+
+
 def check_since(judge, path, sides):
-    """Compares `news` and `list` since a day. The diary lacks each third message, and has an older line of each fourth, after
-    which the right one counts."""
-    names = [(tuple(side.txn), apdu["apdu"], apdu["number"]) for side in sides for apdu in side.came]
-    days = {(txn, number): f"202503{1 + 9 * place // len(names):02}" for place, (txn, _, number) in enumerate(names) if place % 3}
-    lines = [f"{day} - {key(txn[0])} {key(txn[1])} {apdu} {number}\n" for place, (txn, apdu, number) in enumerate(names)
-             if (txn, number) in days for day in ["20250101"] * (place % 4 == 0) + [days[txn, number]]]
-    last_days = {txn: days[txn, number] for txn, _, number in names if (txn, number) in days}
-    write(f"{path}.came", came_bytes(sides))
-    write(f"{path}.diary", "".join(lines).encode())
+    """Compares `news` and `list` since a day. The diary has the days of most messages, and some came once more."""
+    days, again = days_of(sides)
+    lines = [(day, txn, what, number) for (txn, what, number), of in days.items() for day in of]
+    last_days = {txn: day for day, txn, _, _ in lines}
+    write(f"{path}.came", came_bytes(sides) + b"".join(spelled(side.txn, apdu) for side, apdu in again))
+    write(f"{path}.diary", b"".join(diary_line(day, "-", txn, what, number) for day, txn, what, number in lines))
     for day in ("20250228", "20250304", "20250309", "20250401"):
-        since = Since(day, days)
+        since = Since(day, days, again)
         for last in (None, 3):
             words = ["news", path, "--since", day, *(["--last", str(last)] if last else [])]
             judge.lines(words, news_lines(sides, last, since))

@@ -1,7 +1,7 @@
 """Compares the help with the definitions of ill_show: both have the same words of what came.
 
-It compares the two lists of `ill news --help` with `specs/NewsWords.antt`: the words of each type of APDU, with each of
-its answers, and with and without its date. A record without a due date has no line for a renewal that was refused: no
+It compares the lists of `ill news --help` with `specs/NewsWords.antt`: the words of each type of APDU, with each of
+its answers, and with and without its date, and those of what a date makes due. A record without a due date has no line for a renewal that was refused: no
 requester's record that shows one is without it.
 """
 import re
@@ -13,6 +13,8 @@ SPEC = "crates/ill_show/specs/NewsWords.antt"
 # What the help says after a type whose date may be missing, and of the day that is no message's.
 DATED = {"IllRequest": " with an expiry day", "Renew": " with a wished day"}
 OF_RECORD = "; DAY is that of the record"
+# What the help says after a type that the responder itself issues.
+OWN = " of its own"
 ANSWERS = {"true": " yes", "false": " no"}
 
 
@@ -41,6 +43,8 @@ def defined():
     """Yields what came, with its words, as the definitions have them."""
     types = named("ApduType", read("crates/ill_values/src/apdu_type.rt"))
     results = named("AnswerResult", read("crates/ill_values/src/apdu.rt"))
+    yield from ((types[pattern.removeprefix("due ").strip("()").partition(" ")[0]] + OWN, said(words))
+                for pattern, words in lines_of("lender_words") if words != "news_words due other")
     for pattern, words in lines_of("news_words"):
         kind, _, rest = pattern.removeprefix("due ").strip("()").partition(" ")
         if words == "answer_words result":
@@ -54,9 +58,9 @@ def defined():
 
 
 def table():
-    """Returns what came, with its words, as the two lists of the help have them."""
+    """Returns what is told, with its words, as the lists of the help have them."""
     text = find(r'pub const NEWS: &str = "(.*?)";', HELP)[1]
-    lists = re.findall(r"(?m)^The words of what a \w+ hears:\n((?:  .*\n)+)", text)
+    lists = re.findall(r"(?m)^The words of what a \w+ (?:hears|has sent):\n((?:  .*\n)+)", text)
     return [(line[35:], line[2:35].rstrip()) for of in lists for line in of.splitlines()]
 
 
@@ -67,4 +71,4 @@ def compare():
     faults += [f"{HELP}: ill news has no {' | '.join(line)}, as {SPEC} has it" for line in wanted if line not in found]
     if not faults and len(found) != len(wanted):
         faults.append(f"{HELP}: ill news has a line twice")
-    return faults, f"the words of {len(wanted)} messages that came, which the help and {SPEC} have alike"
+    return faults, f"the words of {len(wanted)} messages in the news, which the help and {SPEC} have alike"

@@ -3,9 +3,9 @@ use Rattle.std.proofs.Common.{ℕ, ◌++◌, List, subst}
 use Rattle.ill_saved.specs.Sides.{SidesOf}
 use Rattle.ill_text.specs.Output.{WritesPrefix}
 use Rattle.ill_list.specs.Listing.{between}
-use Rattle.ill_list.specs.News.{IsTextOf, news_text}
+use Rattle.ill_list.specs.News.{IsTextOf, news_desk}
 use Rattle.ill_show.specs.FileLines.{lines_of}
-use Rattle.ill_list.specs.CameSince.{came_since}
+use Rattle.ill_list.specs.Told.{told_since}
 use Rattle.ill_list.proofs.NewsLemmas.{writes_news}
 use Rattle.ill_list.proofs.news.run_desk_news.Goals as goal
 
@@ -16,9 +16,9 @@ returns-in-Ok g c =
     let before = g.W.Write.contents c.args.writer.now in
     let after = g.W.Write.contents c.write_whole.new.writer in
     let text = c.in-Ok.text.items in
-    let since = came_since c.args.came.now.since (lines_of c.args.came.now.diary.now) in
+    let told = told_since c.args.came.now.since (lines_of c.args.came.now.diary.now) in
     let is = subst (λ (sides : SidesOf). IsTextOf (λ apdus. between listed.form listed.is_first
-    ++ news_text listed.form listed.is_headed c.args.came.now.last listed.path.now sides.sides (since apdus))
+    ++ news_desk listed.form listed.is_headed c.args.came.now.last listed.path.now sides.sides (told sides.sides apdus))
     c.args.came.now.bytes.now text) c.sides.ensures.value c.in-Ok.ensures in
     let writes = subst (λ (t : List ℕ). WritesPrefix before after t c.write_whole.result) c.deref.ensures.value
     c.write_whole.ensures in

@@ -309,7 +309,7 @@ pub(crate) fn list_file<T: Files, W: Write, E: Write>(
         machine.alloc,
         listed.path,
         desk.sides(),
-        wanted,
+        &sought,
         &mut machine.errors,
     );
     drop(desk);
@@ -411,10 +411,10 @@ fn tell_left_out<E: Write>(
     alloc: Global,
     file: &str,
     sides: &Sides,
-    wanted: &Wanted,
+    sought: &Sought<'_>,
     errors: &mut E,
 ) {
-    let count = count_left_out(alloc, sides, wanted).unwrap_or(0);
+    let count = count_left_out(alloc, sides, sought.wanted, sought.annex).unwrap_or(0);
     if count == 0 {
         return;
     }

@@ -189,11 +189,12 @@ ordered_are file wanted seeking held u told each few =
     let shown = chosen_of wanted seeking held in
     let objects = work_objects file seeking.annex in
     let fields = fields_of_work file seeking.annex wanted shown in
-    let listed_each = kept_each IsSide IsSide (is_listed wanted) held (λ side is. is) each in
+    let listed_each = kept_each IsSide IsSide (is_listed wanted seeking.annex.news) held (λ side is. is) each in
     lines_append (sections objects wanted shown) _ (flat_map fields all_work) _
     (lines_flat (section objects wanted shown) fields all_work
     (rows_are file seeking.annex wanted shown u told
-    (kept_each IsSide IsSide (is_found seeking.find seeking.annex.notes) (listed_of wanted held) (λ side is. is) listed_each)))
+    (kept_each IsSide IsSide (is_found seeking.find seeking.annex.notes) (listed_of wanted seeking.annex.news held)
+        (λ side is. is) listed_each)))
     (lines_one _ (line_is _ (each_append (FieldReads 2) (counts_fields (counts_of wanted held)) (file_fields file)
     (counts_reads wanted held few) (file_reads file u)) (counts_apart file wanted held)))
 

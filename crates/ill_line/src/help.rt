@@ -561,7 +561,8 @@ The work is that of a day. These options say which:
 These options say which loans are listed; all that are given hold:
   --open                 leaves out the loans that are over
   --mine                 lists only the loans that want a hand. An item with its
-                         reader wants none before its due date is soon
+                         reader wants none before its due date is soon. With
+                         --since it lists the loans that have news, too
   --due-before DAY       only those that are due before this day. With --today
                          it may be `+N`, N days after that day, 1 to 255
   --state STATE          only those in this state, as SHIPPED
@@ -576,6 +577,11 @@ there if FILE.diary tells that day, as `ill loan` does.
 With --since DAY the news of a loan since DAY stand below it, on a line for each
 message, after `news`. The words are those of `ill news`, whose help says what
 is told.
+
+With --mine and --since DAY the list is one of a morning: a line for each loan
+that wants a hand or has news, without headings. It begins with the words of the
+work. Then come the columns up to the title. Before the title stand the news,
+with semicolons between them, or `-`.
 
 The last line counts all loans of the desk, whichever are listed. It says how
 many want a hand, to do, and for how many more there is room. From 900 loans on

@@ -3,5 +3,6 @@ pub mod DeedLemmas
 pub mod FindingLemmas
 pub mod ListLaws
 pub mod ListLemmas
+pub mod MorningLaws
 pub mod NewsLemmas
 pub mod ReportLemmas

@@ -1,13 +1,15 @@
 -- Proves that a list without days does not depend on a diary.
-use Rattle.std.proofs.Common.{◌≡◌, ℕ, Bool, false, List, [], ◌∷◌, ◌++◌, length, Option, refl, sym, ap, ap₂, ◌∙◌}
+use Rattle.std.proofs.Common.{◌≡◌, ℕ, Bool, true, false, cond, List, [], ◌∷◌, ◌++◌, length, Option, refl, sym, ap, ap₂, ◌∙◌}
 use Rattle.std.specs.Prelude.{filter, find, if◌then◌else◌}
 use Rattle.std.specs.List.{flat_map}
 use Rattle.ill_list.specs.declared.row.Columns.{Columns}
 use Rattle.ill_list.specs.declared.wanted.Wanted.{Wanted}
 use Rattle.ill_list.specs.ListedNews.{listed_news}
 use Rattle.ill_list.specs.List.{columns_of, counts_line, counts_of, has_work}
-use Rattle.ill_list.specs.Listing.{chosen_of, heading, list_lines, listed_desk, noted_row, section, since_shown}
-use Rattle.ill_list.specs.Listing.{told_row, work_heading, work_lines}
+use Rattle.ill_list.specs.Listing.{chosen_of, heading, lines_text, list_lines, listed_desk, morning_lines, note_shown}
+use Rattle.ill_list.specs.Listing.{noted_row, section, since_shown, told_morning, told_row, work_heading, work_lines}
+use Rattle.ill_list.specs.Morning.{is_morning, morning_columns, morning_row}
+use Rattle.ill_list.specs.declared.morning.MorningColumns.{MorningColumns}
 use Rattle.ill_show.specs.Since.{AnnexRead, notes_alone, since_line, since_of}
 use Rattle.ill_text.specs.declared.form.Form.TheVariants.{Lines}
 use Rattle.ill_saved.specs.declared.side.Side.{Side}
@@ -42,6 +44,28 @@ module _ (wanted : Wanted) (off : wanted.has_since ≡ false) where
       (same_texts (told_row columns annex wanted) (told_row columns (notes_alone annex) wanted) (first ∷ others)
       (row_stays columns annex))
 
+  -- The lines of a kind of work in a morning's list are those by the notes alone.
+  morning_stays : (columns : MorningColumns) (annex : AnnexRead) (work : Work) (sides : List Side)
+      → morning_lines columns annex wanted work sides ≡ morning_lines columns (notes_alone annex) wanted work sides
+  morning_stays columns annex work sides =
+      same_texts (told_morning columns annex wanted work) (told_morning columns (notes_alone annex) wanted work) sides
+      (λ side. ap (λ (day : List ℕ). morning_row columns annex.news wanted work side
+          ++ (note_shown annex.notes wanted side ++ day))
+      (no_day annex side ∙ sym (no_day (notes_alone annex) side)))
+
+  -- The lines of a kind of work are those by the notes alone, in either form.
+  text_stays : (annex : AnnexRead) (chosen : List Side) (work : Work) (sides : List Side)
+      → lines_text wanted annex chosen wanted work sides ≡ lines_text wanted (notes_alone annex) chosen wanted work sides
+  text_stays annex chosen work sides = go (is_morning wanted)
+    where
+      go : (morning : Bool)
+          → cond morning (morning_lines (morning_columns wanted annex.news chosen) annex)
+          (work_lines (columns_of wanted chosen) annex) wanted work sides
+          ≡ cond morning (morning_lines (morning_columns wanted annex.news chosen) (notes_alone annex))
+          (work_lines (columns_of wanted chosen) (notes_alone annex)) wanted work sides
+      go true = morning_stays (morning_columns wanted annex.news chosen) annex work sides
+      go false = work_stays (columns_of wanted chosen) annex work sides
+
   -- The lines of a list are those by the notes alone.
   list_stays : (find : Option (List ℕ)) (annex : AnnexRead) (sides : List Side)
       → list_lines wanted (record { find = find; annex = annex }) sides
@@ -49,11 +73,10 @@ module _ (wanted : Wanted) (off : wanted.has_since ≡ false) where
   list_stays find annex sides =
       let ordered = most_urgent_first sides in
       let chosen = chosen_of wanted (record { find = find; annex = annex }) ordered in
-      let columns = columns_of wanted chosen in
       ap (λ (text : List ℕ). text ++ counts_line (counts_of wanted ordered))
-      (same_texts (section (work_lines columns annex) wanted chosen)
-      (section (work_lines columns (notes_alone annex)) wanted chosen) all_work
-      (λ work. work_stays columns annex work (filter (has_work wanted work) chosen)))
+      (same_texts (section (lines_text wanted annex chosen) wanted chosen)
+      (section (lines_text wanted (notes_alone annex) chosen) wanted chosen) all_work
+      (λ work. text_stays annex chosen work (filter (has_work wanted work) chosen)))
 
 -- The lines of a desk without days are those by the notes alone.
 pub no_list_depends : (is_headed : Bool) (wanted : Wanted) (find : Option (List ℕ)) (annex : AnnexRead) (path : List ℕ)

@@ -6,6 +6,7 @@ pub mod List
 pub mod ListObjects
 pub mod ListedNews
 pub mod Listing
+pub mod Morning
 pub mod News
 pub mod Report
 pub mod Told

@@ -4,6 +4,7 @@ use Rattle.std.specs.Prelude.{count_by, filter, replicate, Option, Some, None, i
 use Rattle.std.specs.List.{join_by}
 use Rattle.std.specs.Fmt.{decimal}
 use Rattle.ill_values.specs.Day.{Date}
+use Rattle.ill_values.specs.declared.apdu.Apdu.{Apdu}
 use Rattle.ill_core.specs.declared.state.State.{State}
 use Rattle.ill_core.specs.State.{is_among, state_name}
 use Rattle.ill_core.specs.Verbs.{verb_name}
@@ -16,6 +17,7 @@ use Rattle.ill_list.specs.declared.wanted.Which.TheVariants.{All, Open, Mine}
 use Rattle.ill_list.specs.declared.wanted.Wanted.{Wanted}
 use Rattle.ill_list.specs.declared.counts.Counts.{Counts}
 use Rattle.ill_list.specs.declared.row.Columns.{Columns}
+use Rattle.ill_list.specs.ListedNews.{has_news}
 use Rattle.ill_text.specs.Escape.{escaped}
 use Rattle.ill_words.specs.Possible.{possible_on, request_of, item_asked}
 use Rattle.ill_words.specs.Waiting.{is_sooner, waits_by_date}
@@ -67,13 +69,18 @@ abbrev pub is_wanted : Wanted → Side → Bool
 is_wanted wanted side =
     is_due_before wanted.due_before (due_date_of side) && is_in wanted.state (state_of side)
 
--- Returns true if a list has the loan: its work is listed, and it meets the other conditions.
-abbrev pub is_listed : Wanted → Side → Bool
-is_listed wanted side = lists wanted.which (work_of wanted side) && is_wanted wanted side
+-- Returns true if a list has the loan for its work. The list of what wants a hand has it for its news too.
+abbrev pub is_of_list : Wanted → (news : Option (List Apdu)) → Side → Bool
+is_of_list wanted news side =
+    lists wanted.which (work_of wanted side) || (is_mine wanted.which && has_news news side)
+
+-- Returns true if a list has the loan, and the loan meets the conditions on its due date and its state.
+abbrev pub is_listed : Wanted → (news : Option (List Apdu)) → Side → Bool
+is_listed wanted news side = is_of_list wanted news side && is_wanted wanted side
 
 -- Returns the loans that are listed, in the order of `sides`.
-abbrev pub listed_of : Wanted → List Side → List Side
-listed_of wanted sides = filter (is_listed wanted) sides
+abbrev pub listed_of : Wanted → (news : Option (List Apdu)) → List Side → List Side
+listed_of wanted news sides = filter (is_listed wanted news) sides
 
 -- ---- the item of a loan
 
@@ -143,12 +150,17 @@ widened today columns side = record {
 abbrev pub columns_of : Wanted → List Side → Columns
 columns_of wanted listed = fold (widened wanted.today) (no_columns wanted.has_actions) listed
 
--- Returns the line of a loan, with its actions on the day `today` if the list has them.
+-- Returns the columns of a loan before its title, with its actions on the day `today` if the list has them.
+unfoldable pub standing : Columns → Option Date → Side → List ℕ
+standing columns today side =
+    cell columns.state (state_name (state_of side)) ++ cell 8 (due_text (due_date_of side))
+    ++ cell columns.group (column (txn_of side).group) ++ cell columns.transaction (column (txn_of side).transaction)
+    ++ actions_cell columns today side
+
+-- Returns the line of a loan: its columns and its title.
 unfoldable pub row : Columns → Option Date → Side → List ℕ
 row columns today side =
-    codes "  " ++ cell columns.state (state_name (state_of side)) ++ cell 8 (due_text (due_date_of side))
-    ++ cell columns.group (column (txn_of side).group) ++ cell columns.transaction (column (txn_of side).transaction)
-    ++ actions_cell columns today side ++ title_text (item_asked (request_of side)) ++ codes "\n"
+    codes "  " ++ standing columns today side ++ title_text (item_asked (request_of side)) ++ codes "\n"
 
 -- ---- the loans that a list without a day leaves out
 
@@ -156,13 +168,13 @@ row columns today side =
 abbrev pub lacks_day : Wanted → Bool
 lacks_day wanted = is_mine wanted.which && is_none wanted.today
 
--- Returns true if the loan wants no hand without a day, and may want one by its date. It meets the other conditions.
-abbrev pub is_left_out : Wanted → Side → Bool
-is_left_out wanted side = not (is_to_do wanted side) && waits_by_date side && is_wanted wanted side
+-- Returns true if the loan is not listed without a day, and may want a hand by its date. It meets the other conditions.
+abbrev pub is_left_out : Wanted → (news : Option (List Apdu)) → Side → Bool
+is_left_out wanted news side = not (is_of_list wanted news side) && waits_by_date side && is_wanted wanted side
 
 -- Returns the number of loans that a list leaves out since no day is given.
-abbrev pub left_out : Wanted → List Side → ℕ
-left_out wanted sides = if lacks_day wanted then count_by (is_left_out wanted) sides else 0
+abbrev pub left_out : Wanted → (news : Option (List Apdu)) → List Side → ℕ
+left_out wanted news sides = if lacks_day wanted then count_by (is_left_out wanted news) sides else 0
 
 -- ---- counts
 

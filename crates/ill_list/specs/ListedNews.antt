@@ -1,8 +1,9 @@
 -- The news of a loan in `list`: the words of each message, on lines below its own or in its object.
-use Rattle.std.specs.Prelude.{ℕ, List, [], ◌∷◌, ◌++◌, codes, Option, None, Some}
-use Rattle.std.specs.List.{flat_map}
+use Rattle.std.specs.Prelude.{ℕ, Bool, false, List, [], ◌∷◌, ◌++◌, codes, Option, None, Some}
+use Rattle.std.specs.List.{flat_map, list_any}
 use Rattle.std.specs.Fmt.{decimal}
 use Rattle.ill_values.specs.declared.apdu.Apdu.{Apdu}
+use Rattle.ill_core.specs.Issued.{is_same_txn}
 use Rattle.ill_saved.specs.declared.side.Side.{Side}
 use Rattle.ill_saved.specs.Side.{txn_of}
 use Rattle.ill_text.specs.Json.{Field, array, object, optional, quoted}
@@ -10,6 +11,11 @@ use Rattle.ill_show.specs.Kept.{kept_of}
 use Rattle.ill_show.specs.NewsWords.{told_words}
 
 -- ---- lines
+
+-- Returns true if one of `news` is of the loan of a side, and news are told.
+abbrev pub has_news : (news : Option (List Apdu)) → Side → Bool
+has_news None side = false
+has_news (Some news) side = list_any (λ a. is_same_txn a.txn (txn_of side)) news
 
 -- Returns the line of a message in the loan of a side.
 abbrev pub news_line : Side → Apdu → List ℕ

@@ -12,6 +12,7 @@ use Rattle.ill_list.specs.declared.wanted.Wanted.{Wanted}
 use Rattle.ill_list.specs.declared.counts.Counts.{Counts}
 use Rattle.ill_list.specs.declared.row.Columns.{Columns}
 use Rattle.ill_list.specs.declared.list.Rows.{Rows}
+use Rattle.ill_list.specs.declared.morning.MorningColumns.{MorningColumns}
 use Rattle.ill_list.specs.declared.list.Rows.TheVariants as rows
 use Rattle.ill_text.specs.Escape.{escaped}
 use Rattle.ill_words.specs.Waiting.{most_urgent_first}
@@ -21,6 +22,7 @@ use Rattle.ill_list.specs.List.{columns_of, row, has_work, listed_of, counts_of,
 use Rattle.ill_list.specs.ListObjects.{row_object, counts_object}
 use Rattle.ill_list.specs.Finding.{Seeking, found_of}
 use Rattle.ill_list.specs.ListedNews.{listed_news}
+use Rattle.ill_list.specs.Morning.{is_morning, morning_columns, morning_row}
 use Rattle.ill_show.specs.Notes.{listed_note, note_of}
 use Rattle.ill_show.specs.Since.{AnnexRead, annex_of, since_line, since_of}
 
@@ -56,6 +58,15 @@ work_lines columns annex wanted work [] = []
 work_lines columns annex wanted work (first ∷ others) =
     work_heading work (length (first ∷ others)) ++ flat_map (told_row columns annex wanted) (first ∷ others)
 
+-- Returns the line of a loan in a morning's list, and those of its note and its day below it.
+abbrev pub told_morning : MorningColumns → AnnexRead → Wanted → Work → Side → List ℕ
+told_morning columns annex wanted work side =
+    morning_row columns annex.news wanted work side ++ (note_shown annex.notes wanted side ++ since_shown annex wanted side)
+
+-- Returns the lines of the loans with this work in a morning's list. No heading stands over them.
+abbrev pub morning_lines : MorningColumns → AnnexRead → Wanted → Work → List Side → List ℕ
+morning_lines columns annex wanted work sides = flat_map (told_morning columns annex wanted work) sides
+
 -- Returns the objects of the loans with this work.
 abbrev pub work_objects : Option (List ℕ) → AnnexRead → Wanted → Work → List Side → List ℕ
 work_objects file annex wanted work sides = flat_map (row_object file annex wanted.today work) sides
@@ -72,7 +83,7 @@ sections text wanted listed = flat_map (section text wanted listed) all_work
 
 -- Returns the loans of `sides` that are listed, and have the words that are sought.
 abbrev pub chosen_of : Wanted → Seeking → List Side → List Side
-chosen_of wanted seeking sides = found_of seeking (listed_of wanted sides)
+chosen_of wanted seeking sides = found_of seeking (listed_of wanted seeking.annex.news sides)
 
 -- Returns the texts of the chosen loans, and then the counts of all loans. Loans with one kind of work are in the order of
 -- `sides`.
@@ -83,18 +94,26 @@ listed text counts_text wanted seeking sides =
 -- Returns the text of the loans with one kind of work, in lines or in objects.
 abbrev pub work_text : Rows → Wanted → Work → List Side → List ℕ
 work_text (rows.Lines lines) = work_lines lines.columns (annex_of lines.annex.now)
+work_text (rows.Morning lines) = morning_lines lines.columns (annex_of lines.annex.now)
 work_text (rows.Objects objects) = work_objects (option_map (λ path. path.now) objects.file) (annex_of objects.annex.now)
 
 -- Returns the counts as a line or an object.
 abbrev pub counts_text : Rows → Counts → List ℕ
 counts_text (rows.Lines lines) = counts_line
+counts_text (rows.Morning lines) = counts_line
 counts_text (rows.Objects objects) = counts_object (option_map (λ path. path.now) objects.file)
 
--- Returns the lines of a list of `sides`. Its columns are wide enough for the chosen loans.
+-- Returns the function that writes the lines of the `chosen` loans with one kind of work. Its columns are wide enough for all
+-- chosen loans.
+abbrev pub lines_text : Wanted → AnnexRead → (chosen : List Side) → (Wanted → Work → List Side → List ℕ)
+lines_text wanted annex chosen =
+    if is_morning wanted then morning_lines (morning_columns wanted annex.news chosen) annex
+    else work_lines (columns_of wanted chosen) annex
+
+-- Returns the lines of a list of `sides`.
 abbrev pub ordered_lines : Wanted → Seeking → List Side → List ℕ
 ordered_lines wanted seeking sides =
-    listed (work_lines (columns_of wanted (chosen_of wanted seeking sides)) (seeking.annex)) counts_line
-    wanted seeking sides
+    listed (lines_text wanted seeking.annex (chosen_of wanted seeking sides)) counts_line wanted seeking sides
 
 -- Returns the lines of a desk. Loans with one kind of work are in the order of their deadlines.
 abbrev pub list_lines : Wanted → Seeking → List Side → List ℕ

@@ -1,6 +1,7 @@
-//! States the laws of the news of a desk, and of lists without days, as contracts of functions that do nothing.
+//! States the laws of the news of a desk, of a morning's list, and of lists without days, as contracts of functions that do
+//! nothing.
 
-ghost use Rattle.std.specs.Prelude.{◌≡◌, ◌++◌, ◌∷◌, ◌&&◌, ℕ, Bool, true, false, bytes_eq, filter, find, List, Option, Some};
+ghost use Rattle.std.specs.Prelude.{◌≡◌, ◌++◌, ◌∷◌, ◌&&◌, ℕ, Bool, true, false, bytes_eq, filter, find, List, Option, None, Some};
 ghost use Rattle.std.specs.List.{list_any};
 ghost use Rattle.ill_values.specs.Day.{Date};
 ghost use Rattle.ill_values.specs.declared.apdu.Apdu.{Apdu};
@@ -11,7 +12,10 @@ ghost use Rattle.ill_show.specs.Diary.{is_named};
 ghost use Rattle.ill_show.specs.Since.{AnnexRead, notes_alone};
 ghost use Rattle.ill_core.specs.Responder.{ResponderRecord};
 ghost use Rattle.ill_list.specs.Deeds.{deeds_since, is_by_date, is_deed_since};
+ghost use Rattle.ill_list.specs.List.{is_listed, is_mine, is_to_do, is_wanted};
+ghost use Rattle.ill_list.specs.ListedNews.{has_news};
 ghost use Rattle.ill_list.specs.Listing.{listed_desk};
+ghost use Rattle.ill_list.specs.declared.wanted.Which.TheVariants.{Mine};
 ghost use Rattle.ill_saved.specs.declared.side.Side.TheVariants.{Responder};
 ghost use Rattle.ill_show.specs.Heard.{is_heard};
 ghost use Rattle.ill_list.specs.declared.wanted.Wanted.{Wanted};
@@ -80,6 +84,24 @@ pub fn nothing_else_was_made_due()
     ensures deeds { (day : Date) (lines : List (List ℕ)) (sides : List Side) →
         Each (λ a. is_deed_since day lines a ≡ true) (deeds_since (Some day) lines sides) }
     ensures came { (y : ResponderRecord) (a : Apdu) → is_heard (Responder y) a ≡ true → is_by_date a.body ≡ false }
+{}
+
+/// The list of what wants a hand has each loan that has work or news, and no other. It has each that meets the conditions.
+#[tactic(auto, using(crate::proofs::MorningLaws::lists_news, crate::proofs::MorningLaws::lists_work, crate::proofs::MorningLaws::lists_no_other))]
+pub fn a_morning_lists_work_and_news()
+    ensures news { (wanted : Wanted) (news : Option (List Apdu)) (side : Side) → wanted.which ≡ Mine →
+        has_news news side ≡ true → is_listed wanted news side ≡ is_wanted wanted side }
+    ensures work { (wanted : Wanted) (news : Option (List Apdu)) (side : Side) → wanted.which ≡ Mine →
+        is_to_do wanted side ≡ true → is_listed wanted news side ≡ is_wanted wanted side }
+    ensures no_other { (wanted : Wanted) (news : Option (List Apdu)) (side : Side) → wanted.which ≡ Mine →
+        is_to_do wanted side ≡ false → has_news news side ≡ false → is_listed wanted news side ≡ false }
+{}
+
+/// No other list depends on the news: it lists the loans that it lists without them.
+#[tactic(auto, using(crate::proofs::MorningLaws::others_stay))]
+pub fn no_other_list_minds_news()
+    ensures { (wanted : Wanted) (news : Option (List Apdu)) (side : Side) → is_mine wanted.which ≡ false →
+        is_listed wanted news side ≡ is_listed wanted None side }
 {}
 
 /// Lines of a list without days do not depend on the diary, nor on the messages that came, but for the news that are told.

@@ -11,6 +11,7 @@ pub mod list;
 mod list_objects;
 pub mod listed;
 mod listed_news;
+mod morning;
 pub mod news;
 pub mod report;
 mod report_parts;

@@ -4,19 +4,21 @@ ghost use Rattle.std.specs.Prelude.{◌≡◌, ◌++◌, map, count_by, filter, 
 ghost use Rattle.std.specs.List.{flat_map};
 ghost use Rattle.ill_saved.specs.ManySides.{sides_held};
 ghost use Rattle.ill_text.specs.Output.{WritesText};
-ghost use Rattle.ill_list.specs.List.{counts_line, counts_of, has_work, is_left_out, lacks_day, left_out};
+ghost use Rattle.ill_list.specs.List.{columns_of, counts_line, counts_of, has_work, is_left_out, lacks_day, left_out};
 ghost use Rattle.ill_list.specs.Finding.{seeking_of};
+ghost use Rattle.ill_list.specs.Morning.{is_morning, morning_columns};
 ghost use Rattle.ill_show.specs.FileLines.{lines_of};
 ghost use Rattle.ill_show.specs.Since.{annex_of};
-ghost use Rattle.ill_list.specs.Listing.{between, chosen_of, counts_text, dated_row, file_told, gap, heading, list_lines, list_objects, listed_desk, note_shown, noted_row, ordered_lines, section, sections, since_shown, told_row, work_heading, work_lines, work_objects, work_text};
+ghost use Rattle.ill_list.specs.Listing.{between, chosen_of, counts_text, dated_row, file_told, gap, heading, list_lines, list_objects, listed_desk, morning_lines, note_shown, noted_row, ordered_lines, section, sections, since_shown, told_morning, told_row, work_heading, work_lines, work_objects, work_text};
 
 use crate::counts::Counts;
 use crate::finding::{Sought, found_of};
 use crate::list_objects::{RowObjects, push_counts_object, push_row_object};
 use crate::listed::{Listed, heading};
 use crate::listed_news::push_listed_news;
+use crate::morning::{MorningColumns, MorningLines, is_morning, push_morning_row};
 use crate::row::{Columns, push_row};
-use crate::wanted::{Wanted, has_work, is_to_do, is_wanted, listed_of};
+use crate::wanted::{Wanted, has_work, is_of_list, is_wanted, listed_of};
 use ill_saved::{Desk, Side, Sides, Store};
 use ill_show::annex::Annex;
 use ill_show::notes::{Notes, push_listed_note};
@@ -36,6 +38,8 @@ use std::io::Write;
 pub(crate) enum Rows<'a> {
     /// A line for each loan, and those of its note, its day and its news if the list has them.
     Lines(RowLines<'a>),
+    /// A line for each loan in the list of a morning, and those of its note and its day if the list has them.
+    Morning(MorningLines<'a>),
     /// An object for each loan.
     Objects(RowObjects<'a>),
 }
@@ -120,13 +124,49 @@ fn push_ordered(
     ensures { OnOk result (lines.new.items ≡ lines.old.items
         ++ ordered_lines sought.now.wanted.now (seeking_of sought.now) (map (λ side. side.now) sides.now)) }
 {
-    let alloc = *lines.allocator();
-    let chosen = chosen_of(alloc, sides, sought)?;
+    let chosen = chosen_of(*lines.allocator(), sides, sought)?;
+    if is_morning(sought.wanted) {
+        return push_morning(lines, sides, sought, &chosen);
+    }
+    push_headed(lines, sides, sought, &chosen)
+}
+
+/// Appends the lines of the `chosen` loans below the headings of their work, and the line of the counts of all `sides`.
+fn push_headed(
+    lines: &mut Vec<u8>,
+    sides: &[&Side],
+    sought: &Sought<'_>,
+    chosen: &[&Side],
+) -> Result<(), OutOfMemory>
+    ensures { OnOk result (lines.new.items ≡ lines.old.items
+        ++ (sections (work_lines (columns_of sought.now.wanted.now (map (λ side. side.now) chosen.now)) (annex_of sought.now.annex.now))
+        sought.now.wanted.now (map (λ side. side.now) chosen.now)
+        ++ counts_line (counts_of sought.now.wanted.now (map (λ side. side.now) sides.now)))) }
+{
     let rows = RowLines {
-        columns: Columns::of(alloc, &chosen, sought.wanted)?,
+        columns: Columns::of(*lines.allocator(), chosen, sought.wanted)?,
         annex: sought.annex,
     };
-    push_listed(lines, &Rows::Lines(rows), sought.wanted, sides, &chosen)
+    push_listed(lines, &Rows::Lines(rows), sought.wanted, sides, chosen)
+}
+
+/// Appends the lines of the `chosen` loans in a morning's list, and the line of the counts of all `sides`.
+fn push_morning(
+    lines: &mut Vec<u8>,
+    sides: &[&Side],
+    sought: &Sought<'_>,
+    chosen: &[&Side],
+) -> Result<(), OutOfMemory>
+    ensures { OnOk result (lines.new.items ≡ lines.old.items
+        ++ (sections (morning_lines (morning_columns sought.now.wanted.now (annex_of sought.now.annex.now).news (map (λ side. side.now) chosen.now)) (annex_of sought.now.annex.now))
+        sought.now.wanted.now (map (λ side. side.now) chosen.now)
+        ++ counts_line (counts_of sought.now.wanted.now (map (λ side. side.now) sides.now)))) }
+{
+    let rows = MorningLines {
+        columns: MorningColumns::of(*lines.allocator(), chosen, sought.wanted, sought.annex)?,
+        annex: sought.annex,
+    };
+    push_listed(lines, &Rows::Morning(rows), sought.wanted, sides, chosen)
 }
 
 /// Appends all objects of a list of `sides`.
@@ -158,7 +198,7 @@ fn chosen_of<'a>(
     ensures { IfOk result (λ chosen. map (λ side. side.now) chosen.items
         ≡ chosen_of sought.now.wanted.now (seeking_of sought.now) (map (λ side. side.now) sides.now)) }
 {
-    let listed = listed_of(alloc, sides, sought.wanted)?;
+    let listed = listed_of(alloc, sides, sought.wanted, sought.annex)?;
     found_of(alloc, &listed, sought.find, &sought.annex.notes)
 }
 
@@ -254,6 +294,7 @@ fn push_work(
 {
     match rows {
         Rows::Lines(rows) => push_work_lines(text, rows, wanted, work, sides),
+        Rows::Morning(rows) => push_morning_lines(text, rows, wanted, work, sides),
         Rows::Objects(rows) => push_work_objects(text, rows, wanted, work, sides),
     }
 }
@@ -377,6 +418,39 @@ fn push_note_shown(
     Ok(())
 }
 
+/// Appends a line for each loan of `sides`, with this work, in the list of a morning.
+fn push_morning_lines(
+    lines: &mut Vec<u8>,
+    rows: &MorningLines<'_>,
+    wanted: &Wanted,
+    work: Work,
+    sides: &[&Side],
+) -> Result<(), OutOfMemory>
+    ensures { OnOk result (lines.new.items ≡ lines.old.items
+        ++ morning_lines rows.now.columns (annex_of rows.now.annex.now) wanted.now work (map (λ side. side.now) sides.now)) }
+{
+    for side in sides {
+        push_told_morning(lines, rows, wanted, work, side)?;
+    }
+    Ok(())
+}
+
+/// Appends the line of the loan of `side` in the list of a morning, and those of its note and its day if the list has them.
+fn push_told_morning(
+    lines: &mut Vec<u8>,
+    rows: &MorningLines<'_>,
+    wanted: &Wanted,
+    work: Work,
+    side: &Side,
+) -> Result<(), OutOfMemory>
+    ensures { OnOk result (lines.new.items ≡ lines.old.items
+        ++ told_morning rows.now.columns (annex_of rows.now.annex.now) wanted.now work side.now) }
+{
+    push_morning_row(lines, rows, wanted, work, side)?;
+    push_note_shown(lines, &rows.annex.notes, wanted, side)?;
+    push_since_shown(lines, rows.annex, wanted, side)
+}
+
 /// Appends an object for each loan of `sides`, with this work.
 fn push_work_objects(
     text: &mut Vec<u8>,
@@ -395,23 +469,28 @@ fn push_work_objects(
 }
 
 /// Returns the number of loans that a list of `sides` leaves out since no day is given.
-pub fn count_left_out(alloc: Global, sides: &Sides, wanted: &Wanted) -> Result<usize, OutOfMemory>
-    ensures { IfOk result (λ count. count ≡ left_out wanted.now sides.now.sides) }
+pub fn count_left_out(
+    alloc: Global,
+    sides: &Sides,
+    wanted: &Wanted,
+    annex: &Annex,
+) -> Result<usize, OutOfMemory>
+    ensures { IfOk result (λ count. count ≡ left_out wanted.now (annex_of annex.now).news sides.now.sides) }
 {
     if !lacks_day(wanted) {
         return Ok(0);
     }
     let all = all_of(alloc, sides)?;
-    Ok(count_by_date(&all, wanted))
+    Ok(count_by_date(&all, wanted, annex))
 }
 
 /// Returns the number of loans of `sides` that are not listed, and may want a hand by their dates.
-fn count_by_date(sides: &[&Side], wanted: &Wanted) -> usize
-    ensures { result ≡ count_by (is_left_out wanted.now) (map (λ side. side.now) sides.now) }
+fn count_by_date(sides: &[&Side], wanted: &Wanted, annex: &Annex) -> usize
+    ensures { result ≡ count_by (is_left_out wanted.now (annex_of annex.now).news) (map (λ side. side.now) sides.now) }
 {
     sides
         .iter()
-        .filter(|side| is_left_out(wanted, side))
+        .filter(|side| is_left_out(wanted, annex, side))
         .count()
 }
 
@@ -422,11 +501,11 @@ fn lacks_day(wanted: &Wanted) -> bool
     wanted.which.is_mine() && wanted.today.is_none()
 }
 
-/// Returns true if the loan of `side` wants no hand without a day, but may want one by its date.
-fn is_left_out(wanted: &Wanted, side: &Side) -> bool
-    ensures { result ≡ is_left_out wanted.now side.now }
+/// Returns true if the loan of `side` is not listed without a day, but may want a hand by its date.
+fn is_left_out(wanted: &Wanted, annex: &Annex, side: &Side) -> bool
+    ensures { result ≡ is_left_out wanted.now (annex_of annex.now).news side.now }
 {
-    !is_to_do(wanted, side) && waits_by_date(side) && is_wanted(wanted, side)
+    !is_of_list(wanted, annex, side) && waits_by_date(side) && is_wanted(wanted, side)
 }
 
 /// Appends `counts`, as a line or as an object.
@@ -434,7 +513,7 @@ fn push_counts(text: &mut Vec<u8>, rows: &Rows<'_>, counts: &Counts) -> Result<(
     ensures { OnOk result (text.new.items ≡ text.old.items ++ counts_text rows.now counts.now) }
 {
     match rows {
-        Rows::Lines(_) => push_counts_line(text, counts),
+        Rows::Lines(_) | Rows::Morning(_) => push_counts_line(text, counts),
         Rows::Objects(rows) => push_counts_object(text, rows.file, counts),
     }
 }

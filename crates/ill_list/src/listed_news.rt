@@ -1,10 +1,12 @@
 //! The news of a loan in `list`: the words of each message.
 
 ghost use Rattle.std.specs.Prelude.{◌≡◌, [], ◌++◌, codes, OnOk};
-ghost use Rattle.std.specs.List.{flat_map};
+ghost use Rattle.std.specs.List.{flat_map, list_any};
+ghost use Rattle.ill_saved.specs.Side.{txn_of};
+ghost use Rattle.ill_core.specs.Issued.{is_same_txn};
 ghost use Rattle.ill_text.specs.Json.{joined, member};
 ghost use Rattle.ill_show.specs.Since.{annex_of};
-ghost use Rattle.ill_list.specs.ListedNews.{heard_array, heard_fields, heard_object, listed_news, listed_news_fields, news_line, news_value};
+ghost use Rattle.ill_list.specs.ListedNews.{has_news, heard_array, heard_fields, heard_object, listed_news, listed_news_fields, news_line, news_value};
 
 use ill_saved::Side;
 use ill_show::annex::Annex;
@@ -12,6 +14,30 @@ use ill_show::kept::kept_of;
 use ill_show::news_words::told_words;
 use ill_text::json::{ItemForm, Value, push_array, push_label, push_members, push_plain};
 use ill_values::{Apdu, OutOfMemory};
+
+/// Returns true if one of the news of `annex` is of the loan of `side`, and news are told.
+pub(crate) fn has_news(annex: &Annex, side: &Side) -> bool
+    ensures { result ≡ has_news (annex_of annex.now).news side.now }
+{
+    match &annex.news {
+        Some(news) => is_of_any(news, side),
+        None => false,
+    }
+}
+
+/// Returns true if one of `news` is of the loan of `side`.
+fn is_of_any(news: &[Apdu], side: &Side) -> bool
+    ensures { result ≡ list_any (λ a. is_same_txn a.txn (txn_of side.now)) news.now }
+{
+    news.iter().any(|apdu| is_of(apdu, side))
+}
+
+/// Returns true if `apdu` is of the loan of `side`.
+fn is_of(apdu: &Apdu, side: &Side) -> bool
+    ensures { result ≡ is_same_txn apdu.now.txn (txn_of side.now) }
+{
+    apdu.txn == *side.txn()
+}
 
 /// Appends the lines of the news of `annex` that came to the loan of `side`, if news are told.
 pub(crate) fn push_listed_news(

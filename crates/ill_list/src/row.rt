@@ -5,7 +5,7 @@ ghost use Rattle.ill_core.specs.State.{state_name};
 ghost use Rattle.ill_saved.specs.Side.{state_of, due_date_of};
 ghost use Rattle.ill_words.specs.Shown.{due_text};
 ghost use Rattle.ill_words.specs.Possible.{request_of, item_asked};
-ghost use Rattle.ill_list.specs.List.{title_text, padded, cell, column, column_byte, columns_of, is_end, actions_cell, actions_text, no_columns, row, verbs_text, widened};
+ghost use Rattle.ill_list.specs.List.{title_text, padded, cell, column, column_byte, columns_of, is_end, actions_cell, actions_text, no_columns, row, standing, verbs_text, widened};
 
 use crate::wanted::Wanted;
 use ill_saved::Side;
@@ -96,7 +96,24 @@ pub fn push_row(
 ) -> Result<(), OutOfMemory>
     ensures { OnOk result (lines.new.items ≡ lines.old.items ++ row columns.now today side.now) }
 {
-    push_standing(lines, columns.state, side)?;
+    lines.extend_from_slice(b"  ")?;
+    push_standing(lines, columns, today, side)?;
+    push_title(lines, side)?;
+    lines.push(b'\n')?;
+    Ok(())
+}
+
+/// Appends the columns of `side` before its title, with its actions on the day `today` if the list has them.
+#[tactic(auto, unfolding(crate::specs::List::standing))]
+pub(crate) fn push_standing(
+    lines: &mut Vec<u8>,
+    columns: &Columns,
+    today: Option<Day>,
+    side: &Side,
+) -> Result<(), OutOfMemory>
+    ensures { OnOk result (lines.new.items ≡ lines.old.items ++ standing columns.now today side.now) }
+{
+    push_state(lines, columns.state, side)?;
     let alloc = *lines.allocator();
     push_cell(lines, columns.group, &column(alloc, side.txn().group())?)?;
     push_cell(
@@ -104,18 +121,14 @@ pub fn push_row(
         columns.transaction,
         &column(alloc, side.txn().transaction())?,
     )?;
-    push_actions(lines, columns, today, side)?;
-    push_title(lines, side)?;
-    lines.push(b'\n')?;
-    Ok(())
+    push_actions(lines, columns, today, side)
 }
 
-/// Appends two spaces, the state in a column of this width, and the due date, or a dash for it.
-fn push_standing(lines: &mut Vec<u8>, width: usize, side: &Side) -> Result<(), OutOfMemory>
+/// Appends the state in a column of this width, and the due date, or a dash for it.
+fn push_state(lines: &mut Vec<u8>, width: usize, side: &Side) -> Result<(), OutOfMemory>
     ensures { OnOk result (lines.new.items ≡ lines.old.items
-        ++ (codes "  " ++ cell width (state_name (state_of side.now)) ++ cell 8 (due_text (due_date_of side.now)))) }
+        ++ (cell width (state_name (state_of side.now)) ++ cell 8 (due_text (due_date_of side.now)))) }
 {
-    lines.extend_from_slice(b"  ")?;
     push_cell(lines, width, side.state().name().as_bytes())?;
     match side.due() {
         None => push_cell(lines, DUE, b"-"),

@@ -1,10 +1,13 @@
 //! The loans that a list is asked for.
 
 ghost use Rattle.std.specs.Prelude.{◌≡◌, filter, map, IfOk};
-ghost use Rattle.ill_list.specs.List.{has_work, is_due_before, is_in, is_listed, is_mine, is_to_do, is_wanted, listed_of, lists, work_of};
+ghost use Rattle.ill_show.specs.Since.{annex_of};
+ghost use Rattle.ill_list.specs.List.{has_work, is_due_before, is_in, is_listed, is_mine, is_of_list, is_to_do, is_wanted, listed_of, lists, work_of};
 
+use crate::listed_news::has_news;
 use ill_core::State;
 use ill_saved::Side;
+use ill_show::annex::Annex;
 use ill_values::{Day, OutOfMemory};
 use ill_words::waiting::is_sooner;
 use ill_work::Work;
@@ -17,7 +20,7 @@ pub enum Which {
     All,
     /// The loans that are not over.
     Open,
-    /// The loans that want a hand.
+    /// The loans that want a hand, and those that have news.
     Mine,
 }
 
@@ -85,16 +88,17 @@ pub(crate) fn is_to_do(wanted: &Wanted, side: &Side) -> bool
     work(wanted, side).wants_a_hand()
 }
 
-/// Returns the loans of `sides` that are listed, in their order.
+/// Returns the loans of `sides` that are listed, in their order. `annex` has their news.
 pub(crate) fn listed_of<'a>(
     alloc: Global,
     sides: &[&'a Side],
     wanted: &Wanted,
+    annex: &Annex,
 ) -> Result<Vec<&'a Side>, OutOfMemory>
     ensures { IfOk result (λ listed. map (λ side. side.now) listed.items
-        ≡ listed_of wanted.now (map (λ side. side.now) sides.now)) }
+        ≡ listed_of wanted.now (annex_of annex.now).news (map (λ side. side.now) sides.now)) }
 {
-    Ok(kept_listed(alloc, sides, wanted)?)
+    Ok(kept_listed(alloc, sides, wanted, annex)?)
 }
 
 /// Returns the references to the loans of `sides` that are listed, in their order.
@@ -102,23 +106,32 @@ fn kept_listed<'a>(
     alloc: Global,
     sides: &[&'a Side],
     wanted: &Wanted,
+    annex: &Annex,
 ) -> Result<Vec<&'a Side>, OutOfMemory>
-    ensures { IfOk result (λ listed. listed.items ≡ filter (λ side. is_listed wanted.now side.now) sides.now) }
+    ensures { IfOk result (λ listed. listed.items
+        ≡ filter (λ side. is_listed wanted.now (annex_of annex.now).news side.now) sides.now) }
 {
     Ok(
         sides
             .iter()
             .copied()
-            .filter(|side| is_listed(wanted, side))
+            .filter(|side| is_listed(wanted, annex, side))
             .collect(alloc)?,
     )
 }
 
-/// Returns true if a list has the loan of `side`.
-fn is_listed(wanted: &Wanted, side: &Side) -> bool
-    ensures { result ≡ is_listed wanted.now side.now }
+/// Returns true if a list has the loan of `side`, and the loan meets the conditions on its due date and its state.
+fn is_listed(wanted: &Wanted, annex: &Annex, side: &Side) -> bool
+    ensures { result ≡ is_listed wanted.now (annex_of annex.now).news side.now }
 {
-    wanted.which.lists(work(wanted, side)) && is_wanted(wanted, side)
+    is_of_list(wanted, annex, side) && is_wanted(wanted, side)
+}
+
+/// Returns true if a list has the loan of `side` for its work. The list of what wants a hand has it for its news too.
+pub(crate) fn is_of_list(wanted: &Wanted, annex: &Annex, side: &Side) -> bool
+    ensures { result ≡ is_of_list wanted.now (annex_of annex.now).news side.now }
+{
+    wanted.which.lists(work(wanted, side)) || (wanted.which.is_mine() && has_news(annex, side))
 }
 
 /// Returns true if the loan of `side` meets the conditions on its due date and its state.

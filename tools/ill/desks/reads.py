@@ -169,13 +169,15 @@ OVER = [*WORKS][-1]
 LISTED = {"": WORKS, "--open": [name for name in WORKS if name != OVER], "--mine": HANDS}
 
 
-def listed(sides, flag, today=None, due_before=None, state=None, ahead=AHEAD, find=None, notes=None):
-    """Yields the loans that `list` lists, each with its work, in their order. `notes` has the notes of loans."""
-    for name in LISTED[flag]:
+def listed(sides, flag, today=None, due_before=None, state=None, ahead=AHEAD, find=None, notes=None, news=None):
+    """Yields the loans that `list` lists, each with its work, in their order. `notes` has the notes of loans, and `news` what is
+    told of them."""
+    for name in WORKS:
         for side in by_deadline(sides):
             is_due = due_before is None or side.due is not None and side.due < due_before
             is_wanted = is_due and state in (None, side.state) and is_found(find, side, notes or {})
-            if work_with(side, today, ahead) == name and is_wanted:
+            is_of_list = name in LISTED[flag] or flag == "--mine" and bool(news and news[tuple(side.txn)])
+            if work_with(side, today, ahead) == name and is_of_list and is_wanted:
                 yield name, side
 
 
@@ -221,6 +223,21 @@ def list_lines(sides, flag, today=None, due_before=None, state=None, ahead=AHEAD
     return [*lines, "loans {loans}, open {open}, to do {todo}, room for {room}".format(**told)]
 
 
+def morning_lines(sides, today, news, notes=None, days=None):
+    """Returns the lines of `list --mine --since DAY`."""
+    rows = list(listed(sides, "--mine", today, news=news))
+    cells = [[name, side.state, side.due or "-", column(side.txn[0]), column(side.txn[1]),
+              "; ".join(words for _, words in news[tuple(side.txn)]) or "-"] for name, side in rows]
+    widths = [max(map(len, texts)) for texts in zip(*cells)]
+    widths[2:3] = [8] if widths else []
+    lines = []
+    for (_, side), texts in zip(rows, cells):
+        lines.append("".join(map(padded, texts, widths)) + shown(side.asked()["item"]))
+        lines += [f"    note {notes[tuple(side.txn)]}"] if tuple(side.txn) in (notes or {}) else []
+        lines += [f"    since {days[tuple(side.txn)]}"] if tuple(side.txn) in (days or {}) else []
+    return [*lines, "loans {loans}, open {open}, to do {todo}, room for {room}".format(**counts(sides, today))]
+
+
 def list_objects(sides, flag, today=None, due_before=None, state=None, ahead=AHEAD, find=None, notes=None, news=None,
                  days=None):
     """Returns the objects of `list`."""
@@ -228,7 +245,7 @@ def list_objects(sides, flag, today=None, due_before=None, state=None, ahead=AHE
              "transaction": side.txn[1], "now": side.possible(today), "item": side.asked()["item"],
              "note": (notes or {}).get(tuple(side.txn)), "since": iso((days or {}).get(tuple(side.txn))),
              "news": heard_objects(side, news)}
-            for name, side in listed(sides, flag, today, due_before, state, ahead, find, notes)
+            for name, side in listed(sides, flag, today, due_before, state, ahead, find, notes, news)
             ] + [{"kind": "counts", **counts(sides, today, ahead)}]
 
 
@@ -546,6 +563,10 @@ def check_since(judge, path, sides):
         judge.lines(["list", path, "--since", day], list_lines(sides, "", news=news))
         judge.lines(["list", path, "--since", day, "--since-when"], list_lines(sides, "", news=news, days=last_days))
         judge.objects(["list", path, "--json", "--since", day], list_objects(sides, "", news=news, days=last_days))
+        morning = ["list", path, "--mine", "--since", day, "--today", TODAY]
+        judge.lines(morning, morning_lines(sides, TODAY, news))
+        judge.lines([*morning, "--since-when"], morning_lines(sides, TODAY, news, days=last_days))
+        judge.objects([*morning, "--json"], list_objects(sides, "--mine", TODAY, news=news, days=last_days))
     os.remove(f"{path}.came")
     os.remove(f"{path}.diary")
 

@@ -2,6 +2,7 @@
 use Rattle.std.proofs.Common.{List, Bor, map, ap, ◌∙◌}
 use Rattle.ill_saved.specs.declared.side.Side.{Side}
 use Rattle.ill_list.specs.List.{is_listed}
+use Rattle.ill_show.specs.Since.{annex_of}
 use Rattle.ill_list.proofs.ListLemmas.{filter_mapped}
 use Rattle.ill_list.proofs.wanted.listed_of.Goals as goal
 
@@ -9,4 +10,4 @@ use Rattle.ill_list.proofs.wanted.listed_of.Goals as goal
 pub returns : goal.returns
 returns c =
     ap (λ (items : List (Bor Side)). map (λ side. side.now) items) c.in_ok-kept_listed.ensures
-    ∙ filter_mapped (λ side. side.now) (is_listed c.args.wanted.now) c.args.sides.now
+    ∙ filter_mapped (λ side. side.now) (is_listed c.args.wanted.now (annex_of c.args.annex.now).news) c.args.sides.now

@@ -1,0 +1,161 @@
+//! The list of a morning: a line for each loan that wants a hand, or to which something came since a day.
+
+ghost use Rattle.std.specs.Prelude.{◌≡◌, ◌++◌, [], map, fold, IfOk, OnOk};
+ghost use Rattle.std.specs.List.{flat_map};
+ghost use Rattle.ill_show.specs.Since.{annex_of};
+ghost use Rattle.ill_work.specs.Work.{work_words};
+ghost use Rattle.ill_list.specs.List.{work_of};
+ghost use Rattle.ill_list.specs.Morning.{break_after, is_morning, morning_columns, morning_row, news_text, text_or_dash, widest, with_words, words_of};
+
+use crate::row::{Columns, push_cell, push_standing, push_title};
+use crate::wanted::{Wanted, work};
+use ill_saved::Side;
+use ill_show::annex::Annex;
+use ill_show::kept::kept_of;
+use ill_show::news_words::told_words;
+use ill_values::{Apdu, OutOfMemory};
+use ill_work::Work;
+use std::alloc::Global;
+
+/// The columns of a morning's list.
+#[derive(Clone, Copy)]
+pub(crate) struct MorningColumns {
+    /// The columns of the loan.
+    pub row: Columns,
+    /// The width of the work.
+    pub work: usize,
+    /// The width of the news.
+    pub news: usize,
+}
+
+/// Returns true if a list is one of a morning: of what wants a hand, and of what came since a day.
+pub(crate) fn is_morning(wanted: &Wanted) -> bool
+    ensures { result ≡ is_morning wanted.now }
+{
+    wanted.which.is_mine() && wanted.since.is_some()
+}
+
+impl MorningColumns {
+    /// Returns the columns that are wide enough for each of the listed loans.
+    pub(crate) fn of(
+        alloc: Global,
+        listed: &[&Side],
+        wanted: &Wanted,
+        annex: &Annex,
+    ) -> Result<MorningColumns, OutOfMemory>
+        ensures { IfOk result (λ columns. columns
+            ≡ morning_columns wanted.now (annex_of annex.now).news (map (λ side. side.now) listed.now)) }
+    {
+        Ok(MorningColumns {
+            row: Columns::of(alloc, listed, wanted)?,
+            work: work_width(listed, wanted),
+            news: news_width(alloc, listed, annex)?,
+        })
+    }
+}
+
+/// Returns the length of the longest words of the work with one of the listed loans.
+fn work_width(listed: &[&Side], wanted: &Wanted) -> usize
+    ensures { result ≡ widest (λ side. work_words (work_of wanted.now side)) (map (λ side. side.now) listed.now) }
+{
+    let mut width = 0;
+    for side in listed {
+        width = width.max(work(wanted, side).words().len());
+    }
+    width
+}
+
+/// Returns the length of the longest news of one of the listed loans.
+fn news_width(alloc: Global, listed: &[&Side], annex: &Annex) -> Result<usize, OutOfMemory>
+    ensures { IfOk result (λ width. width
+        ≡ widest (λ side. text_or_dash (news_text (annex_of annex.now).news side)) (map (λ side. side.now) listed.now)) }
+{
+    let mut width = 0;
+    for side in listed {
+        let text = news_text(alloc, annex, side)?;
+        width = width.max(text.len());
+    }
+    Ok(width)
+}
+
+/// Returns the words of the news of the loan of `side`, or a dash if it has none.
+fn news_text(alloc: Global, annex: &Annex, side: &Side) -> Result<Vec<u8>, OutOfMemory>
+    ensures { IfOk result (λ text. text.items ≡ text_or_dash (news_text (annex_of annex.now).news side.now)) }
+{
+    let mut text = known_news(alloc, annex, side)?;
+    if text.is_empty() {
+        text.push(b'-')?;
+    }
+    Ok(text)
+}
+
+/// Returns the words of the news of the loan of `side`, which are none if no news are told.
+fn known_news(alloc: Global, annex: &Annex, side: &Side) -> Result<Vec<u8>, OutOfMemory>
+    ensures { IfOk result (λ text. text.items ≡ news_text (annex_of annex.now).news side.now) }
+{
+    match &annex.news {
+        Some(news) => words_of(alloc, side, &kept_of(alloc, side.txn(), news)?),
+        None => Ok(Vec::new(alloc)),
+    }
+}
+
+/// Returns the words of the messages `kept` in the loan of `side`, one after another.
+fn words_of(alloc: Global, side: &Side, kept: &[Apdu]) -> Result<Vec<u8>, OutOfMemory>
+    ensures { IfOk result (λ text. text.items ≡ words_of side.now kept.now) }
+{
+    let mut text = Vec::new(alloc);
+    for apdu in kept {
+        push_words(&mut text, side, apdu)?;
+    }
+    Ok(text)
+}
+
+/// Appends the words of `apdu` in the loan of `side`.
+fn push_words(text: &mut Vec<u8>, side: &Side, apdu: &Apdu) -> Result<(), OutOfMemory>
+    ensures { OnOk result (text.new.items ≡ with_words side.now text.old.items apdu.now) }
+{
+    push_break(text)?;
+    let words = told_words(*text.allocator(), side, &apdu.body)?;
+    text.extend_from_slice(&words)?;
+    Ok(())
+}
+
+/// Appends what stands before further words.
+fn push_break(text: &mut Vec<u8>) -> Result<(), OutOfMemory>
+    ensures { OnOk result (text.new.items ≡ text.old.items ++ break_after text.old.items) }
+{
+    if text.is_empty() {
+        return Ok(());
+    }
+    text.extend_from_slice(b"; ")
+}
+
+/// Appends the line of the loan of `side`, which has this work: its work, its columns, its news and its title.
+#[tactic(auto, unfolding(crate::specs::Morning::morning_row))]
+pub(crate) fn push_morning_row(
+    lines: &mut Vec<u8>,
+    rows: &MorningLines<'_>,
+    wanted: &Wanted,
+    work: Work,
+    side: &Side,
+) -> Result<(), OutOfMemory>
+    ensures { OnOk result (lines.new.items ≡ lines.old.items
+        ++ morning_row rows.now.columns (annex_of rows.now.annex.now).news wanted.now work side.now) }
+{
+    let news = news_text(*lines.allocator(), rows.annex, side)?;
+    push_cell(lines, rows.columns.work, work.words().as_bytes())?;
+    push_standing(lines, &rows.columns.row, wanted.today, side)?;
+    push_cell(lines, rows.columns.news, &news)?;
+    push_title(lines, side)?;
+    lines.push(b'\n')?;
+    Ok(())
+}
+
+/// The columns of the lines of a morning's list, and the annex of the desk.
+#[derive(Clone, Copy)]
+pub(crate) struct MorningLines<'a> {
+    /// The columns.
+    pub columns: MorningColumns,
+    /// The annex.
+    pub annex: &'a Annex,
+}

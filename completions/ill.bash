@@ -66,7 +66,7 @@ _ill_parts() {
     note) parts=(file loan loan none) options='--explain --help' ;;
     slip) parts=(file loan loan) options='--explain --help' ;;
     status) parts=(file) options='--json --explain --help' ;;
-    report) parts=(files) options='--today --explain --help' ;;
+    report) parts=(files) options='--today --since --explain --help' ;;
     figures) parts=(files) options='--from --to --csv --explain --help' ;;
     take) parts=(file) options='--long --keep --today --by --key --explain --help' ;;
     send) parts=(file loan loan none) options='--key --explain --help' ;;

@@ -175,7 +175,7 @@ complete -c ill -n '__ill_option count list' -l ahead -x -d 'Days within which a
 complete -c ill -n '__ill_option day list' -l due-before -x -d 'List only the loans that are due before this day'
 complete -c ill -n '__ill_option state list' -l state -x -a 'IDLE PENDING IN-PROCESS CONDITIONAL CANCEL-PENDING CANCELLED NOT-SUPPLIED SHIPPED RECEIVED RENEW/PENDING OVERDUE RENEW/OVERDUE NOT-RECEIVED/OVERDUE RECALL RETURNED CHECKED-IN' -d 'List only the loans in this state, as SHIPPED'
 complete -c ill -n '__ill_option text list' -l find -x -d 'List only the loans with these words in a text'
-complete -c ill -n '__ill_option day list news' -l since -x -d 'Tell what came on this day or later, as 20250301'
+complete -c ill -n '__ill_option day list news report' -l since -x -d 'Tell what came on this day or later, as 20250301'
 complete -c ill -n '__ill_option any list' -l actions -d 'Show the actions that are possible in each loan'
 complete -c ill -n '__ill_option any list' -l notes -d 'Show the note on each loan below it'
 complete -c ill -n '__ill_option any list' -l since-when -d 'Show below each loan the day of its last message, by the diary'

@@ -185,11 +185,12 @@ VerifiesFile form before after result =
     FailsToOpen before after result
     ⊎ ((loaded : Result (Option (List ℕ)) StoreFault) × GoesWell (VerifiesLoaded form loaded before after) result)
 
--- A page of the desks at the paths was written, with a part for each. The result is the gravest of the faults of
--- desks that could not be opened, and of that about the names in the folders. Or memory ran out before the page.
-abbrev pub ReportsPaths : Date → Option (List ℕ) → Option (List ℕ) → Result Bool ToolFault → Type 0
-ReportsPaths today before after result =
+-- A page of the desks at the paths was written, with a part for each, and with news if a day `since` is given. The result is
+-- the gravest of the faults of desks that could not be opened, and of that about the names in the folders. Or memory ran out
+-- before the page.
+abbrev pub ReportsPaths : Date → (since : Option Date) → Option (List ℕ) → Option (List ℕ) → Result Bool ToolFault → Type 0
+ReportsPaths today since before after result =
     ((result ≡ Err OutOfMemory) × (after ≡ before))
     ⊎ ((parts : List Part) × (are_texts : Bool) × (written : Result (Unit {0}) ToolFault)
-    × IfErr (gravest_part parts) IsOpenFault × WritesText before after (report_page today parts) written
+    × IfErr (gravest_part parts) IsOpenFault × WritesText before after (report_page today since parts) written
     × (result ≡ after_writing written (graver (gravest_part parts) (names_answer are_texts))))

@@ -487,18 +487,20 @@ pub fn verify<T: Files, W: Write, E: Write>(
     all_well(verified)
 }
 
-/// `ill report`: writes a page of the desks at `paths`. A desk that cannot be read has a part with its fault.
+/// `ill report`: writes a page of the desks at `paths`. If a day `since` is given, each loan has its news since that day. A
+/// desk that cannot be read has a part with its fault.
 pub fn report<T: Files, W: Write, E: Write>(
     machine: &mut Machine<'_, T, W, E>,
     paths: &[&str],
     today: Day,
+    since: Option<Day>,
 ) -> Result<bool, ToolFault>
-    ensures { ReportsPaths today (W.contents machine.old.writer) (W.contents machine.new.writer) result }
+    ensures { ReportsPaths today since (W.contents machine.old.writer) (W.contents machine.new.writer) result }
 {
     let found = desk_paths(machine.rt, machine.alloc, paths)?;
     let mut page = Vec::new(machine.alloc);
     push_head(&mut page, today)?;
-    let answer = push_files(machine, &mut page, today, &found.files)?;
+    let answer = push_files(machine, &mut page, today, since, &found.files)?;
     let answer = graver(
         answer,
         warn_of_names(machine.alloc, &found.unnamed, &mut machine.errors),
@@ -524,16 +526,17 @@ fn push_files<T: Files, W: Write, E: Write>(
     machine: &mut Machine<'_, T, W, E>,
     page: &mut Vec<u8>,
     today: Day,
+    since: Option<Day>,
     files: &[String],
 ) -> Result<Result<bool, ToolFault>, OutOfMemory>
     ensures told { IfOk result (λ answer.
-        AddsParts today (map (λ file. string_bytes file) files.now) page.old.items page.new.items answer) }
+        AddsParts today since (map (λ file. string_bytes file) files.now) page.old.items page.new.items answer) }
     ensures fault { IfOk result (λ answer. IfErr answer IsOpenFault) }
     ensures silent { machine.new.writer ≡ machine.old.writer }
 {
     let mut answer = Ok(true);
     for place in 0..files.len() {
-        let next = push_file(machine, page, today, files[place].as_str())?;
+        let next = push_file(machine, page, today, since, files[place].as_str())?;
         answer = graver(answer, next);
     }
     Ok(answer)
@@ -544,14 +547,17 @@ fn push_file<T: Files, W: Write, E: Write>(
     machine: &mut Machine<'_, T, W, E>,
     page: &mut Vec<u8>,
     today: Day,
+    since: Option<Day>,
     file: &str,
 ) -> Result<Result<bool, ToolFault>, OutOfMemory>
-    ensures told { IfOk result (λ answer. AddsPart today file.now page.old.items page.new.items answer) }
+    ensures told { IfOk result (λ answer. AddsPart today since file.now page.old.items page.new.items answer) }
     ensures fault { IfOk result (λ answer. IfErr answer IsOpenFault) }
     ensures silent { machine.new.writer ≡ machine.old.writer }
 {
     match open_with_annex(machine.rt, machine.alloc, file, &mut machine.errors) {
-        Ok((desk, annex)) => {
+        Ok((desk, mut annex)) => {
+            let news = news_since(machine.alloc, desk.sides(), &annex, since)?;
+            annex.news = news;
             let told = push_desk(
                 page,
                 &PageView::of_report(today),

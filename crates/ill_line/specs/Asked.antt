@@ -320,7 +320,7 @@ pub data Asked : Type 0 where
   Loan : (file : List ℕ) → (txn : Qualifiers) → (form : LoanForm) → Asked
   Note : (file : List ℕ) → (txn : Qualifiers) → (words : List (List ℕ)) → Asked
   Slip : (file : List ℕ) → (txn : Qualifiers) → Asked
-  Report : (paths : List (List ℕ)) → (today : Date) → Asked
+  Report : (paths : List (List ℕ)) → (today : Date) → (since : Option Date) → Asked
   Retire : (file group : List ℕ) → Asked
   Verify : (file : List ℕ) → (form : Form) → Asked
 
@@ -358,7 +358,7 @@ asked (requests.Status file form) = Status file.now form
 asked (requests.Loan file txn form) = Loan file.now txn form
 asked (requests.Note file txn words) = Note file.now txn (map (λ word. word.now) words.items)
 asked (requests.Slip file txn) = Slip file.now txn
-asked (requests.Report paths today) = Report (map (λ path. path.now) paths.items) today
+asked (requests.Report paths today since) = Report (map (λ path. path.now) paths.items) today since
 asked (requests.Retire file group) = Retire file.now group.now
 asked (requests.Verify file form) = Verify file.now form
 
@@ -463,7 +463,8 @@ asked_of names.Slip found = do
 asked_of names.Report found = do
   paths ← texts_of Paths found
   today ← day_given ReportDay found
-  Some (Report paths today)
+  since ← day_in Since found
+  Some (Report paths today since)
 asked_of names.Retire found = do
   file ← text_of File found
   group ← group_of found

@@ -269,7 +269,7 @@ impl Name {
                 Argument::NoteWords,
             ],
             Name::Slip => &[Argument::File, Argument::Group, Argument::Transaction],
-            Name::Report => &[Argument::Paths, Argument::ReportDay],
+            Name::Report => &[Argument::Paths, Argument::ReportDay, Argument::Since],
             Name::List => &[
                 Argument::Paths,
                 Argument::Open,

@@ -976,18 +976,19 @@ The page is one file of HTML, on standard output. It has no scripts, and it
 needs nothing from elsewhere. It may be printed. `ill --help` tells which desks
 a PATH has.
 
-Of each desk the page counts the loans that want a hand on DAY, those that are
-not over, all loans, and the room for more. Then it has a table for each kind of
-work, with the number of its loans. The work says what staff do next with a loan
-on DAY. The most pressing work stands first, and loans that are over stand last.
-A due date is soon if it is at most 7 days away.
+Of each desk the page counts the loans that want a hand on the day of --today,
+those that are not over, all loans, and the room for more. Then it has a table
+for each kind of work, with the number of its loans. The work says what staff do
+next with a loan on that day. The most pressing work stands first, and loans
+that are over stand last. A due date is soon if it is at most 7 days away.
 
 A row has the title of a loan, the note on it, its group and transaction, and
 its state in plain words. Below that stands the day of its last message, if
-FILE.diary tells it. It has the day on which the item is due, or else the day
-after which the request may expire. Last it has the verbs that `ill act`
-takes on DAY. In each table the earliest of these days stands first, and loans
-without one last. A day is written YYYY-MM-DD.
+FILE.diary tells it. With --since DAY its news since that day stand there, too,
+in the words of `ill news`. It has the day on which the item is due, or else the
+day after which the request may expire. Last it has the verbs that `ill act`
+takes on the day of --today. In each table the earliest of these days stands
+first, and loans without one last. A day is written YYYY-MM-DD.
 
 What a person wrote, titles, notes, groups, transactions and names of files,
 stands there as text, whatever its characters. A desk that cannot be read has

@@ -219,6 +219,8 @@ pub enum Request<'a> {
         paths: Vec<&'a str>,
         /// The day of the report.
         today: Day,
+        /// The day, if it is given, from which on news are told.
+        since: Option<Day>,
     },
 }
 
@@ -864,7 +866,15 @@ fn report_request<'a>(alloc: Global, matches: &ArgMatches<'a>) -> Result<Request
 {
     let paths = texts(alloc, matches, Argument::Paths)?;
     let today = day_given(alloc, matches, Argument::ReportDay)?;
-    Ok(Request::Report { paths, today })
+    let since = match day(matches, Argument::Since) {
+        Ok(since) => since,
+        Err(refusal) => return Err(refusal),
+    };
+    Ok(Request::Report {
+        paths,
+        today,
+        since,
+    })
 }
 
 /// Returns the request of `ill simulate`.

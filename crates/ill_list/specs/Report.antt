@@ -6,6 +6,7 @@ use Rattle.std.specs.Prelude.{Option, Some, None, map, option_map, Result, Ok, E
 use Rattle.std.specs.List.{flat_map}
 use Rattle.std.specs.Fmt.{decimal}
 use Rattle.ill_values.specs.Day.{Date, iso_text}
+use Rattle.ill_values.specs.declared.apdu.Apdu.{Apdu}
 use Rattle.ill_core.specs.declared.verb.Verb.{Verb}
 use Rattle.ill_core.specs.Verbs.{verb_name}
 use Rattle.ill_core.specs.ResponderActions.{expiry_of}
@@ -27,12 +28,15 @@ use Rattle.ill_list.specs.declared.report_parts.Field.TheVariants as fields
 use Rattle.ill_list.specs.declared.report_parts.TheConstants.{PAGE, STYLE_END, DESKS, END, DESK, TO_DO, OPEN}
 use Rattle.ill_list.specs.declared.report_parts.TheConstants.{LOANS, ROOM, COUNTS_END}
 use Rattle.ill_list.specs.declared.report_parts.TheConstants.{DESK_END, TASK, HEADING, COUNT, TABLE, ROW, TABLE_END, UNREAD}
-use Rattle.ill_list.specs.declared.report_parts.TheConstants.{UNREAD_END, TIME_END, NOTE, NOTE_END, SINCE}
+use Rattle.ill_list.specs.declared.report_parts.TheConstants.{NEWS, NEWS_END, UNREAD_END, TIME_END, NOTE, NOTE_END, SINCE}
 use Rattle.ill_list.specs.declared.soon.TheConstants.{SOON}
 use Rattle.ill_list.specs.declared.report.PageView.{PageView}
 use Rattle.ill_list.specs.Finding.{is_found}
 use Rattle.ill_list.specs.Link.{linked_text}
 use Rattle.ill_list.specs.List.{title_text}
+use Rattle.ill_list.specs.Told.{news_since}
+use Rattle.ill_show.specs.Kept.{kept_of}
+use Rattle.ill_show.specs.NewsWords.{told_words}
 use Rattle.ill_show.specs.Notes.{note_of}
 use Rattle.ill_show.specs.Since.{AnnexRead, since_of}
 use Rattle.ill_show.specs.StateWords.{state_words}
@@ -78,6 +82,15 @@ abbrev pub since_text : Option Date → List ℕ
 since_text None = []
 since_text (Some day) = SINCE.now ++ (iso_text day ++ TIME_END.now) ++ NOTE_END.now
 
+-- Returns the text of a message in the news of a loan.
+abbrev pub news_mark : Side → Apdu → List ℕ
+news_mark side a = NEWS.now ++ (html_text (told_words side a.body) ++ NEWS_END.now)
+
+-- Returns the texts of those of `news` that are of the loan of a side, if news are told.
+abbrev pub news_marks : (news : Option (List Apdu)) → Side → List ℕ
+news_marks None side = []
+news_marks (Some news) side = flat_map (news_mark side) (kept_of (txn_of side) news)
+
 -- Returns the value of a field of a loan.
 abbrev pub value_text : PageShown → AnnexRead → Side → Field → List ℕ
 value_text page annex side fields.Title =
@@ -85,7 +98,8 @@ value_text page annex side fields.Title =
     ++ noted_text (note_of annex.notes (txn_of side))
 value_text page annex side fields.Group = html_text (txn_of side).group
 value_text page annex side fields.Transaction = html_text (txn_of side).transaction
-value_text page annex side fields.State = state_words side ++ since_text (since_of annex side)
+value_text page annex side fields.State =
+    state_words side ++ (since_text (since_of annex side) ++ news_marks annex.news side)
 value_text page annex side fields.Deadline = deadline_text (due_date_of side) (expiry_of (request_of side))
 value_text page annex side fields.Actions = flat_map action_text (possible_on (Some page.today) side)
 
@@ -178,10 +192,19 @@ unread_text file words = DESK.now ++ (html_text file ++ (UNREAD.now ++ (html_tex
 abbrev pub Part : Type 0
 Part = List ℕ × Result (List Side × AnnexRead) (ToolFault × List ℕ)
 
--- Returns the text of a part.
-abbrev pub part_text : Date → Part → List ℕ
-part_text today (file, Ok (sides, annex)) = desk_text (report_of today) file sides annex
-part_text today (file, Err (fault, words)) = unread_text file words
+-- Returns the annex of a desk, with the news since a day.
+abbrev pub with_news : Option Date → List Side → AnnexRead → AnnexRead
+with_news since sides annex = record {
+  notes = annex.notes;
+  diary = annex.diary;
+  came = annex.came;
+  news = news_since since annex sides;
+}
+
+-- Returns the text of a part. If a day `since` is given, its loans have their news since that day.
+abbrev pub part_text : Date → (since : Option Date) → Part → List ℕ
+part_text today since (file, Ok (sides, annex)) = desk_text (report_of today) file sides (with_news since sides annex)
+part_text today since (file, Err (fault, words)) = unread_text file words
 
 -- Returns true if the desk of a part was read, else its fault.
 abbrev pub part_answer : Part → Result Bool ToolFault
@@ -205,16 +228,16 @@ abbrev pub page_end : List ℕ
 page_end = END.now
 
 -- Returns the page of these parts.
-abbrev pub report_page : Date → List Part → List ℕ
-report_page today parts = page_head today ++ flat_map (part_text today) parts ++ page_end
+abbrev pub report_page : Date → (since : Option Date) → List Part → List ℕ
+report_page today since parts = page_head today ++ flat_map (part_text today since) parts ++ page_end
 
 -- The page `after` is `before`, and then a part about the desk in `file`. `answer` is true, or the fault in it.
-abbrev pub AddsPart : Date → List ℕ → List ℕ → List ℕ → Result Bool ToolFault → Type 0
-AddsPart today file before after answer =
-    (part : Part) × (part.0 ≡ file) × (after ≡ before ++ part_text today part) × (answer ≡ part_answer part)
+abbrev pub AddsPart : Date → (since : Option Date) → List ℕ → List ℕ → List ℕ → Result Bool ToolFault → Type 0
+AddsPart today since file before after answer =
+    (part : Part) × (part.0 ≡ file) × (after ≡ before ++ part_text today since part) × (answer ≡ part_answer part)
 
 -- The page `after` is `before`, and then a part for each of `files`. `answer` is the gravest of their faults.
-abbrev pub AddsParts : Date → List (List ℕ) → List ℕ → List ℕ → Result Bool ToolFault → Type 0
-AddsParts today files before after answer =
-    (parts : List Part) × (map (λ part. part.0) parts ≡ files) × (after ≡ before ++ flat_map (part_text today) parts)
+abbrev pub AddsParts : Date → (since : Option Date) → List (List ℕ) → List ℕ → List ℕ → Result Bool ToolFault → Type 0
+AddsParts today since files before after answer =
+    (parts : List Part) × (map (λ part. part.0) parts ≡ files) × (after ≡ before ++ flat_map (part_text today since) parts)
     × (answer ≡ gravest_part parts)

@@ -16,19 +16,22 @@ ghost use Rattle.ill_list.specs.Link.{linked_text};
 ghost use Rattle.ill_show.specs.Notes.{note_of};
 ghost use Rattle.ill_show.specs.Since.{annex_of, since_of};
 ghost use Rattle.ill_show.specs.StateWords.{state_words};
-ghost use Rattle.ill_list.specs.Report.{action_text, counted, counts_text, deadline_text, desk_text, field_text, is_to_do, loans_text, noted_text, page_end, page_head, page_head_with, page_shown, report_of, row_text, rows_text, since_text, table_head, table_text, unread_text, value_text, work_text, works_text};
+ghost use Rattle.ill_list.specs.Report.{action_text, counted, counts_text, deadline_text, desk_text, field_text, is_to_do, loans_text, news_mark, news_marks, noted_text, page_end, page_head, page_head_with, page_shown, report_of, row_text, rows_text, since_text, table_head, table_text, unread_text, value_text, work_text, works_text};
 
 use crate::finding::found_of;
 use crate::link::push_linked;
 use crate::report_parts::{
-    COUNT, COUNTS_END, DESK, DESK_END, DESKS, END, Field, LOANS, NOTE, NOTE_END, OPEN, PAGE, ROOM,
-    ROW, SINCE, STYLE_END, TABLE, TABLE_END, TIME_END, TO_DO, UNREAD, UNREAD_END, heading,
+    COUNT, COUNTS_END, DESK, DESK_END, DESKS, END, Field, LOANS, NEWS, NEWS_END, NOTE, NOTE_END,
+    OPEN, PAGE, ROOM, ROW, SINCE, STYLE_END, TABLE, TABLE_END, TIME_END, TO_DO, UNREAD, UNREAD_END,
+    heading,
 };
 use crate::row::push_title;
 use crate::soon::SOON;
 use ill_core::Verb;
 use ill_saved::{SIDES_LIMIT, Side, Sides};
 use ill_show::annex::Annex;
+use ill_show::kept::kept_of;
+use ill_show::news_words::told_words;
 use ill_show::notes::Notes;
 use ill_show::since::since_of;
 use ill_show::state_words::words_of;
@@ -36,7 +39,7 @@ use ill_text::fault::ToolFault;
 use ill_text::html::{push_html, push_text};
 use ill_text::json::push_plain;
 use ill_text::output::write_whole;
-use ill_values::{Day, OutOfMemory};
+use ill_values::{Apdu, Day, OutOfMemory};
 use ill_words::possible::{expiry, possible_on};
 use ill_words::waiting::most_urgent_first;
 use ill_work::{Work, count};
@@ -411,14 +414,49 @@ fn html_title(alloc: Global, side: &Side) -> Result<Vec<u8>, OutOfMemory>
     Ok(text)
 }
 
-/// Appends the state of the loan of `side`, in words, and the day since which it stands so, if `annex` tells it.
+/// Appends the state of the loan of `side`, in words, the day since which it stands so, if `annex` tells it, and its news.
 fn push_state(page: &mut Vec<u8>, side: &Side, annex: &Annex) -> Result<(), OutOfMemory>
-    ensures { OnOk result (page.new.items ≡ page.old.items
-        ++ (state_words side.now ++ since_text (since_of (annex_of annex.now) side.now))) }
+    ensures { OnOk result (page.new.items ≡ page.old.items ++ (state_words side.now
+        ++ (since_text (since_of (annex_of annex.now) side.now) ++ news_marks (annex_of annex.now).news side.now))) }
 {
     let since = since_of(*page.allocator(), annex, side)?;
     page.extend_from_slice(words_of(side).as_bytes())?;
-    push_since(page, since)
+    push_since(page, since)?;
+    push_news(page, side, annex)?;
+    Ok(())
+}
+
+/// Appends the news of the loan of `side`, if `annex` has news.
+fn push_news(page: &mut Vec<u8>, side: &Side, annex: &Annex) -> Result<(), OutOfMemory>
+    ensures { OnOk result (page.new.items ≡ page.old.items ++ news_marks (annex_of annex.now).news side.now) }
+{
+    match &annex.news {
+        Some(news) => {
+            let kept = kept_of(*page.allocator(), side.txn(), news)?;
+            push_marks(page, side, &kept)
+        }
+        None => Ok(()),
+    }
+}
+
+/// Appends the messages `kept`, in the loan of `side`.
+fn push_marks(page: &mut Vec<u8>, side: &Side, kept: &[Apdu]) -> Result<(), OutOfMemory>
+    ensures { OnOk result (page.new.items ≡ page.old.items ++ flat_map (news_mark side.now) kept.now) }
+{
+    for apdu in kept {
+        push_mark(page, side, apdu)?;
+    }
+    Ok(())
+}
+
+/// Appends the message `apdu`, in the loan of `side`.
+fn push_mark(page: &mut Vec<u8>, side: &Side, apdu: &Apdu) -> Result<(), OutOfMemory>
+    ensures { OnOk result (page.new.items ≡ page.old.items ++ news_mark side.now apdu.now) }
+{
+    let words = told_words(*page.allocator(), side, &apdu.body)?;
+    push_plain(page, NEWS)?;
+    push_text(page, &words)?;
+    push_plain(page, NEWS_END)
 }
 
 /// Appends the day `since` which a loan stands as it does, if it is known.

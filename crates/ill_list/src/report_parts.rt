@@ -15,7 +15,7 @@ pub(crate) enum Field {
     Group,
     /// The transaction qualifier.
     Transaction,
-    /// The state, in words, and the day since which the loan stands so.
+    /// The state, in words, the day since which the loan stands so, and its news.
     State,
     /// The due date, or else the expiry date of the request.
     Deadline,
@@ -178,6 +178,12 @@ pub(crate) const NOTE: &str = "<small dir=\"auto\">";
 
 /// The text before the day since which a loan stands as it does.
 pub(crate) const SINCE: &str = "<small>since <time>";
+
+/// The text before the words of a message in the news of a loan.
+pub(crate) const NEWS: &str = "<small>news: <b>";
+
+/// The text after the words of a message in the news of a loan.
+pub(crate) const NEWS_END: &str = "</b></small>";
 
 /// The text after the note on a loan, or after the day since which it stands as it does.
 pub(crate) const NOTE_END: &str = "</small>";

@@ -62,7 +62,8 @@ Runs (asks.Loan file txn form) left rest before after result =
 Runs (asks.Note file txn words) left rest before after result =
     (rest ≡ left) × NotesAtFile txn (note_text words) before after result
 Runs (asks.Slip file txn) left rest before after result = (rest ≡ left) × SlipAtFile txn before after result
-Runs (asks.Report paths today) left rest before after result = (rest ≡ left) × ReportsPaths today before after result
+Runs (asks.Report paths today since) left rest before after result =
+    (rest ≡ left) × ReportsPaths today since before after result
 Runs (asks.Verify file form) left rest before after result = (rest ≡ left) × VerifiesFile form before after result
 Runs (asks.Retire file group) left rest before after result =
     (rest ≡ left) × (after ≡ before) × (result ≡ Err Arguments)

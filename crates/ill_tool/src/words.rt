@@ -329,7 +329,11 @@ fn run<T: LockFiles, R: Read, W: Write, E: Write>(
         Request::Slip { file, txn } => slip(machine, file, txn),
         Request::Retire { .. } => Err(ToolFault::Arguments),
         Request::Verify { file, form } => verify(machine, file, *form),
-        Request::Report { paths, today } => { report(machine, paths, *today) }
+        Request::Report {
+            paths,
+            today,
+            since,
+        } => report(machine, paths, *today, *since),
     }
 }
 

@@ -10,7 +10,7 @@ same courses must have the same bytes. Of each desk the program writes
 - what shows the notes that are written beside the desk, and what is found in them, and the notes that `note` keeps,
 - `figures` and its records of CSV, by a diary with lines that count and lines that do not;
 - `news` and its objects of what came, which is written beside the desk once, twice and torn, with `--last` too;
-- `news` and `list` since a day, by a diary that lacks some messages and has older lines of others. Some
+- `news`, `list` and `report` since a day, by a diary that lacks some messages and has older lines of others. Some
   messages came again, and dates have made some due;
 - `status`, its objects, `report` and `verify`;
 
@@ -567,9 +567,24 @@ def check_since(judge, path, sides):
         judge.lines(morning, morning_lines(sides, TODAY, news))
         judge.lines([*morning, "--since-when"], morning_lines(sides, TODAY, news, days=last_days))
         judge.objects([*morning, "--json"], list_objects(sides, "--mine", TODAY, news=news, days=last_days))
+        check_page_news(judge, path, sides, day, news)
     os.remove(f"{path}.came")
     os.remove(f"{path}.diary")
 
+
+def check_page_news(judge, path, sides, day, news):
+    """Compares the news on the page of a desk since a day. But for them it is the page without a day."""
+    plain = judge.text(["report", path, "--today", TODAY])
+    text = judge.text(["report", path, "--today", TODAY, "--since", day])
+    rows = re.findall(r"<bdi>(.*?)</bdi> <bdi>(.*?)</bdi></td><td>(.*?)</td>", text)
+    found = {(html.unescape(group), html.unescape(txn)): re.findall(MARK, state) for group, txn, state in rows}
+    judge.same(f"the news on the page of {path}", found,
+               {tuple(map(shown, side.txn)): [words for _, words in news[tuple(side.txn)]] for side in sides})
+    judge.same(f"the page of {path} but for its news", re.sub(MARK, "", text), plain)
+
+
+# The words of a message in the news on a page.
+MARK = "<small>news: <b>(.*?)</b></small>"
 
 # Words of notes, some of which a terminal would act on, and words that are sought.
 NOTES = ["for Prof. Noether, by Friday", "STRASSE 12 \u202e", "shelf 7\\3", "\\u{20}", "G1 T1 nobody", "ﬃ", "-"]

@@ -1,16 +1,24 @@
 -- Answers the contract of `push_file` (`src/commands.rt`).
-use Rattle.std.proofs.Common.{◌++◌, Ok, Err, refl, ap, ◌∙◌}
-use Rattle.ill_list.specs.Report.{desk_text}
-use Rattle.ill_show.specs.Since.{annex_of}
+use Rattle.std.proofs.Common.{◌≡◌, ◌++◌, List, Option, option_map, Ok, Err, refl, ap, subst, ◌∙◌}
+use Rattle.ill_values.specs.declared.apdu.Apdu.{Apdu}
+use Rattle.ill_saved.specs.Sides.{SidesOf}
+use Rattle.ill_list.specs.Report.{desk_text, report_of}
+use Rattle.ill_list.specs.Told.{news_since}
+use Rattle.ill_show.specs.Since.{AnnexRead, annex_of}
 use Rattle.ill_commands.proofs.commands.push_file.Goals as goal
 
--- Proves the contract of `push_file` if the desk is opened. The part has its loans.
+-- Proves the contract of `push_file` if the desk is opened. The part has its loans, with the news of the annex.
 pub returns-in_ok-told-in-Ok-clause-told : goal.returns-in_ok-told-in-Ok-clause-told
 returns-in_ok-told-in-Ok-clause-told g c =
-    let sides = c.sides.result.now.sides in
+    let sides = c.sides-2.result.now.sides in
     let annex = annex_of c.in-Ok.annex in
+    let news : Option (List Apdu) = option_map (λ apdus. apdus.items) c.in_ok-news-in-Ok.news in
+    let with : Option (List Apdu) → AnnexRead =
+    λ (told : Option (List Apdu)). record { notes = annex.notes; diary = annex.diary; came = annex.came; news = told } in
     let told = c.in_ok-told-in-Ok.ensures
-    ∙ ap (λ page. c.args.page.now.items ++ desk_text page c.args.file.now sides annex) c.of_report.ensures in
+    ∙ ap (λ page. c.args.page.now.items ++ desk_text page c.args.file.now sides (with news)) c.of_report.ensures
+    ∙ ap (λ (told : Option (List Apdu)).
+    c.args.page.now.items ++ desk_text (report_of c.args.today) c.args.file.now sides (with told)) c.in_ok-news-in-Ok.ensures in
     ((c.args.file.now, Ok (sides, annex)), refl, told, refl)
 
 -- Proves the contract of `push_file` if the desk is not opened. The part has the fault, in the words of `push_fault`.

@@ -41,7 +41,7 @@ pub one_more_part : (today : Date) (since : Option Date) (files : List (List ℕ
     (answer next : Result Bool ToolFault)
     → place < length files → file ≡ get_or files place file → AddsParts today since (take place files) before between answer
     → AddsPart today since file between after next
-        → AddsParts today since (take (place + 1) files) before after (graver answer next)
+    → AddsParts today since (take (place + 1) files) before after (graver answer next)
 one_more_part today since files place file before between after answer next within at so_far one =
     let parts = so_far.0 in
     let part = one.0 in

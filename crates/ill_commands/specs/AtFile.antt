@@ -108,7 +108,7 @@ TellsDesk form last since is_headed is_first stop =
     ⊎ ((sides : List Side) × (came : List ℕ) × (lines : List (List ℕ))
     × GoesWell (WritesNews (λ apdus. between form is_first
     ++ news_desk form is_headed last stop.path sides (told_since since lines sides apdus)) came stop.before stop.after)
-        stop.answer)
+    stop.answer)
 
 -- The figures of a desk were written in a visit, by its diary and by what came. Or a file could not be opened, and nothing was
 -- written.

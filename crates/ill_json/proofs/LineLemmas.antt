@@ -194,7 +194,7 @@ ordered_are file wanted seeking held u told each few =
     (lines_flat (section objects wanted shown) fields all_work
     (rows_are file seeking.annex wanted shown u told
     (kept_each IsSide IsSide (is_found seeking.find seeking.annex.notes) (listed_of wanted seeking.annex.news held)
-        (λ side is. is) listed_each)))
+    (λ side is. is) listed_each)))
     (lines_one _ (line_is _ (each_append (FieldReads 2) (counts_fields (counts_of wanted held)) (file_fields file)
     (counts_reads wanted held few) (file_reads file u)) (counts_apart file wanted held)))
 

@@ -1,7 +1,8 @@
 -- Proves which messages came since a day.
-use Rattle.std.proofs.Common.{◌≡◌, ℕ, ◌+◌, ◌-◌, Bool, true, false, cond, not, List, [], ◌∷◌, ◌++◌, ap, refl, sym, ◌∙◌, length}
+use Rattle.std.proofs.Common.{◌≡◌, ℕ, suc, ◌+◌, ◌-◌, Bool, true, false, cond, not, List, [], ◌∷◌, ◌++◌, ap, refl, sym, ◌∙◌}
+use Rattle.std.proofs.Common.{length}
 use Rattle.std.proofs.Common.{drop, take}
-use Rattle.std.proofs.Common.{append_assoc, arith, reverse, ◌&&◌, ◌≤◌, Option, None, Some, absurd, subst, true≢false}
+use Rattle.std.proofs.Common.{append_assoc, arith, reverse, ◌&&◌, ◌≤◌, Option, None, Some, subst, true≢false}
 use Rattle.std.specs.Prelude.{bytes_eq, filter}
 use Rattle.std.specs.List.{after_last, list_any, prefix_len, suffix_len}
 use Rattle.std.proofs.Math.Seq.{drop-append_seam}
@@ -10,6 +11,7 @@ use Rattle.std.proofs.lemmas.Slice.Eq.{bytes_eq-Decides}
 use Rattle.std.proofs.lemmas.List.Elements.{filter-append}
 use Rattle.std.proofs.lemmas.List.{drop-append-le, length-append, length-drop, length-reverse, reverse-append, take_all}
 use Rattle.std.proofs.lemmas.List.Folds.{list_any-append}
+use Rattle.ill_core.specs.Dates.{is_before}
 use Rattle.ill_values.specs.Day.{Date}
 use Rattle.ill_values.specs.declared.apdu.Apdu.{Apdu}
 use Rattle.ill_list.specs.CameSince.{came_before, came_key, came_since, is_named_before, is_named_since, is_new}
@@ -97,28 +99,28 @@ after_it f before x after passes none =
     ∙ ap (λ n. drop n (xs ++ after)) cut
     ∙ drop-append_seam xs after
 
--- The last items that fail a test, and those behind them, are the last ones of all.
+-- Items that fail a test, and those behind them that do, are the first ones of all.
 fail_over : {X : Type 0} (f : X → Bool) (before after : List X) → list_any f before ≡ false
     → prefix_len (λ x. not (f x)) (before ++ after) ≡ length before + prefix_len (λ x. not (f x)) after
-fail_over f [] after none = refl
+fail_over f [] after none = omega arith
 fail_over f (x ∷ before) after none =
     let both = or_parts (f x) (list_any f before) none in
-    rw (both.0, fail_over f before after both.1) refl
+    rw (both.0, fail_over f before after both.1) (omega arith)
 
 -- At most all items are the first ones that pass a test.
 few_first : {X : Type 0} (p : X → Bool) (xs : List X) → prefix_len p xs ≤ length xs
 few_first p [] = omega arith
 few_first p (x ∷ xs) = go (p x) (few_first p xs)
   where
-    go : (passes : Bool) → prefix_len p xs ≤ length xs → cond passes (1 + prefix_len p xs) 0 ≤ 1 + length xs
+    go : (passes : Bool) → prefix_len p xs ≤ length xs → cond passes (1 + prefix_len p xs) 0 ≤ suc (length xs)
     go true few = omega (arith, few)
     go false few = omega arith
 
 -- Items behind others that pass no test stay behind the last one that does.
 pub after_more : {X : Type 0} (f : X → Bool) (xs later : List X) → list_any f later ≡ false
     → after_last f (xs ++ later) ≡ after_last f xs ++ later
-after_more f xs later none =
-    let fails = λ x. not (f x) in
+after_more {X} f xs later none =
+    let fails : X → Bool = λ (x : X). not (f x) in
     let many : suffix_len fails (xs ++ later) ≡ length later + suffix_len fails xs =
     ap (prefix_len fails) (reverse-append xs later)
     ∙ fail_over f (reverse later) (reverse xs) (none_reversed f later none)
@@ -165,32 +167,35 @@ named_told day lines a named = go (is_named (came_key a) lines)
 
 -- ---- repeats
 
+-- If the second of two fails, not both hold.
+second_off : (one other : Bool) → other ≡ false → (one && other) ≡ false
+second_off true other off = off
+second_off false other off = refl
+
+-- What says nothing of a key says nothing of it before a day.
+not_before : (day : Date) (key : List ℕ) (said : Option Said) → has_key key said ≡ false → says_before day key said ≡ false
+not_before day key None none = refl
+not_before day key (Some said) none = second_off (is_before said.day day) (bytes_eq said.message key) none
+
 -- A text that no line names, no line of an earlier day names.
 unnamed_before : (day : Date) (key : List ℕ) (lines : List (List ℕ)) → is_named key lines ≡ false
     → is_named_before day key lines ≡ false
 unnamed_before day key [] none = refl
 unnamed_before day key (line ∷ lines) none =
     let both = or_parts (has_key key (said_by line)) (is_named key lines) none in
-    rw (go (said_by line) both.0, unnamed_before day key lines both.1) refl
-  where
-    go : (said : Option Said) → has_key key said ≡ false → says_before day key said ≡ false
-    go None none = refl
-    go (Some said) none = both_off (is_before said.day day) (bytes_eq said.message key) none
+    rw (not_before day key (said_by line) both.0, unnamed_before day key lines both.1) refl
 
-    both_off : (one other : Bool) → other ≡ false → (one && other) ≡ false
-    both_off true other off = off
-    both_off false other off = refl
-
--- No message that passes a test is among those that fail it.
+-- No item that passes one test is among those that pass another, if none passes both.
 none_kept : {X : Type 0} (f p : X → Bool) (xs : List X) → ((x : X) → f x ≡ true → p x ≡ false)
     → list_any f (filter p xs) ≡ false
 none_kept f p [] apart = refl
-none_kept f p (x ∷ xs) apart = go (p x) (f x) refl refl
+none_kept f p (x ∷ xs) apart = go (p x) (f x) refl refl (none_kept f p xs apart)
   where
-    go : (keeps is : Bool) → p x ≡ keeps → f x ≡ is → list_any f (cond keeps (x ∷ filter p xs) (filter p xs)) ≡ false
-    go false is kept one = none_kept f p xs apart
-    go true true kept one = absurd (true≢false (sym kept ∙ apart x one))
-    go true false kept one = rw (one, none_kept f p xs apart) refl
+    go : (keeps is : Bool) → p x ≡ keeps → f x ≡ is → list_any f (filter p xs) ≡ false
+        → list_any f (cond keeps (x ∷ filter p xs) (filter p xs)) ≡ false
+    go false is kept one rest = rest
+    go true true kept one rest = absurd (true≢false (sym kept ∙ apart x one))
+    go true false kept one rest = rw (one, rest) refl
 
 -- What a line of an earlier day names is not told.
 pub no_repeat : (day : Date) (lines : List (List ℕ)) (came : List Apdu) (a : Apdu)

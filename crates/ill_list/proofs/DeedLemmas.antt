@@ -1,5 +1,6 @@
 -- Proves which messages of a desk are told since dates have made them due.
-use Rattle.std.proofs.Common.{◌≡◌, ℕ, Bool, true, false, cond, List, [], ◌∷◌, ◌++◌, Option, Some, absurd, ap, refl, sym, true≢false}
+use Rattle.std.proofs.Common.{◌≡◌, ℕ, Bool, true, false, cond, List, [], ◌∷◌, ◌++◌, Option, Some, ap, refl, sym}
+use Rattle.std.proofs.Common.{true≢false}
 use Rattle.std.proofs.Common.{rules, append_assoc, subst, ◌∙◌}
 use Rattle.std.specs.Prelude.{filter}
 use Rattle.std.specs.List.{flat_map}
@@ -44,11 +45,12 @@ deed_told day lines before after y first last a issued is =
 each_kept : {X : Type 0} (keeps : X → Bool) (xs : List X) → Each (λ x. keeps x ≡ true) (filter keeps xs)
 unfolding Each
 each_kept keeps [] = tt
-each_kept keeps (x ∷ xs) = go (keeps x) refl
+each_kept keeps (x ∷ xs) = go (keeps x) refl (each_kept keeps xs)
   where
-    go : (is : Bool) → keeps x ≡ is → Each (λ x. keeps x ≡ true) (cond is (x ∷ filter keeps xs) (filter keeps xs))
-    go true is = (is, each_kept keeps xs)
-    go false is = each_kept keeps xs
+    go : (is : Bool) → keeps x ≡ is → Each (λ x. keeps x ≡ true) (filter keeps xs)
+        → Each (λ x. keeps x ≡ true) (cond is (x ∷ filter keeps xs) (filter keeps xs))
+    go true is rest = (is, rest)
+    go false is rest = rest
 
 -- If `P` holds of each item of both lists, it holds of each of their join.
 each_joined : {X : Type 0} (P : X → Type 0) (xs more : List X) → Each P xs → Each P more → Each P (xs ++ more)
@@ -57,7 +59,8 @@ each_joined P [] more each others = others
 each_joined P (x ∷ xs) more each others = (each.0, each_joined P xs more each.1 others)
 
 -- What is told at a side was made due.
-due_at : (day : Date) (lines : List (List ℕ)) (side : Side) → Each (λ a. is_deed_since day lines a ≡ true) (deeds_at day lines side)
+due_at : (day : Date) (lines : List (List ℕ)) (side : Side)
+    → Each (λ a. is_deed_since day lines a ≡ true) (deeds_at day lines side)
 unfolding Each
 due_at day lines (Requester x) = tt
 due_at day lines (Responder y) = each_kept (is_deed_since day lines) y.issued

@@ -50,7 +50,7 @@ module _ (wanted : Wanted) (off : wanted.has_since ≡ false) where
   morning_stays columns annex work sides =
       same_texts (told_morning columns annex wanted work) (told_morning columns (notes_alone annex) wanted work) sides
       (λ side. ap (λ (day : List ℕ). morning_row columns annex.news wanted work side
-          ++ (note_shown annex.notes wanted side ++ day))
+      ++ (note_shown annex.notes wanted side ++ day))
       (no_day annex side ∙ sym (no_day (notes_alone annex) side)))
 
   -- The lines of a kind of work are those by the notes alone, in either form.

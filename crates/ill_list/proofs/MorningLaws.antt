@@ -19,7 +19,8 @@ of_mine wanted news side is =
 pub lists_news : (wanted : Wanted) (news : Option (List Apdu)) (side : Side) → wanted.which ≡ Mine → has_news news side ≡ true
     → is_listed wanted news side ≡ is_wanted wanted side
 lists_news wanted news side is has =
-    ap (λ listed. listed && is_wanted wanted side) (of_mine wanted news side is ∙ rw has (go (is_to_do wanted side)))
+    let either : (is_to_do wanted side || has_news news side) ≡ true = rw has (go (is_to_do wanted side)) in
+    ap (λ (listed : Bool). listed && is_wanted wanted side) (of_mine wanted news side is ∙ either)
   where
     go : (work : Bool) → (work || true) ≡ true
     go true = refl

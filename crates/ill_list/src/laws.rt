@@ -69,8 +69,7 @@ pub fn no_repeat_hides_news()
         (before after : List Apdu) × (came_since (Some day) lines (came ++ a ∷ repeats) ≡ before ++ a ∷ after) }
 {}
 
-/// What a date made due is told: a message of a lender that the diary names on the day or later, and not before.
-#[tactic(auto, using(crate::proofs::DeedLemmas::deed_told))]
+/// What a date made due is told: a message of a responder that the diary names on the day or later, and not before.
 pub fn what_a_date_made_due_is_news()
     ensures { (day : Date) (lines : List (List ℕ)) (before after : List Side) (y : ResponderRecord) (first last : List Apdu)
         (a : Apdu) → y.issued ≡ first ++ a ∷ last → is_deed_since day lines a ≡ true →
@@ -78,8 +77,8 @@ pub fn what_a_date_made_due_is_news()
 {}
 
 /// Nothing else is told as such: an Overdue or an Expired that the diary names on the day or later, and not before. No
-/// message that came to a lender is one, so the words tell both apart.
-#[tactic(auto, using(crate::proofs::DeedLemmas::deeds_alone, crate::proofs::DeedLemmas::heard_apart))]
+/// message that came to a responder is one, so the words tell both apart.
+#[tactic(auto, using(crate::proofs::DeedLemmas::heard_apart))]
 pub fn nothing_else_was_made_due()
     ensures deeds { (day : Date) (lines : List (List ℕ)) (sides : List Side) →
         Each (λ a. is_deed_since day lines a ≡ true) (deeds_since (Some day) lines sides) }

@@ -20,7 +20,7 @@ returns g c =
     let answer = c.in_ok-answer.answer in
     let begun = c.in_ok-push_head.ensures ∙ ap (λ start. start ++ head) c.new-page.ensures.items in
     let told = subst (λ (before : List ℕ). AddsParts today c.args.since names before page answer) begun
-        c.in_ok-answer.ensures.told in
+    c.in_ok-answer.ensures.told in
     let parts = told.0 in
     let whole = ap (λ text. text ++ page_end) told.2 in
     let silent = ap (λ writer. g.W.Write.contents writer) c.in_ok-answer.ensures.silent in

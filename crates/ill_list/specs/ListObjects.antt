@@ -6,7 +6,7 @@ use Rattle.ill_core.specs.State.{state_name}
 use Rattle.ill_saved.specs.declared.side.Side.{Side}
 use Rattle.ill_saved.specs.Side.{txn_of, state_of, due_date_of}
 use Rattle.ill_list.specs.declared.counts.Counts.{Counts}
-use Rattle.ill_text.specs.Json.{Field, array, day, object, optional, quoted}
+use Rattle.ill_text.specs.Json.{Field, array, day, optional, quoted}
 use Rattle.ill_work.specs.declared.work.Work.{Work}
 use Rattle.ill_work.specs.Work.{work_words}
 use Rattle.ill_words.specs.Possible.{request_of, item_asked}

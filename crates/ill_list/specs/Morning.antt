@@ -1,6 +1,5 @@
 -- The list of a morning: a line for each loan that wants a hand, or to which something came since a day.
 use Rattle.std.specs.Prelude.{ℕ, max, Bool, ◌&&◌, List, [], ◌++◌, length, fold, codes, Option, Some, None, is_some}
-use Rattle.std.specs.List.{flat_map}
 use Rattle.ill_values.specs.declared.apdu.Apdu.{Apdu}
 use Rattle.ill_saved.specs.declared.side.Side.{Side}
 use Rattle.ill_saved.specs.Side.{txn_of}
@@ -12,7 +11,6 @@ use Rattle.ill_list.specs.declared.wanted.Wanted.{Wanted}
 use Rattle.ill_list.specs.List.{cell, columns_of, is_mine, standing, title_text, work_of}
 use Rattle.ill_show.specs.Kept.{kept_of}
 use Rattle.ill_show.specs.NewsWords.{told_words}
-use Rattle.ill_show.specs.Since.{AnnexRead}
 
 -- Returns true if a list is one of a morning: of what wants a hand, and of what came since a day.
 abbrev pub is_morning : Wanted → Bool

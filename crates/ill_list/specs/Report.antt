@@ -83,7 +83,7 @@ since_text None = []
 since_text (Some day) = SINCE.now ++ (iso_text day ++ TIME_END.now) ++ NOTE_END.now
 
 -- Returns the text of a message in the news of a loan.
-abbrev pub news_mark : Side → Apdu → List ℕ
+unfoldable pub news_mark : Side → Apdu → List ℕ
 news_mark side a = NEWS.now ++ (html_text (told_words side a.body) ++ NEWS_END.now)
 
 -- Returns the texts of those of `news` that are of the loan of a side, if news are told.

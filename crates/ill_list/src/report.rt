@@ -450,6 +450,7 @@ fn push_marks(page: &mut Vec<u8>, side: &Side, kept: &[Apdu]) -> Result<(), OutO
 }
 
 /// Appends the message `apdu`, in the loan of `side`.
+#[tactic(auto, unfolding(crate::specs::Report::news_mark))]
 fn push_mark(page: &mut Vec<u8>, side: &Side, apdu: &Apdu) -> Result<(), OutOfMemory>
     ensures { OnOk result (page.new.items ≡ page.old.items ++ news_mark side.now apdu.now) }
 {

@@ -72,7 +72,7 @@ _ill_parts() {
     send) parts=(file loan loan none) options='--key --explain --help' ;;
     inbox) parts=(file folder) options='--today --by --key --explain --help' ;;
     outbox) parts=(file folder) options='--stream --key --explain --help' ;;
-    exchange) parts=(file folder folder) options='--today --by --overdue --expire --copy --beat --key --explain --help' ;;
+    exchange) parts=(file folder folder) options='--today --by --overdue --expire --copy --beat --key --json --explain --help' ;;
     key) parts=(file) options='--show --read --explain --help' ;;
     verify) parts=(file) options='--json --explain --help' ;;
     show) parts=() options='--json --explain --help' ;;
@@ -91,7 +91,7 @@ _ill_parts() {
     shelf-send) parts=(folder loan loan none) options='--key --explain --help' ;;
     shelf-inbox) parts=(folder folder) options='--today --by --key --explain --help' ;;
     shelf-outbox) parts=(folder folder) options='--stream --key --explain --help' ;;
-    shelf-exchange) parts=(folder folder folder) options='--today --by --overdue --expire --copy --beat --key --explain --help' ;;
+    shelf-exchange) parts=(folder folder folder) options='--today --by --overdue --expire --copy --beat --key --json --explain --help' ;;
     shelf-retire) parts=(folder loan) options='--explain --help' ;;
   esac
 }

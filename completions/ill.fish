@@ -179,7 +179,7 @@ complete -c ill -n '__ill_option day list news report' -l since -x -d 'Tell what
 complete -c ill -n '__ill_option any list' -l actions -d 'Show the actions that are possible in each loan'
 complete -c ill -n '__ill_option any list' -l notes -d 'Show the note on each loan below it'
 complete -c ill -n '__ill_option any list' -l since-when -d 'Show below each loan the day of its last message, by the diary'
-complete -c ill -n '__ill_option any list news loan status verify show shelf-loan shelf-status' -l json -d 'Write objects of JSON, one on a line'
+complete -c ill -n '__ill_option any list news loan status exchange verify show shelf-loan shelf-status shelf-exchange' -l json -d 'Write objects of JSON, one on a line'
 complete -c ill -n '__ill_option count news' -l last -x -d 'Tell only the last N messages, 1 to 255'
 complete -c ill -n '__ill_option any loan shelf-loan' -l picture -d 'Draw the messages of the loan, for Mermaid'
 complete -c ill -n '__ill_option day report' -l today -x -d 'The day of the report, as 20250301'

@@ -13,6 +13,7 @@ compared, or what is wrong; exit 1 if anything is.
 import json
 import os
 import re
+import shutil
 
 from ill import harness
 from ill.harness import TOP, read
@@ -220,6 +221,27 @@ def news_lines(rows):
               for row, texts in zip(rows, cells)), f"messages {len(rows)}, shown {len(rows)}"]
 
 
+def standing(value):
+    """How a loan stands after a message or a deed."""
+    return f"{value['state']} {day(value['due'])} {value['released']}/{value['issued']}"
+
+
+def night_lines(value):
+    """The lines of an object of a night."""
+    if value["kind"] == "message":
+        named = [value[label] for label in ("group", "transaction", "apdu")]
+        rest = {label: value[label] for label in ("answers", "result", "reply", "date", "item") if label in value}
+        heading = f"{shown(named[0])} {shown(named[1])} {named[2]} {value['number']} {value['outcome']} {standing(value)}"
+        return [heading, *(f"  {line}" for line in message_lines(rest, shown))]
+    if value["kind"] == "mail":
+        return [f"{shown(value['name'])} {value['verdict']} {value['reason']}"]
+    if value["kind"] == "mails":
+        return [", ".join(f"{label} {value[label]}" for label in value if label != "kind")]
+    if value["kind"] == "deed":
+        return [f"{shown(value['group'])} {shown(value['transaction'])} {value['verb']} done {standing(value)}"]
+    return [f"sent {value['messages']}"]
+
+
 def record_lines(record):
     """The lines of a record."""
     return [f"{label} {record[label]}" for label in "version role loans messages room".split()]
@@ -253,9 +275,14 @@ def unique(pairs):
 
 def compare(kind, words, lines_of, given=None):
     """Compares a command with `--json` and without it."""
+    told = run([*words, "--json"], given).decode("utf-8")
+    compare_texts(kind, " ".join(words), lines_of, told, run(words, given).decode("utf-8"))
+
+
+def compare_texts(kind, place, lines_of, text, lines):
+    """Compares the text that a command writes with `--json` with the lines that it writes without it."""
     global compared
-    objects, place = [], " ".join(words)
-    text = run([*words, "--json"], given).decode("utf-8")
+    objects = []
     for line in text.split("\n")[:-1]:
         if ACTING.search(line):
             faults.append(f"{place}: a terminal may act on {ascii(line)}")
@@ -263,7 +290,7 @@ def compare(kind, words, lines_of, given=None):
         fault = fails(referred(kind), objects[-1])
         if fault:
             faults.append(f"{place}: {fault}")
-    wanted = run(words, given).decode("utf-8").split("\n")
+    wanted = lines.split("\n")
     if [*lines_of(objects), ""] != wanted or text.split("\n")[-1]:
         faults.append(f"{place}: {objects} is not what stands in {wanted}")
     compared += len(objects)
@@ -332,6 +359,27 @@ def compare_desks():
             compare("loan", ["loan", desk, *txn], each(loan_lines))
 
 
+def compare_nights():
+    """Performs a night at two copies of each desk, in objects at one of them."""
+    txns = [["Group of this", name] for name in COURSES] + [['"\\{}[],:', name] for name in TITLES]
+    for desk, other in ("here", "there"), ("there", "here"):
+        texts = []
+        for form in [], ["--json"]:
+            folder = f"night of {desk}{len(form)}"
+            os.makedirs(f"{folder}/in")
+            os.mkdir(f"{folder}/out")
+            shutil.copy(desk, f"{folder}/desk")
+            for place, txn in enumerate(txns):
+                sent = PROGRAM.run(["send", other, *txn, "1"])
+                if not sent.status:
+                    harness.write(f"{folder}/in/{place:03}", sent.output)
+            harness.write(f"{folder}/in/\u202ejunk\x1b", b"\x01\x02")
+            words = ["exchange", "desk", "in", "out", "--today", "20250401", *["--overdue", "--expire"] * (desk == "there")]
+            done = PROGRAM.run([*words, *form], cwd=folder)
+            texts.append(done.output.decode("utf-8"))
+        compare_texts("exchange", f"exchange at {desk}", each(night_lines), texts[1], texts[0])
+
+
 def compare_messages():
     """Compares what `show` writes of the examples, and of requests with the titles."""
     folder = f"{TOP}/examples/messages"
@@ -364,6 +412,7 @@ def main(program):
     global PROGRAM
     PROGRAM = harness.Program(program)
     compare_desks()
+    compare_nights()
     compare_messages()
     compare_words()
     print("\n".join(faults) or f"ok: {compared} objects")

@@ -500,7 +500,8 @@ pub fn report<T: Files, W: Write, E: Write>(
     let found = desk_paths(machine.rt, machine.alloc, paths)?;
     let mut page = Vec::new(machine.alloc);
     push_head(&mut page, today)?;
-    let answer = push_files(machine, &mut page, today, since, &found.files)?;
+    let days = ReportDays { today, since };
+    let answer = push_files(machine, &mut page, &days, &found.files)?;
     let answer = graver(
         answer,
         warn_of_names(machine.alloc, &found.unnamed, &mut machine.errors),
@@ -521,22 +522,30 @@ fn after_writing(
     }
 }
 
+/// The days of a page.
+#[derive(Clone, Copy)]
+struct ReportDays {
+    /// The day of the page.
+    today: Day,
+    /// The day since which news are told, if they are.
+    since: Option<Day>,
+}
+
 /// Appends to `page` the part of each desk in `files`, and returns the gravest of their faults.
 fn push_files<T: Files, W: Write, E: Write>(
     machine: &mut Machine<'_, T, W, E>,
     page: &mut Vec<u8>,
-    today: Day,
-    since: Option<Day>,
+    days: &ReportDays,
     files: &[String],
 ) -> Result<Result<bool, ToolFault>, OutOfMemory>
     ensures told { IfOk result (λ answer.
-        AddsParts today since (map (λ file. string_bytes file) files.now) page.old.items page.new.items answer) }
+        AddsParts days.now.today days.now.since (map (λ file. string_bytes file) files.now) page.old.items page.new.items answer) }
     ensures fault { IfOk result (λ answer. IfErr answer IsOpenFault) }
     ensures silent { machine.new.writer ≡ machine.old.writer }
 {
     let mut answer = Ok(true);
     for place in 0..files.len() {
-        let next = push_file(machine, page, today, since, files[place].as_str())?;
+        let next = push_file(machine, page, days, files[place].as_str())?;
         answer = graver(answer, next);
     }
     Ok(answer)
@@ -546,25 +555,20 @@ fn push_files<T: Files, W: Write, E: Write>(
 fn push_file<T: Files, W: Write, E: Write>(
     machine: &mut Machine<'_, T, W, E>,
     page: &mut Vec<u8>,
-    today: Day,
-    since: Option<Day>,
+    days: &ReportDays,
     file: &str,
 ) -> Result<Result<bool, ToolFault>, OutOfMemory>
-    ensures told { IfOk result (λ answer. AddsPart today since file.now page.old.items page.new.items answer) }
+    ensures told { IfOk result (λ answer. AddsPart days.now.today days.now.since file.now page.old.items page.new.items answer) }
     ensures fault { IfOk result (λ answer. IfErr answer IsOpenFault) }
     ensures silent { machine.new.writer ≡ machine.old.writer }
 {
     match open_with_annex(machine.rt, machine.alloc, file, &mut machine.errors) {
         Ok((desk, mut annex)) => {
-            let news = news_since(machine.alloc, desk.sides(), &annex, since)?;
+            let sides = desk.sides();
+            let news = news_since(machine.alloc, sides, &annex, days.since)?;
             annex.news = news;
-            let told = push_desk(
-                page,
-                &PageView::of_report(today),
-                file,
-                desk.sides(),
-                &annex,
-            );
+            let view = PageView::of_report(days.today);
+            let told = push_desk(page, &view, file, sides, &annex);
             drop(desk);
             told?;
             Ok(Ok(true))

@@ -18,6 +18,7 @@ use ill_show::loan::{Beside, LoanForm, LoanView, run_desk_loan};
 use ill_show::status::{run_desk_status, run_status};
 use ill_test_kit::{Page, octet_in};
 use ill_text::fault::ToolFault;
+use ill_text::form::Form;
 use ill_values::{Day, Number, TxnId};
 use std::alloc::Global;
 
@@ -226,6 +227,7 @@ impl<S: Store> Kept for Desk<S> {
         let batch = Batch {
             mails,
             waiting: WAITING,
+            form: Form::Lines,
         };
         let answer = run_desk_inbox(alloc, self, &batch, came, output);
         Some(call.end_engine(alloc, answer, &ToolFault::OutOfMemory))

@@ -12,7 +12,7 @@ use ill_values::OutOfMemory;
 use std::alloc::Global;
 use std::fs::OpenFile;
 use std::io;
-use std::io::Write;
+use std::io::{ErrorKind, Write};
 use std::rt::Files;
 
 /// The text that follows the path of a desk whose diary fails.
@@ -31,6 +31,11 @@ impl<F> DiaryFile<F> {
     /// Returns a diary without a file.
     pub fn none() -> DiaryFile<F> {
         DiaryFile { file: None }
+    }
+
+    /// Returns true if there is a file.
+    fn is_open(&self) -> bool {
+        self.file.is_some()
     }
 }
 
@@ -62,6 +67,74 @@ pub fn open_came_diary<T: Files, E: Write>(
     let begin = text_or_warn(alloc, desk, begin, errors);
     let file = open_for(rt, alloc, desk, &begin, errors);
     CameDiary::new(begin, file)
+}
+
+/// The diary of a run: the file for the lines of the messages that come, and the text for further lines.
+#[derive(Drop)]
+pub struct RunDiary<F> {
+    /// The diary of the messages that come.
+    pub came: CameDiary<DiaryFile<F>>,
+    /// The text with which a line of a deed of the run begins. It is empty if none may be entered.
+    pub begin: Vec<u8>,
+}
+
+/// Opens the diary beside the file of `desk` for a run, as `open_came_diary` does.
+pub fn open_run_diary<T: Files, E: Write>(
+    rt: &T,
+    alloc: Global,
+    desk: &str,
+    begin: Result<Vec<u8>, OutOfMemory>,
+    errors: &mut E,
+) -> RunDiary<T::File> {
+    let begin = text_or_warn(alloc, desk, begin, errors);
+    let file = open_for(rt, alloc, desk, &begin, errors);
+    let further = if file.is_open() {
+        text_or_warn(alloc, desk, copy_of(alloc, &begin), errors)
+    } else {
+        Vec::new(alloc)
+    };
+    RunDiary {
+        came: CameDiary::new(begin, file),
+        begin: further,
+    }
+}
+
+/// Returns a copy of `text`.
+fn copy_of(alloc: Global, text: &[u8]) -> Result<Vec<u8>, OutOfMemory> {
+    Ok(Vec::from_slice(alloc, text)?)
+}
+
+/// The diary beside the file of a desk. It is opened for each text that is written, which is durable then.
+#[derive(Drop)]
+pub struct ReopenedDiary<'r, 'a, T> {
+    rt: &'r T,
+    alloc: Global,
+    /// The path of the desk's file.
+    desk: &'a str,
+}
+
+impl<'r, 'a, T> ReopenedDiary<'r, 'a, T> {
+    /// Returns the diary beside the file of `desk`.
+    pub fn beside(rt: &'r T, alloc: Global, desk: &'a str) -> ReopenedDiary<'r, 'a, T> {
+        ReopenedDiary { rt, alloc, desk }
+    }
+}
+
+impl<T: Files> Write for ReopenedDiary<'_, '_, T> {
+    fn write(&mut self, bytes: &[u8]) -> io::Result<usize> {
+        match open_kept(self.rt, self.alloc, self.desk, Kept::Diary) {
+            Ok(mut file) => {
+                file.write_all(bytes)?;
+                file.flush()?;
+                Ok(bytes.len())
+            }
+            Err(_) => Err(io::Error::from(ErrorKind::Other)),
+        }
+    }
+
+    fn flush(&mut self) -> io::Result<()> {
+        Ok(())
+    }
 }
 
 /// Opens the diary beside the file of `desk` for `line`. If that is empty, the file is not opened.

@@ -1,7 +1,7 @@
 -- Proves that the history of a loan is an array of objects of JSON.
 use Rattle.std.proofs.Common.{◌≡◌, ℕ, suc, ◌+◌, ◌<◌, take, drop, Bool, true, false, List, [], ◌∷◌, ◌++◌, map, length, Option}
 use Rattle.std.proofs.Common.{Some, None}
-use Rattle.std.proofs.Common.{refl, sym, subst, arith, IsUtf8, codes, IfSome, cond}
+use Rattle.std.proofs.Common.{refl, arith, IsUtf8, codes, IfSome, cond}
 use Rattle.std.proofs.Math.ListN.{get_or}
 use Rattle.std.proofs.lemmas.Bool.{eqb-true, ltb-true}
 use Rattle.std.proofs.lemmas.List.Sums.{passes_at_first}
@@ -23,7 +23,6 @@ use Rattle.ill_show.specs.Diary.{Named, Said, Told, at_space, body_verb, history
 use Rattle.ill_show.specs.Diary.{issued_named, messages_of, part_at, part_fields, part_object, part_of, part_said, person}
 use Rattle.ill_show.specs.Diary.{request_taken, said_by, said_in, said_on, says_of, taken_named}
 use Rattle.ill_show.specs.Heard.{is_heard}
-use Rattle.ill_json.specs.Objects.{IsObject}
 use Rattle.ill_json.proofs.Names.{type_printable, verb_printable}
 use Rattle.ill_json.proofs.Shown.{are_printable, printable_shown}
 use Rattle.ill_json.proofs.Values.{HasValue, FieldReads, object_reads}

@@ -14,4 +14,5 @@ pub mod ListedNewsLines
 pub mod LineLemmas
 pub mod NewsLines
 pub mod RecordLines
+pub mod NightLines
 pub mod BadLines

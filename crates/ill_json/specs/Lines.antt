@@ -1,8 +1,10 @@
 -- The fields of each line of the commands that write objects of JSON, in the order of the lines.
-use Rattle.std.specs.Prelude.{ℕ, ◌≤◌, List, [], ◌∷◌, ◌++◌, map, filter, Option, IfSome}
+use Rattle.std.specs.Prelude.{ℕ, ◌≤◌, ◌<◌, ◌^◌, List, [], ◌∷◌, ◌++◌, map, filter, Option, IfSome}
 use Rattle.std.specs.List.{flat_map}
 use Rattle.ill_values.specs.Day.{Date}
 use Rattle.ill_values.specs.declared.apdu.Apdu.{Apdu}
+use Rattle.ill_der.specs.Faults.{place_of}
+use Rattle.ill_saved.specs.declared.shown.Shown.{Shown}
 use Rattle.ill_saved.specs.declared.side.Side.{Side}
 use Rattle.ill_saved.specs.Holdings.{DeskEntry}
 use Rattle.ill_values.specs.Apdu.{IsApdu}
@@ -21,6 +23,9 @@ use Rattle.ill_show.specs.Notes.{note_fields}
 use Rattle.ill_list.specs.News.{news_fields}
 use Rattle.ill_show.specs.Since.{AnnexRead}
 use Rattle.ill_show.specs.Objects.{status_fields, kept_fields}
+use Rattle.ill_night.specs.declared.tally.Tally.{Tally}
+use Rattle.ill_night.specs.declared.verdict.Unfit.{Unfit}
+use Rattle.ill_night.specs.declared.verdict.Unfit.TheVariants.{NoMessage}
 use Rattle.ill_list.specs.ListObjects.{full_row_fields, counts_fields, file_fields}
 use Rattle.ill_show.specs.Objects.{leaves_fields}
 
@@ -78,3 +83,26 @@ fields_of_loan words diary entry came =
 -- Returns the fields of a message within the line of `loan`.
 abbrev pub fields_of_message : Option ℕ → Apdu → List Field
 fields_of_message released a = apdu_fields a ++ leaves_fields released a
+
+-- ---- `exchange`
+
+-- A side is shown with counts of messages that are bytes.
+pub record IsStanding (now : Shown) : Type 0 where
+  pub released : now.released ≤ 255
+  pub issued : now.issued ≤ 255
+
+-- If a mail has no message because of a fault, the place of that has 32 bits.
+abbrev pub HasNearPlace : Unfit → Type 0
+HasNearPlace (NoMessage fault) = IfSome (place_of fault) (λ at. at < 2 ^ 32)
+HasNearPlace unfit = Unit {0}
+
+-- Each count of mails has 64 bits. `further` mails wait.
+pub record AreFew (tally : Tally) (further : ℕ) : Type 0 where
+  pub taken : tally.taken < 2 ^ 64
+  pub repeat : tally.repeat < 2 ^ 64
+  pub stale : tally.stale < 2 ^ 64
+  pub conflict : tally.conflict < 2 ^ 64
+  pub unknown : tally.unknown < 2 ^ 64
+  pub aside : tally.aside < 2 ^ 64
+  pub left : tally.left < 2 ^ 64
+  pub waiting : further < 2 ^ 64

@@ -1,6 +1,6 @@
 //! The laws of `--json`: each line that a command writes is an object of JSON. Its definition lists the members.
 
-ghost use Rattle.std.specs.Prelude.{◌≡◌, ◌<◌, ◌^◌, ◌++◌, ℕ, Bool, List, map, IsUtf8, Option, Some, None, option_map, decimal, IfSome};
+ghost use Rattle.std.specs.Prelude.{◌≡◌, ◌<◌, ◌^◌, ◌++◌, ℕ, Bool, List, codes, map, IsUtf8, Option, Some, None, option_map, decimal, IfSome};
 ghost use Rattle.std.specs.List.{flat_map};
 ghost use Rattle.json.specs.Find.{get};
 ghost use Rattle.json.specs.Json.{Json, null, boolean, number, string, array, document};
@@ -30,8 +30,18 @@ ghost use Rattle.ill_list.specs.News.{last_of, news_desk};
 ghost use Rattle.ill_list.specs.Told.{told_since};
 ghost use Rattle.ill_show.specs.Objects.{message_object, status_of_desk};
 ghost use Rattle.ill_show.specs.Verify.{fault_fields, record_fields, record_text};
+ghost use Rattle.ill_values.specs.TxnId.{AreQualifiers, Qualifiers};
+ghost use Rattle.ill_core.specs.declared.responder.Deed.{Deed};
+ghost use Rattle.ill_saved.specs.declared.shown.Shown.{Shown};
+ghost use Rattle.ill_words.specs.declared.outcome.DeskOutcome.{DeskOutcome};
+ghost use Rattle.ill_night.specs.Lines.{delay_text, unfit_text};
+ghost use Rattle.ill_night.specs.Objects.{deed_fields, message_fields, sent_fields, stays_fields, tally_fields, told_message, told_sent, told_tally, told_verdict};
+ghost use Rattle.ill_night.specs.declared.tally.Tally.{Tally};
+ghost use Rattle.ill_night.specs.declared.verdict.Delay.{Delay};
+ghost use Rattle.ill_night.specs.declared.verdict.Unfit.{Unfit};
+ghost use Rattle.ill_night.specs.declared.verdict.Verdict.TheVariants.{Aside, Left};
 ghost use Rattle.ill_json.specs.BadLines.{AreBadLines, IsBadLine, broken_texts};
-ghost use Rattle.ill_json.specs.Lines.{AreToldNews, IsEntry, fields_of_list, fields_of_loan, fields_of_message, fields_of_news, fields_of_status};
+ghost use Rattle.ill_json.specs.Lines.{AreFew, AreToldNews, HasNearPlace, IsEntry, IsStanding, fields_of_list, fields_of_loan, fields_of_message, fields_of_news, fields_of_status};
 ghost use Rattle.ill_json.specs.Objects.{AreObjectLines, IsObject, IsObjectLine, items_of, strings};
 
 /// Each line of `list` is an object of JSON with the fields of a loan. The last line of a desk has the counts. The path
@@ -87,6 +97,24 @@ pub fn verify_is_json()
         IsObjectLine (record_text forms.Json bytes held) (record_fields bytes held) }
     ensures fault { (fault : RecordFault) → IfSome (place_of fault) (λ at. at < 2 ^ 32) →
         IsObjectLine (object_line (fault_fields fault)) (fault_fields fault) }
+{}
+
+/// Each line that a night writes in objects is an object of JSON: a message with its outcome, a mail that stays, the counts,
+/// a deed, and the number of messages that are sent. The name of a mail is UTF-8.
+#[tactic(auto, using(crate::proofs::NightLines::message_is, crate::proofs::NightLines::aside_is, crate::proofs::NightLines::left_is, crate::proofs::NightLines::tally_is, crate::proofs::NightLines::deed_is, crate::proofs::NightLines::sent_is))]
+pub fn a_night_is_json()
+    ensures message { (a : Apdu) (outcome : DeskOutcome) (now : Shown) → IsApdu a → IsStanding now →
+        IsObjectLine (told_message forms.Json a outcome now) (message_fields a outcome now) }
+    ensures aside { (name : List ℕ) (unfit : Unfit) → IsUtf8 name → HasNearPlace unfit →
+        IsObjectLine (told_verdict forms.Json name (Aside unfit)) (stays_fields name (codes "aside") (unfit_text unfit)) }
+    ensures left { (name : List ℕ) (delay : Delay) → IsUtf8 name →
+        IsObjectLine (told_verdict forms.Json name (Left delay)) (stays_fields name (codes "left") (delay_text delay)) }
+    ensures counts { (tally : Tally) (waiting : ℕ) → AreFew tally waiting →
+        IsObjectLine (told_tally forms.Json tally waiting) (tally_fields tally waiting) }
+    ensures deed { (txn : Qualifiers) (deed : Deed) (now : Shown) → AreQualifiers txn → IsStanding now →
+        IsObjectLine (object_line (deed_fields (record { txn = txn; deed = deed }) now))
+        (deed_fields (record { txn = txn; deed = deed }) now) }
+    ensures sent { (count : ℕ) → count < 2 ^ 64 → IsObjectLine (told_sent forms.Json count) (sent_fields count) }
 {}
 
 /// Each line of `show` is an object of JSON with the fields of an APDU.

@@ -309,7 +309,7 @@ pub data Asked : Type 0 where
   Take : (file : List ℕ) → (form : TakeForm) → (stamp : Option Stamped) → (key : Option (List ℕ)) → Asked
   Inbox : (file folder : List ℕ) → (stamp : Option Stamped) → (key : Option (List ℕ)) → Asked
   Outbox : (file : List ℕ) → (folder key : Option (List ℕ)) → Asked
-  Exchange : (file incoming outgoing : List ℕ) → (dates : Option (Date × Dates)) → (stamp : Option Stamped) →
+  Exchange : (file incoming outgoing : List ℕ) → (form : Form) → (dates : Option (Date × Dates)) → (stamp : Option Stamped) →
       (copy beat key : Option (List ℕ)) → Asked
   Key : (file : List ℕ) → (deed : KeyDeed) → Asked
   Send : (file : List ℕ) → (txn : Qualifiers) → (number : ℕ) → (key : Option (List ℕ)) → Asked
@@ -346,7 +346,7 @@ asked (requests.Inbox file folder stamp key) =
 asked (requests.Outbox file folder key) =
     Outbox file.now (option_map (λ text. text.now) folder) (option_map (λ text. text.now) key)
 asked (requests.Exchange file night key) =
-    Exchange file.now night.incoming.now night.outgoing.now night.dates (option_map stamped night.stamp)
+    Exchange file.now night.incoming.now night.outgoing.now night.form night.dates (option_map stamped night.stamp)
     (option_map (λ text. text.now) night.copy) (option_map (λ text. text.now) night.beat) (option_map (λ text. text.now) key)
 asked (requests.Key file deed) = Key file.now deed
 asked (requests.Send file txn number key) = Send file.now txn number (option_map (λ text. text.now) key)
@@ -370,7 +370,7 @@ desk_at_stake (Act file asking by is_long is_new_group) = Some file
 desk_at_stake (Take file form stamp key) = Some file
 desk_at_stake (Inbox file folder stamp key) = Some file
 desk_at_stake (Outbox file folder key) = Some file
-desk_at_stake (Exchange file incoming outgoing dates stamp copy beat key) = Some file
+desk_at_stake (Exchange file incoming outgoing form dates stamp copy beat key) = Some file
 desk_at_stake (Key file deed) = Some file
 desk_at_stake (Send file txn number key) = Some file
 desk_at_stake (Note file txn words) = Some file
@@ -420,7 +420,7 @@ asked_of names.Exchange found = do
   incoming ← text_of In found
   outgoing ← text_of Out found
   both ← dates_and_stamp_of found
-  Some (Exchange file incoming outgoing both.0 both.1 (text_of Copy found) (text_of Beat found)
+  Some (Exchange file incoming outgoing (form_of found) both.0 both.1 (text_of Copy found) (text_of Beat found)
       (text_of NightKey found))
 asked_of names.Key found = do
   file ← new_file_of KeyFile found
@@ -462,8 +462,8 @@ asked_of names.Slip found = do
   Some (Slip file txn)
 asked_of names.Report found = do
   paths ← texts_of Paths found
-  today ← day_given ReportDay found
   since ← day_in Since found
+  today ← day_given ReportDay found
   Some (Report paths today since)
 asked_of names.Retire found = do
   file ← text_of File found

@@ -243,6 +243,7 @@ impl Name {
                 Argument::Copy,
                 Argument::Beat,
                 Argument::NightKey,
+                Argument::Json,
             ],
             Name::Key => &[Argument::KeyFile, Argument::ShowKey, Argument::ReadKey],
             Name::Status => &[Argument::File, Argument::Json],

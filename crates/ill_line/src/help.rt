@@ -426,7 +426,8 @@ A run does this, for a machine that works by itself:
   1. The mails of the folder IN are taken, as `ill inbox` does.
   2. With --overdue a responder says of each loan that is past its due date on
      DAY that it is overdue. With --expire it ends each request that is past its
-     last day. Both want --today. A line for each is written:
+     last day. Both want --today. Each gets a line in FILE.diary, and then a
+     line is written:
        GROUP TRANSACTION VERB done STATE DUE RELEASED/ISSUED
   3. With --copy the desk is copied to a file, which should be on another disk.
      A copy is replaced only if the desk has its role, its loans, and in each
@@ -452,6 +453,13 @@ Standard output has the lines of `ill inbox`, those of the second step and the
 line `sent N`. Standard error has a line for each mail that wants a person: one
 that is put aside or stays, and a conflict that no lost, late or repeated mail
 explains. So cron mails only these.
+
+With --json each of these is an object. Its `kind` is message, mail, mails, deed
+or sent. A message has `outcome`, `state`, `due`, `released` and `issued` before
+the labels of `ill show --json`. A mail that stays has `name`, `verdict`, which
+is aside or left, and `reason`. The object of kind mails has the counts of the
+line. A deed has `verb`, `group` and `transaction` before `state` and the rest.
+The last object has the number of `messages` that are sent.
 
 With --key all messages come and go in sealed letters, as `ill inbox --key` and
 `ill outbox --key` tell. No other file of IN is taken.
@@ -1248,10 +1256,11 @@ pub const SHELF_EXCHANGE: &str = "\
 Take the mails of a folder, and send into another.
 
 The mails of IN are sorted to the desks, as `ill shelf inbox` does, and then
-each desk does what `ill exchange` does, after a line of its path. At the end go
-the last messages of retired groups for which mail has asked. The folders are
-looked at first, as by `ill exchange`. With --key all messages come and go in
-sealed letters, as `ill shelf inbox --key` and `ill shelf outbox --key` tell.
+each desk does what `ill exchange` does, after a line of its path; with --json
+that line is left out. At the end go the last messages of retired groups for
+which mail has asked. The folders are looked at first, as by `ill exchange`.
+With --key all messages come and go in sealed letters, as `ill shelf inbox
+--key` and `ill shelf outbox --key` tell.
 
 --copy names a folder, which has to be there and is not DIR: each desk is copied
 into it before its messages leave, and the mark of each retired group. If it has

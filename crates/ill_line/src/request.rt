@@ -623,6 +623,7 @@ fn exchange_request<'a>(alloc: Global, matches: &ArgMatches<'a>) -> Result<Reque
             stamp,
             copy,
             beat,
+            form: form(matches),
             is_on_shelf: false,
         },
         key,
@@ -865,11 +866,11 @@ fn report_request<'a>(alloc: Global, matches: &ArgMatches<'a>) -> Result<Request
     ensures { ReadsValue asked (asked_of names.Report (rows_of (found_of matches.now))) result }
 {
     let paths = texts(alloc, matches, Argument::Paths)?;
-    let today = day_given(alloc, matches, Argument::ReportDay)?;
     let since = match day(matches, Argument::Since) {
         Ok(since) => since,
         Err(refusal) => return Err(refusal),
     };
+    let today = day_given(alloc, matches, Argument::ReportDay)?;
     Ok(Request::Report {
         paths,
         today,

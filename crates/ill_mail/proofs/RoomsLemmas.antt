@@ -6,11 +6,12 @@ use Rattle.ill_text.specs.declared.fault.ToolFault.{ToolFault}
 use Rattle.ill_text.specs.Fault.{IsOpenFault}
 use Rattle.ill_desk.specs.Performing.{CommandState, HeldAndLanded, command_state}
 use Rattle.ill_night.specs.declared.dates.Dates.{Dates}
-use Rattle.ill_night.specs.declared.verdict.Mail.{Mail}
+use Rattle.ill_text.specs.declared.form.Form.{Form}
+use Rattle.ill_night.specs.Inbox.{Arrived}
 use Rattle.ill_night.specs.Outbox.{Putting}
 use Rattle.ill_room.specs.Room.{Answers}
 use Rattle.ill_room.specs.Backup.{BackupState, CopiesDesk, HasCopy, IsSameWish, Signs, is_honest_backup}
-use Rattle.ill_mail.specs.Nights.{ExchangesAt, FinishesNight, Night, TakesMails}
+use Rattle.ill_mail.specs.Nights.{AskedNight, ExchangesAt, FinishesNight, Night, TakesMails}
 use Rattle.ill_mail.specs.Rooms.{NightOver, OutState, PutsAsked, SendsInRooms, SendsThenSigns, TakesFound}
 
 -- A copy that was there is there after what leaves it as it was.
@@ -75,32 +76,54 @@ signs_never Puts asked desk old after fault puts = record {
 -- ---- the commands
 
 -- Mails that were found in a room are mails of a folder.
-pub found_taken : (mails : List Mail) (waiting : ℕ) (old new : CommandState DeskContents) (result : Result Night ToolFault) →
-    TakesFound mails waiting old result new → TakesMails old result new
-found_taken mails waiting old new result (answer, runs, settles) = inr (mails, waiting, answer, runs, settles)
+pub found_taken : (arrived : Arrived) (old new : CommandState DeskContents) (result : Result Night ToolFault) →
+    TakesFound arrived old result new → TakesMails arrived.form old result new
+found_taken arrived old new result (answer, runs, settles) = inr (arrived.mails, arrived.waiting, answer, runs, settles)
+
+-- Mails that were taken in a room, and told in this form, are mails of a folder. Before it and after it nothing was written.
+pub mails_taken : (arrived : Arrived) (form : Form) (old new : HeldAndLanded DeskContents)
+    (before opened told after : Option (List ℕ)) (answer result : Result Night ToolFault) →
+    TakesFound arrived (command_state old opened) answer (command_state new told) →
+    arrived.form ≡ form → opened ≡ before → after ≡ told → answer ≡ result →
+    TakesMails form (command_state old before) result (command_state new after)
+mails_taken arrived form old new before opened told after answer result takes in_form quiet ended same =
+    let begun = subst (λ (start : Option (List ℕ)). TakesFound arrived (command_state old start) answer (command_state new told))
+    quiet takes in
+    let whole = subst (λ (end : Option (List ℕ)). TakesFound arrived (command_state old before) answer (command_state new end))
+    (sym ended) begun in
+    let answered = subst (λ (end : Result Night ToolFault). TakesFound arrived (command_state old before) end
+    (command_state new after)) same whole in
+    subst (λ (shown : Form). TakesMails shown (command_state old before) result (command_state new after)) in_form
+    (found_taken arrived (command_state old before) (command_state new after) result answered)
+
+-- Returns what a night over the mails that arrived is asked for.
+abbrev pub asked_by_day : Arrived → Option (Date × Dates) → AskedNight
+asked_by_day arrived dates = record { form = arrived.form; dates = dates }
 
 -- A night in rooms that keeps nothing is one of a desk. Before it and after it nothing was written.
-pub night_opened : (mails : List Mail) (waiting : ℕ) (dates : Option (Date × Dates)) (old new : HeldAndLanded DeskContents)
+pub night_opened : (arrived : Arrived) (dates : Option (Date × Dates)) (old new : HeldAndLanded DeskContents)
     (before opened told after : Option (List ℕ)) (answer result : Result Bool ToolFault) →
-    NightOver mails waiting dates (command_state old opened) answer (command_state new told) →
+    NightOver arrived dates (command_state old opened) answer (command_state new told) →
     opened ≡ before → after ≡ told → result ≡ answer →
-    ExchangesAt dates (command_state old before) result (command_state new after)
-night_opened mails waiting dates old new before opened told after answer result (met, written, taken, takes, finishes) quiet
+    ExchangesAt (asked_by_day arrived dates) (command_state old before) result (command_state new after)
+night_opened arrived dates old new before opened told after answer result (met, written, taken, takes, finishes) quiet
     ended same = (
       command_state met written,
       taken,
-      found_taken mails waiting (command_state old before) (command_state met written) taken
-          (subst (λ (start : Option (List ℕ)). TakesFound mails waiting (command_state old start) taken
+      found_taken arrived (command_state old before) (command_state met written) taken
+          (subst (λ (start : Option (List ℕ)). TakesFound arrived (command_state old start) taken
           (command_state met written)) quiet takes),
-      subst (λ (end : Option (List ℕ)). FinishesNight dates taken (command_state met written) result (command_state new end))
+      subst (λ (end : Option (List ℕ)). FinishesNight (asked_by_day arrived dates) taken (command_state met written) result
+          (command_state new end))
           (sym ended)
-          (subst (λ (end : Result Bool ToolFault). FinishesNight dates taken (command_state met written) end
+          (subst (λ (end : Result Bool ToolFault).
+          FinishesNight (asked_by_day arrived dates) taken (command_state met written) end
           (command_state new told)) (sym same) finishes),
     )
 
 -- If the mail of a desk cannot be opened, nothing is done.
-pub night_unopened : (dates : Option (Date × Dates)) (desk : HeldAndLanded DeskContents) (before after : Option (List ℕ))
-    (fault : ToolFault) → IsOpenFault fault → after ≡ before →
-    ExchangesAt dates (command_state desk before) (Err fault) (command_state desk after)
-night_unopened dates desk before after fault opens quiet =
+pub night_unopened : (asked : AskedNight) (desk : HeldAndLanded DeskContents)
+    (before after : Option (List ℕ)) (fault : ToolFault) → IsOpenFault fault → after ≡ before →
+    ExchangesAt asked (command_state desk before) (Err fault) (command_state desk after)
+night_unopened asked desk before after fault opens quiet =
     (command_state desk after, Err fault, inl ((opens, quiet), refl), (refl, refl, refl))

@@ -14,12 +14,18 @@ use Rattle.ill_text.specs.Output.{WritesText}
 use Rattle.ill_night.specs.declared.verdict.Mail.{Mail}
 use Rattle.ill_night.specs.declared.verdict.Verdict.{Verdict}
 use Rattle.ill_night.specs.declared.dates.Dates.{Dates}
+use Rattle.ill_night.specs.declared.night.Night.{Night as NightRun}
 use Rattle.ill_mail.specs.declared.exchange.Taken.{Taken}
 use Rattle.ill_night.specs.Dates.{RunsDates}
+use Rattle.ill_night.specs.DeedDiary.{EntersDeeds, lines_of_dates}
+use Rattle.ill_text.specs.Diary.{DiaryState}
 use Rattle.ill_night.specs.Person.{wants_person}
-use Rattle.ill_night.specs.Inbox.{RunsInbox, ending, is_waiting, tally_of}
+use Rattle.ill_night.specs.Inbox.{Arrived, RunsInbox, ending, is_waiting, tally_of}
+use Rattle.ill_night.specs.Objects.{told_sent}
+use Rattle.ill_text.specs.declared.form.Form.{Form}
+use Rattle.ill_text.specs.declared.form.Form.TheVariants.{Lines}
 use Rattle.ill_text.specs.Input.{AreIn}
-use Rattle.ill_night.specs.Outbox.{StreamsOutbox, asked_by, letters_of, sent_line}
+use Rattle.ill_night.specs.Outbox.{StreamsOutbox, asked_by, letters_of}
 use Rattle.ill_files.specs.Opening.{GoesWell, FailsToOpen}
 use Rattle.ill_text.specs.Fault.{IsFileFault, IsOpenFault}
 
@@ -44,13 +50,17 @@ SettlesRun mails waiting (Ok verdicts) result =
     (result ≡ Ok (record { verdicts = verdicts; mails = mails; waiting = waiting })) ⊎ IsErrAnd result IsFileFault
 SettlesRun mails waiting (Err fault) result = result ≡ Err fault
 
--- The mails of a folder were taken at a desk, and their files settled. Further mails may wait. Or a file
--- could not be opened, and the desk is unchanged.
-abbrev pub TakesMails : CommandState DeskContents → Result Night ToolFault → CommandState DeskContents → Type 0
-TakesMails old result new =
+-- Returns the mails that arrived, as they are told in the form `form`.
+abbrev pub arrived_in : Form → List Mail → (waiting : ℕ) → Arrived
+arrived_in form mails waiting = record { form = form; mails = mails; waiting = waiting }
+
+-- The mails of a folder were taken at a desk, told in the form `form`, and their files settled. Further mails may wait. Or a
+-- file could not be opened, and the desk is unchanged.
+abbrev pub TakesMails : Form → CommandState DeskContents → Result Night ToolFault → CommandState DeskContents → Type 0
+TakesMails form old result new =
     (FailsToOpen old.written new.written result × (new.desk ≡ old.desk))
     ⊎ ((mails : List Mail) × (waiting : ℕ) × (answer : Result (List Verdict) ToolFault)
-    × RunsInbox many_sides mails waiting old answer new
+    × RunsInbox many_sides (arrived_in form mails waiting) old answer new
     × SettlesRun mails waiting answer result)
 
 -- Returns the result of `inbox` after a run.
@@ -63,22 +73,22 @@ abbrev pub InboxAtFile : Option (List ℕ) → Option (List ℕ) → Result Bool
 InboxAtFile before after result =
     FailsToOpen before after result
     ⊎ ((old new : HeldAndLanded DeskContents) × (taken : Result Night ToolFault)
-    × TakesMails (command_state old before) taken (command_state new after) × (result ≡ ending_of taken))
+    × TakesMails Lines (command_state old before) taken (command_state new after) × (result ≡ ending_of taken))
 
--- The messages that want sending were put into a folder, and their number written. `bytes` has the messages
--- that ask. The content of the folder is not known. Or a file could not be opened.
-abbrev pub SendsAsked : List ℕ → List DeskEntry → Option (List ℕ) → Option (List ℕ) → Result (Unit {0}) ToolFault →
+-- The messages that want sending were put into a folder, and their number written in the form `form`. `bytes` has the
+-- messages that ask. The content of the folder is not known. Or a file could not be opened.
+abbrev pub SendsAsked : Form → List ℕ → List DeskEntry → Option (List ℕ) → Option (List ℕ) → Result (Unit {0}) ToolFault →
     Type 0
-SendsAsked bytes held before after result =
+SendsAsked form bytes held before after result =
     (IsErrAnd result IsOpenFault × (after ≡ before))
     ⊎ ((asking : List Apdu) × AreIn bytes asking
-    × WritesText before after (sent_line (length (letters_of asking held))) result)
+    × WritesText before after (told_sent form (length (letters_of asking held))) result)
 
 -- The messages that want sending were put into a folder, and their number written. Some messages ask, in a
 -- file of unknown content. Or a file could not be opened.
 abbrev pub SendsTo : List DeskEntry → Option (List ℕ) → Option (List ℕ) → Result (Unit {0}) ToolFault → Type 0
 SendsTo held before after result =
-    FailsToOpen before after result ⊎ ((bytes : List ℕ) × SendsAsked bytes held before after result)
+    FailsToOpen before after result ⊎ ((bytes : List ℕ) × SendsAsked Lines bytes held before after result)
 
 -- The messages that want sending were written to the output, one after another. Or a file could not be
 -- opened.
@@ -96,11 +106,19 @@ abbrev pub OutboxAtFile : Bool → Option (List ℕ) → Option (List ℕ) → R
 OutboxAtFile has_folder before after result =
     FailsToOpen before after result ⊎ ((held : List DeskEntry) × GoesWell (SendsFrom has_folder held before after) result)
 
--- If `dates` has a day, the deeds of that day were performed and saved. Else nothing changed.
-abbrev pub PerformsDueDeeds : Option (Date × Dates) → CommandState DeskContents → Result (Unit {0}) ToolFault →
+-- If `dates` has a day, the deeds of that day were performed, saved, and told in the form `form`. Else nothing changed.
+abbrev pub PerformsDueDeeds : Form → Option (Date × Dates) → CommandState DeskContents → Result (Unit {0}) ToolFault →
     CommandState DeskContents → Type 0
-PerformsDueDeeds None old result new = (result ≡ Ok tt) × (new.written ≡ old.written) × (new.desk ≡ old.desk)
-PerformsDueDeeds (Some (today, which)) old result new = RunsDates which today old result new
+PerformsDueDeeds form None old result new = (result ≡ Ok tt) × (new.written ≡ old.written) × (new.desk ≡ old.desk)
+PerformsDueDeeds form (Some (today, which)) old result new = RunsDates form which today old result new
+
+-- The deeds of the day of `dates` at the desk `live` were entered in a diary, with this answer. Each line begins with `begin`.
+-- Without a day nothing was entered.
+abbrev pub EntersDueDeeds : Option (Date × Dates) → (begin : List ℕ) → (live : DeskContents) → Result (Unit {0}) ToolFault →
+    DiaryState → DiaryState → Type 0
+EntersDueDeeds None begin live result old new = new ≡ old
+EntersDueDeeds (Some (today, which)) begin live result old new =
+    EntersDeeds result (lines_of_dates which today begin live) old new
 
 -- Returns the result of a night. It is a fault if mails wait, false if a mail wants a person, else true.
 abbrev pub night_ending : Role → Night → Result Bool ToolFault
@@ -120,35 +138,51 @@ night_asks live night = asked_by live (zip night.mails night.verdicts)
 
 -- The end of a night, after its deeds: a copy of the desk `live`, and then the sending. A loan that a deed
 -- has ended wants sending if a message of it came in this night. If the copy fails, nothing is sent.
-abbrev pub SendsAll : Night → DeskContents → Option (List ℕ) → Option (List ℕ) → Result (Unit {0}) ToolFault →
-    Result Bool ToolFault → Type 0
-SendsAll night live before after (Err fault) result = (result ≡ Err fault) × (after ≡ before)
-SendsAll night live before after (Ok done) result =
+abbrev pub SendsAll : Form → Night → DeskContents → Option (List ℕ) → Option (List ℕ) → Result Bool ToolFault → Type 0
+SendsAll form night live before after result =
     (IsErrAnd result IsFileFault × (after ≡ before))
-    ⊎ ((sent : Result (Unit {0}) ToolFault) × SendsAsked (night_asks live night) live.held before after sent
+    ⊎ ((sent : Result (Unit {0}) ToolFault) × SendsAsked form (night_asks live night) live.held before after sent
     × EndsAfterSending (night_ending live.role night) sent result)
+
+-- The deeds of a night had an answer. If they were performed, `Sends` says the result of the night. Else it is their fault,
+-- and nothing more was written.
+abbrev pub AfterDeeds : Result (Unit {0}) ToolFault → Option (List ℕ) → Option (List ℕ) → Type 0 → Result Bool ToolFault →
+    Type 0
+AfterDeeds (Ok done) before after Sends result = Sends
+AfterDeeds (Err fault) before after Sends result = (result ≡ Err fault) × (after ≡ before)
+
+-- What a night is asked for: the deeds of a day, if there are any, and the form in which all is told.
+pub record AskedNight : Type 0 where
+  pub form : Form
+  pub dates : Option (Date × Dates)
+
+-- Returns what a night of the code is asked for.
+abbrev pub asked_night : NightRun → AskedNight
+asked_night night = record { form = night.form; dates = night.dates }
 
 -- The rest of a night, after its mails were taken: the deeds of the day, and then the sending. If the mails
 -- could not be taken, nothing more is done.
-abbrev pub FinishesNight : Option (Date × Dates) → Result Night ToolFault → CommandState DeskContents →
+abbrev pub FinishesNight : AskedNight → Result Night ToolFault → CommandState DeskContents →
     Result Bool ToolFault → CommandState DeskContents → Type 0
-FinishesNight dates (Err fault) old result new =
+FinishesNight asked (Err fault) old result new =
     (result ≡ Err fault) × (new.written ≡ old.written) × (new.desk ≡ old.desk)
-FinishesNight dates (Ok night) old result new =
-    (met : CommandState DeskContents) × (said : Result (Unit {0}) ToolFault) × PerformsDueDeeds dates old said met
-    × SendsAll night met.desk.live met.written new.written said result × (new.desk ≡ met.desk)
+FinishesNight asked (Ok night) old result new =
+    (met : CommandState DeskContents) × (said : Result (Unit {0}) ToolFault)
+    × PerformsDueDeeds asked.form asked.dates old said met
+    × AfterDeeds said met.written new.written (SendsAll asked.form night met.desk.live met.written new.written result) result
+    × (new.desk ≡ met.desk)
 
 -- A night of a desk leads from `old` to `new`. Its mails were taken, the deeds of the day performed, and its
 -- messages sent.
-abbrev pub ExchangesAt : Option (Date × Dates) → CommandState DeskContents → Result Bool ToolFault →
+abbrev pub ExchangesAt : AskedNight → CommandState DeskContents → Result Bool ToolFault →
     CommandState DeskContents → Type 0
-ExchangesAt dates old result new =
+ExchangesAt asked old result new =
     (met : CommandState DeskContents) × (taken : Result Night ToolFault)
-    × TakesMails old taken met × FinishesNight dates taken met result new
+    × TakesMails asked.form old taken met × FinishesNight asked taken met result new
 
 -- The command `exchange` performed a night of the desk in a file. Or the file could not be opened.
-abbrev pub ExchangesAtFile : Option (Date × Dates) → Option (List ℕ) → Option (List ℕ) → Result Bool ToolFault → Type 0
-ExchangesAtFile dates before after result =
+abbrev pub ExchangesAtFile : AskedNight → Option (List ℕ) → Option (List ℕ) → Result Bool ToolFault → Type 0
+ExchangesAtFile asked before after result =
     FailsToOpen before after result
     ⊎ ((old : HeldAndLanded DeskContents) × (new : HeldAndLanded DeskContents)
-    × ExchangesAt dates (command_state old before) result (command_state new after))
+    × ExchangesAt asked (command_state old before) result (command_state new after))

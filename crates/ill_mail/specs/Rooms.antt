@@ -11,25 +11,26 @@ use Rattle.ill_night.specs.declared.dates.Dates.{Dates}
 use Rattle.ill_night.specs.declared.verdict.Mail.{Mail}
 use Rattle.ill_night.specs.declared.verdict.Verdict.{Verdict}
 use Rattle.ill_night.specs.declared.verdict.Verdict.TheVariants.{Done}
-use Rattle.ill_night.specs.Inbox.{EndedWell, RunsInbox}
+use Rattle.ill_night.specs.Inbox.{Arrived, EndedWell, RunsInbox}
 use Rattle.ill_night.specs.Outbox.{Putting, RunsOutbox, asked_by}
 use Rattle.ill_room.specs.Room.{RoomState, Answers, EndsRun, is_honest_room}
 use Rattle.ill_room.specs.Backup.{BackupState, HasCopy, IsSameWish}
 use Rattle.ill_room.specs.Letters.{file_verdicts}
+use Rattle.ill_mail.specs.declared.rooms.Plan.{Plan}
 use Rattle.ill_mail.specs.declared.rooms.Rooms.{Rooms}
-use Rattle.ill_mail.specs.Nights.{Night, FinishesNight, SettlesRun}
+use Rattle.ill_mail.specs.Nights.{AskedNight, Night, FinishesNight, SettlesRun}
 
 -- ---- the mails that come
 
--- Returns the night of `mails` with these verdicts, and with `waiting` further mails.
-abbrev pub night_of : List Mail → ℕ → List Verdict → Night
-night_of mails waiting verdicts = record { verdicts = verdicts; mails = mails; waiting = waiting }
+-- Returns the night of the mails that arrived, with these verdicts.
+abbrev pub night_of : Arrived → List Verdict → Night
+night_of arrived verdicts = record { verdicts = verdicts; mails = arrived.mails; waiting = arrived.waiting }
 
--- `mails` were taken at a desk, and their files settled. `waiting` further mails wait.
-abbrev pub TakesFound : List Mail → ℕ → CommandState DeskContents → Result Night ToolFault → CommandState DeskContents → Type 0
-TakesFound mails waiting old result new =
-    (answer : Result (List Verdict) ToolFault) × RunsInbox many_sides mails waiting old answer new
-    × SettlesRun mails waiting answer result
+-- The mails that arrived were taken at a desk, and their files settled.
+abbrev pub TakesFound : Arrived → CommandState DeskContents → Result Night ToolFault → CommandState DeskContents → Type 0
+TakesFound arrived old result new =
+    (answer : Result (List Verdict) ToolFault) × RunsInbox many_sides arrived old answer new
+    × SettlesRun arrived.mails arrived.waiting answer result
 
 -- A run over `mails` ended well with these verdicts, at a desk that is `desk` then. So it is saved. After that the messages
 -- that ask were kept, and then the files of the mails settled. The mails of a letter share its file.
@@ -56,6 +57,10 @@ abbrev pub IsDoneInSaved : List Mail → HeldAndLanded DeskContents → ℕ → 
 IsDoneInSaved mails desk mail =
     (verdicts : List Verdict) × EndedWell mails verdicts desk × IsDone (slice_get verdicts mail)
 
+-- Returns what the plan of a night asks for.
+abbrev pub asked_in : Plan → AskedNight
+asked_in plan = record { form = plan.batch.form; dates = plan.dates }
+
 -- ---- the state of the rooms
 
 -- The state of what leaves in a night: its copy and sign of life, and its outlet.
@@ -69,11 +74,11 @@ pub record RoomsState (M : Type 0) : Type 0 where
   pub leaving : OutState M
 
 -- Returns the state of what leaves from the rooms of the code.
-abbrev pub out_state : {R B O M : Type 0} → (B → BackupState) → (O → Option M) → Rooms R B O → OutState M
+abbrev pub out_state : {R B O D M : Type 0} → (B → BackupState) → (O → Option M) → Rooms R B O D → OutState M
 out_state backup out rooms = record { backup = backup rooms.backup; out = out rooms.out }
 
 -- Returns the state of the rooms of the code.
-abbrev pub rooms_state : {R B O M : Type 0} → (R → RoomState) → (B → BackupState) → (O → Option M) → Rooms R B O →
+abbrev pub rooms_state : {R B O D M : Type 0} → (R → RoomState) → (B → BackupState) → (O → Option M) → Rooms R B O D →
     RoomsState M
 rooms_state mail backup out rooms = record { mail = mail rooms.mail; leaving = out_state backup out rooms }
 
@@ -127,11 +132,11 @@ NightInRooms Puts mails desk old new =
     (met : HeldAndLanded DeskContents) × (taken : Result (List Verdict) ToolFault)
     × TakesInRoom mails met old.mail taken new.mail × SendsAfter Puts mails taken desk.live old.leaving new.leaving
 
--- The same night at its desk: `mails` were taken, with `waiting` further ones, and then the deeds of the day performed,
--- and the messages of the desk sent. After the mails were taken nothing more is kept.
-abbrev pub NightOver : List Mail → ℕ → Option (Date × Dates) → CommandState DeskContents → Result Bool ToolFault →
+-- The same night at its desk: the mails that arrived were taken, and then the deeds of the day performed, and the messages
+-- of the desk sent. After the mails were taken nothing more is kept.
+abbrev pub NightOver : Arrived → Option (Date × Dates) → CommandState DeskContents → Result Bool ToolFault →
     CommandState DeskContents → Type 0
-NightOver mails waiting dates old result new =
+NightOver arrived dates old result new =
     (desk : HeldAndLanded DeskContents) × (written : Option (List ℕ)) × (taken : Result Night ToolFault)
-    × TakesFound mails waiting old taken (with_kept new.kept (command_state desk written))
-    × FinishesNight dates taken (command_state desk written) result new
+    × TakesFound arrived old taken (with_kept new.kept (command_state desk written))
+    × FinishesNight (record { form = arrived.form; dates = dates }) taken (command_state desk written) result new

@@ -2,35 +2,38 @@
 //! the lock of the desk's file from before the load to its end.
 
 ghost use Rattle.std.specs.Prelude.{◌≡◌, is_some, IfErr};
-ghost use Rattle.ill_mail.specs.Nights.{ExchangesAt, ExchangesAtFile, InboxAtFile, OutboxAtFile, SendsFrom, SendsOn, SendsTo, TakesMails, ending_of, taken_of};
+ghost use Rattle.ill_mail.specs.Nights.{ExchangesAt, ExchangesAtFile, InboxAtFile, OutboxAtFile, SendsFrom, SendsOn, SendsTo, TakesMails, asked_night, ending_of, taken_of};
 ghost use Rattle.ill_night.specs.Inbox.{answered_with};
 ghost use Rattle.ill_desk.specs.Performing.{command_state, view_of};
+ghost use Rattle.ill_text.specs.declared.form.Form.TheVariants as forms;
 ghost use Rattle.ill_text.specs.Fault.{IsOpenFault};
 
 use crate::backup::HostBackup;
+use crate::rooms::{Plan, Rooms, Sending, night_in, take_in};
+use crate::sending::send_asked;
+use ill_files::came::{CameFile, open_came};
+use ill_files::diary::{ReopenedDiary, RunDiary, open_run_diary, warn_of_diary};
+use ill_files::machine::Machine;
+use ill_files::open::{all_well, open_locked};
+use ill_files::paths::folder_of;
+use ill_key::Key;
+use ill_key::role::{other_sender, own_sender};
 use ill_mailbox::fault_lines::{NO_BOX, NO_RUN, NOT_READ, report_fault_of_mail};
 use ill_mailbox::host_room::{HostRoom, NOT_ASKED};
 use ill_mailbox::mail::{Incoming, Mails, Opening, Source, begin_run, claim_mails, sorted_mails};
 use ill_mailbox::mail_box::{MailBox, MailPaths, asked_bytes, open_box};
 use ill_mailbox::mail_folder::MailFolder;
 use ill_mailbox::places::{Places, look_at_out, look_at_places};
-use crate::rooms::{Plan, Rooms, night_in, take_in};
-use crate::sending::send_asked;
-use ill_files::came::{CameFile, open_came};
-use ill_files::diary::{DiaryFile, open_came_diary, warn_of_diary};
-use ill_files::machine::Machine;
-use ill_files::open::{all_well, open_locked};
-use ill_files::paths::folder_of;
-use ill_key::Key;
-use ill_key::role::{other_sender, own_sender};
+use ill_night::deed_diary::DeedDiary;
 use ill_night::night::Night;
 use ill_night::outbox::run_desk_outbox_stream;
 use ill_night::tally::Tally;
 use ill_night::verdict::{Batch, Verdict};
 use ill_room::sealed::Seal;
 use ill_saved::{Desk, LockFiles, Role, Store};
-use ill_text::diary::{CameDiary, WithDiary, begin_text};
+use ill_text::diary::{WithDiary, begin_text};
 use ill_text::fault::ToolFault;
+use ill_text::form::Form;
 use std::alloc::Global;
 use std::io::Write;
 use std::rt::Files;
@@ -69,14 +72,13 @@ fn end(taken: Result<Taken, ToolFault>) -> Result<bool, ToolFault>
 }
 
 /// Takes the mails of `incoming` at `desk`. The files of mails are removed only after the desk is saved.
-#[tactic(auto, using(crate::proofs::RoomsLemmas::found_taken))]
 fn take_mails<T: Files, S: Store, W: Write, E: Write>(
     machine: &mut Machine<'_, T, W, E>,
     file: &str,
     incoming: Incoming<'_, '_, '_>,
     desk: &mut Desk<S>,
 ) -> Result<Taken, ToolFault>
-    ensures { TakesMails (command_state (view_of S.state desk.old) (W.contents machine.old.writer))
+    ensures { TakesMails forms.Lines (command_state (view_of S.state desk.old) (W.contents machine.old.writer))
         (answered_with taken_of result)
         (command_state (view_of S.state desk.new) (W.contents machine.new.writer)) }
 {
@@ -84,14 +86,19 @@ fn take_mails<T: Files, S: Store, W: Write, E: Write>(
     let OpenedMail {
         mail_box,
         mut came,
-        mut diary,
+        diary,
         found,
     } = opened;
+    let RunDiary {
+        came: mut came_diary,
+        begin,
+    } = diary;
+    drop(begin);
     let mut kept = WithDiary {
         came: &mut came,
-        diary: &mut diary,
+        diary: &mut came_diary,
     };
-    let batch = batch_of(&found);
+    let batch = batch_of(&found, Form::Lines);
     let place = MailPaths {
         file,
         folder: incoming.folder,
@@ -99,21 +106,23 @@ fn take_mails<T: Files, S: Store, W: Write, E: Write>(
     };
     let mut room = HostRoom::at(machine.rt, machine.alloc, place, &found, false);
     let taken = take_in(machine, desk, &mut room, &batch, &mut kept);
-    warn_of_streams(machine, file, &came, &diary);
+    warn_of_streams(machine, file, &came, came_diary.has_failed());
     match taken {
         Ok(verdicts) => Ok(Taken { found, verdicts }),
         Err(fault) => Err(fault),
     }
 }
 
-/// Returns the mails of a run as a batch.
-fn batch_of(found: &Mails) -> Batch<'_>
+/// Returns the mails of a run as a batch, which is told in the form `form`.
+fn batch_of(found: &Mails, form: Form) -> Batch<'_>
     ensures mails { result.mails.now ≡ found.now.mails.items }
     ensures waiting { result.waiting ≡ found.now.waiting }
+    ensures form { result.form ≡ form }
 {
     Batch {
         mails: &found.mails,
         waiting: found.waiting,
+        form,
     }
 }
 
@@ -123,8 +132,8 @@ struct OpenedMail<F> {
     mail_box: MailBox,
     /// The file of the messages that came.
     came: CameFile<F>,
-    /// The diary of these messages.
-    diary: CameDiary<DiaryFile<F>>,
+    /// The diary of the run.
+    diary: RunDiary<F>,
     /// The mails that the run has found.
     found: Mails,
 }
@@ -146,7 +155,7 @@ fn open_mail<T: Files, W: Write, E: Write>(
     )?;
     let came = machine.report_fault_at(open_came(machine.rt, machine.alloc, file), file, NO_CAME)?;
     let begin = begin_text(machine.alloc, incoming.stamp);
-    let diary = open_came_diary(machine.rt, machine.alloc, file, begin, &mut machine.errors);
+    let diary = open_run_diary(machine.rt, machine.alloc, file, begin, &mut machine.errors);
     let place = MailPaths {
         file,
         folder: incoming.folder,
@@ -161,16 +170,17 @@ fn open_mail<T: Files, W: Write, E: Write>(
     })
 }
 
-/// Writes a line to the errors if `came`, the file of the messages that came, has failed, or if `diary` has.
+/// Writes a line to the errors if `came`, the file of the messages that came, has failed, and one if the diary
+/// `is_incomplete`.
 fn warn_of_streams<T, F, W, E: Write>(
     machine: &mut Machine<'_, T, W, E>,
     file: &str,
     came: &CameFile<F>,
-    diary: &CameDiary<DiaryFile<F>>,
+    is_incomplete: bool,
 )
     ensures { machine.new.writer ≡ machine.old.writer }
 {
-    warn_of_diary(machine.alloc, file, diary.has_failed(), &mut machine.errors);
+    warn_of_diary(machine.alloc, file, is_incomplete, &mut machine.errors);
     if came.has_failed() {
         machine.warn(file, NO_CAME);
     }
@@ -303,8 +313,12 @@ fn send_to<T: Files, S: Store, W: Write, E: Write>(
     ensures { SendsTo desk.now.live.held (W.contents machine.old.writer) (W.contents machine.new.writer) result }
 {
     let asking = machine.report_fault_at(asking(machine.rt, machine.alloc, file), file, NOT_ASKED)?;
-    let seal = seal_with(outlet.key, desk.sides().role());
-    send_asked(machine, desk, &asking, seal, outlet.folder)
+    let sending = Sending {
+        asking: &asking,
+        seal: seal_with(outlet.key, desk.sides().role()),
+        form: Form::Lines,
+    };
+    send_asked(machine, desk, sending, outlet.folder)
 }
 
 /// Puts the messages of the loans that want sending into the folder of `outlet`, if it exists, as `send_to` does.
@@ -335,7 +349,7 @@ pub fn exchange<T: LockFiles, W: Write, E: Write>(
     night: &Night<'_>,
     key: Option<&Key>,
 ) -> Result<bool, ToolFault>
-    ensures { ExchangesAtFile night.now.dates (W.contents machine.old.writer) (W.contents machine.new.writer) result }
+    ensures { ExchangesAtFile (asked_night night.now) (W.contents machine.old.writer) (W.contents machine.new.writer) result }
 {
     let mut locked = open_locked(machine.rt, machine.alloc, file)?;
     look_at_night(machine, file, night)?;
@@ -372,16 +386,11 @@ fn exchange_at<'a, T: Files, S: Store, W: Write, E: Write>(
     key: Option<&'a Key>,
     desk: &mut Desk<S>,
 ) -> Result<bool, ToolFault>
-    ensures { ExchangesAt night.now.dates
+    ensures { ExchangesAt (asked_night night.now)
         (command_state (view_of S.state desk.old) (W.contents machine.old.writer)) result
         (command_state (view_of S.state desk.new) (W.contents machine.new.writer)) }
 {
-    let incoming = Incoming {
-        folder: night.incoming,
-        is_sorted: night.is_on_shelf,
-        stamp: &night.stamp,
-        key,
-    };
+    let incoming = incoming_of(night, key);
     let role = desk.sides().role();
     let opened = match open_mail(machine, file, incoming, role) {
         Ok(opened) => opened,
@@ -390,15 +399,19 @@ fn exchange_at<'a, T: Files, S: Store, W: Write, E: Write>(
     let OpenedMail {
         mail_box,
         mut came,
-        mut diary,
+        diary,
         found,
     } = opened;
+    let RunDiary {
+        came: mut came_diary,
+        begin,
+    } = diary;
     let mut kept = WithDiary {
         came: &mut came,
-        diary: &mut diary,
+        diary: &mut came_diary,
     };
     let plan = Plan {
-        batch: batch_of(&found),
+        batch: batch_of(&found, night.form),
         dates: night.dates,
         seal: seal_with(key, role),
     };
@@ -407,12 +420,25 @@ fn exchange_at<'a, T: Files, S: Store, W: Write, E: Write>(
         folder: incoming.folder,
         mail_box: &mail_box,
     };
+    let again = ReopenedDiary::beside(machine.rt, machine.alloc, file);
     let mut rooms = Rooms {
         mail: HostRoom::at(machine.rt, machine.alloc, place, &found, true),
+        diary: DeedDiary::new(begin, again),
         backup: HostBackup::at(machine.rt, machine.alloc, file, night),
         out: MailFolder::at(machine.rt, machine.alloc, night.outgoing),
     };
     let done = night_in(machine, desk, &mut rooms, &plan, &mut kept);
-    warn_of_streams(machine, file, &came, &diary);
+    let is_incomplete = came_diary.has_failed() || rooms.diary.has_failed();
+    warn_of_streams(machine, file, &came, is_incomplete);
     report_fault_of_mail(machine, done, &rooms.out)
+}
+
+/// Returns the mails of `night`, which are in sealed letters if there is a key.
+fn incoming_of<'a>(night: &'a Night<'a>, key: Option<&'a Key>) -> Incoming<'a, 'a, 'a> {
+    Incoming {
+        folder: night.incoming,
+        is_sorted: night.is_on_shelf,
+        stamp: &night.stamp,
+        key,
+    }
 }

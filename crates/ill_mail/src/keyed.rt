@@ -2,13 +2,13 @@
 
 ghost use Rattle.std.specs.Prelude.{true, Some, is_some, option_map};
 ghost use Rattle.ill_mail.specs.Keyed.{WithKey};
-ghost use Rattle.ill_mail.specs.Nights.{ExchangesAtFile, InboxAtFile, OutboxAtFile};
+ghost use Rattle.ill_mail.specs.Nights.{ExchangesAtFile, InboxAtFile, OutboxAtFile, asked_night};
 
 use crate::exchange::{Outlet, exchange, inbox, outbox};
-use ill_mailbox::mail::Incoming;
 use ill_files::machine::Machine;
 use ill_key::Key;
 use ill_key::key_file::read_key;
+use ill_mailbox::mail::Incoming;
 use ill_night::night::Night;
 use ill_saved::LockFiles;
 use ill_text::diary::Stamp;
@@ -98,7 +98,7 @@ pub fn exchange_with<T: LockFiles, W: Write, E: Write>(
     key_file: Option<&str>,
     night: &Night<'_>,
 ) -> Result<bool, ToolFault>
-    ensures { WithKey (option_map (λ file. file.now) key_file.entry) (ExchangesAtFile night.now.dates)
+    ensures { WithKey (option_map (λ file. file.now) key_file.entry) (ExchangesAtFile (asked_night night.now))
         (W.contents machine.old.writer) (W.contents machine.new.writer) result }
 {
     match key_file {
@@ -114,7 +114,7 @@ fn exchange_sealed<T: LockFiles, W: Write, E: Write>(
     key_file: &str,
     night: &Night<'_>,
 ) -> Result<bool, ToolFault>
-    ensures { WithKey (Some key_file.now) (ExchangesAtFile night.now.dates) (W.contents machine.old.writer)
+    ensures { WithKey (Some key_file.now) (ExchangesAtFile (asked_night night.now)) (W.contents machine.old.writer)
         (W.contents machine.new.writer) result }
 {
     let key = read_key(machine.rt, key_file)?;

@@ -4,19 +4,22 @@
 ghost use Rattle.std.specs.Prelude.{◌≡◌, Ok, Result, option_map};
 ghost use Rattle.std.specs.List.{zip};
 ghost use Rattle.ill_desk.specs.Performing.{command_state, view_of, with_kept};
-ghost use Rattle.ill_mail.specs.Nights.{EndsAfterSending, FinishesNight, PerformsDueDeeds, SendsAll, SendsAsked, SettlesRun, night_ending};
-ghost use Rattle.ill_mail.specs.Rooms.{NightInRooms, NightOver, PutsAsked, SendsAfter, SendsInRooms, SendsThenSigns, TakesFound, TakesInRoom, night_of, out_state, rooms_state};
-ghost use Rattle.ill_night.specs.Inbox.{EndedWell, answered_with};
+ghost use Rattle.ill_mail.specs.Nights.{EndsAfterSending, EntersDueDeeds, FinishesNight, PerformsDueDeeds, SendsAll, SendsAsked, SettlesRun, night_ending};
+ghost use Rattle.ill_mail.specs.Rooms.{asked_in, NightInRooms, NightOver, PutsAsked, SendsAfter, SendsInRooms, SendsThenSigns, TakesFound, TakesInRoom, night_of, out_state, rooms_state};
+ghost use Rattle.ill_night.specs.Inbox.{EndedWell, answered_with, arrived_of};
 ghost use Rattle.ill_night.specs.Outbox.{asked_by};
 ghost use Rattle.ill_room.specs.Room.{Answers};
 ghost use Rattle.ill_room.specs.Backup.{Signs, is_honest_backup};
 ghost use Rattle.ill_room.specs.Sealed.{PutsWith, sealing_of};
 ghost use Rattle.ill_text.specs.declared.fault.ToolFault.{ToolFault};
+ghost use Rattle.ill_text.specs.Diary.{diary_state};
 
 use ill_files::machine::Machine;
 use ill_night::asked::asked_by;
-use ill_night::dates::{Dates, run_desk_dates};
+use ill_night::dates::{Dates, DatesRun, run_desk_dates_entered};
+use ill_night::deed_diary::DeedDiary;
 use ill_night::inbox::run_desk_inbox;
+use ill_night::objects::sent_text;
 use ill_night::outgoing::Outgoing;
 use ill_night::person::wants_person;
 use ill_night::tally::Tally;
@@ -28,6 +31,7 @@ use ill_room::sealed::{Seal, run_outbox_with};
 use ill_room::settle::{Judged, end_run};
 use ill_saved::{Desk, Store};
 use ill_text::fault::ToolFault;
+use ill_text::form::Form;
 use ill_text::output::write_and_flush;
 use ill_values::Day;
 use std::alloc::Global;
@@ -35,9 +39,11 @@ use std::io::Write;
 
 /// The rooms of a night.
 #[derive(Drop)]
-pub struct Rooms<R: Room, B: Backup, O: Outgoing> {
+pub struct Rooms<R: Room, B: Backup, O: Outgoing, D> {
     /// The mails that have come.
     pub mail: R,
+    /// The diary of the deeds of the day.
+    pub diary: DeedDiary<D>,
     /// The copy of the desk, and the sign of life.
     pub backup: B,
     /// The outlet of the messages that leave.
@@ -62,14 +68,24 @@ pub struct Plan<'a> {
 /// aside or given back only after the desk is saved with all that the mails have
 /// brought. If the mails cannot be taken, nothing is sent. If the copy fails, nothing is sent. The sign of life is given
 /// only after all messages were sent. All this holds whichever call fails.
-pub fn night_in<T, S: Store, R: Room, B: Backup, O: Outgoing, F: Write, W: Write, E: Write>(
+pub fn night_in<
+    T,
+    S: Store,
+    R: Room,
+    B: Backup,
+    O: Outgoing,
+    D: Write,
+    F: Write,
+    W: Write,
+    E: Write,
+>(
     machine: &mut Machine<'_, T, W, E>,
     desk: &mut Desk<S>,
-    rooms: &mut Rooms<R, B, O>,
+    rooms: &mut Rooms<R, B, O, D>,
     plan: &Plan<'_>,
     came: &mut F,
 ) -> Result<bool, ToolFault>
-    ensures over { NightOver plan.now.batch.mails.now plan.now.batch.waiting plan.now.dates
+    ensures over { NightOver (arrived_of plan.now.batch) plan.now.dates
         (with_kept (F.contents came.old) (command_state (view_of S.state desk.old) (W.contents machine.old.writer))) result
         (with_kept (F.contents came.new) (command_state (view_of S.state desk.new) (W.contents machine.new.writer))) }
     ensures rooms { NightInRooms (PutsWith O.after (option_map sealing_of plan.now.seal)) plan.now.batch.mails.now (view_of S.state desk.new)
@@ -90,9 +106,9 @@ pub fn take_in<T, S: Store, R: Room, F: Write, W: Write, E: Write>(
     batch: &Batch<'_>,
     came: &mut F,
 ) -> Result<Vec<Verdict>, ToolFault>
-    ensures takes { TakesFound batch.now.mails.now batch.now.waiting
+    ensures takes { TakesFound (arrived_of batch.now)
         (with_kept (F.contents came.old) (command_state (view_of S.state desk.old) (W.contents machine.old.writer)))
-        (answered_with (λ verdicts. night_of batch.now.mails.now batch.now.waiting verdicts.items) result)
+        (answered_with (λ verdicts. night_of (arrived_of batch.now) verdicts.items) result)
         (with_kept (F.contents came.new) (command_state (view_of S.state desk.new) (W.contents machine.new.writer))) }
     ensures room { TakesInRoom batch.now.mails.now (view_of S.state desk.new) (R.state room.old)
         (answered_with (λ verdicts. verdicts.items) result) (R.state room.new) }
@@ -114,7 +130,7 @@ fn settle_run<T, S: Store, R: Room, W: Write, E: Write>(
 ) -> Result<Vec<Verdict>, ToolFault>
     requires ended { EndedWell batch.now.mails.now verdicts.items (view_of S.state desk.now) }
     ensures settles { SettlesRun batch.now.mails.now batch.now.waiting (Ok verdicts.items)
-        (answered_with (λ verdicts. night_of batch.now.mails.now batch.now.waiting verdicts.items) result) }
+        (answered_with (λ verdicts. night_of (arrived_of batch.now) verdicts.items) result) }
     ensures room { TakesInRoom batch.now.mails.now (view_of S.state desk.now) (R.state room.old)
         (answered_with (λ verdicts. verdicts.items) result) (R.state room.new) }
     ensures silent { machine.new.writer ≡ machine.old.writer }
@@ -139,54 +155,63 @@ fn settle_run<T, S: Store, R: Room, W: Write, E: Write>(
 }
 
 /// Performs the deeds of the day, copies the desk, and sends its messages. The mails were taken before.
-fn finish_in<T, S: Store, R: Room, B: Backup, O: Outgoing, W: Write, E: Write>(
+fn finish_in<T, S: Store, R: Room, B: Backup, O: Outgoing, D: Write, W: Write, E: Write>(
     machine: &mut Machine<'_, T, W, E>,
     desk: &mut Desk<S>,
-    rooms: &mut Rooms<R, B, O>,
+    rooms: &mut Rooms<R, B, O, D>,
     plan: &Plan<'_>,
     verdicts: &[Verdict],
 ) -> Result<bool, ToolFault>
-    ensures finishes { FinishesNight plan.now.dates (Ok (night_of plan.now.batch.mails.now plan.now.batch.waiting verdicts.now))
+    ensures finishes { FinishesNight (asked_in plan.now) (Ok (night_of (arrived_of plan.now.batch) verdicts.now))
         (command_state (view_of S.state desk.old) (W.contents machine.old.writer)) result
         (command_state (view_of S.state desk.new) (W.contents machine.new.writer)) }
     ensures sends { SendsAfter (PutsWith O.after (option_map sealing_of plan.now.seal)) plan.now.batch.mails.now (Ok verdicts.now) desk.new.live
         (out_state B.state O.mails rooms.old) (out_state B.state O.mails rooms.new) }
     ensures mail { rooms.new.mail ≡ rooms.old.mail }
 {
-    match act_on_dates(machine.alloc, desk, plan.dates, &mut machine.writer) {
+    match act_on_dates(machine, desk, plan, &mut rooms.diary) {
         Ok(()) => send_in(machine, desk, rooms, plan, verdicts),
         Err(fault) => Err(fault),
     }
 }
 
-/// Performs the deeds that are due on the day of `dates`, if it has a day.
-fn act_on_dates<S: Store, W: Write>(
-    alloc: Global,
+/// Performs the deeds that are due on the day of `plan`, if it has a day. Each done deed is entered in `diary` before the
+/// save.
+fn act_on_dates<T, S: Store, D: Write, W: Write, E>(
+    machine: &mut Machine<'_, T, W, E>,
     desk: &mut Desk<S>,
-    dates: Option<(Day, Dates)>,
-    writer: &mut W,
+    plan: &Plan<'_>,
+    diary: &mut DeedDiary<D>,
 ) -> Result<(), ToolFault>
-    ensures { PerformsDueDeeds dates
-        (command_state (view_of S.state desk.old) (W.contents writer.old)) result
-        (command_state (view_of S.state desk.new) (W.contents writer.new)) }
+    ensures performs { PerformsDueDeeds plan.now.batch.form plan.now.dates
+        (command_state (view_of S.state desk.old) (W.contents machine.old.writer)) result
+        (command_state (view_of S.state desk.new) (W.contents machine.new.writer)) }
+    ensures entered { EntersDueDeeds plan.now.dates diary.old.begin.items desk.old.live result
+        (diary_state (D.contents diary.old.diary.stream) diary.old.diary.has_failed)
+        (diary_state (D.contents diary.new.diary.stream) diary.new.diary.has_failed) }
 {
-    match dates {
-        Some((today, which)) => run_desk_dates(alloc, desk, today, which, writer),
-        None => Ok(()),
-    }
+    let Some((today, which)) = plan.dates else {
+        return Ok(());
+    };
+    let dates = DatesRun {
+        today,
+        which,
+        form: plan.batch.form,
+    };
+    run_desk_dates_entered(machine.alloc, desk, dates, diary, &mut machine.writer)
 }
 
 /// Copies the desk, and then sends its messages as `send_copied` does. If the copy fails, nothing is sent.
 #[tactic(auto, using(crate::proofs::RoomsLemmas::sends_copied, crate::proofs::RoomsLemmas::sends_nothing))]
-fn send_in<T, S: Store, R: Room, B: Backup, O: Outgoing, W: Write, E: Write>(
+fn send_in<T, S: Store, R: Room, B: Backup, O: Outgoing, D, W: Write, E: Write>(
     machine: &mut Machine<'_, T, W, E>,
     desk: &Desk<S>,
-    rooms: &mut Rooms<R, B, O>,
+    rooms: &mut Rooms<R, B, O, D>,
     plan: &Plan<'_>,
     verdicts: &[Verdict],
 ) -> Result<bool, ToolFault>
-    ensures all { SendsAll (night_of plan.now.batch.mails.now plan.now.batch.waiting verdicts.now) desk.now.live
-        (W.contents machine.old.writer) (W.contents machine.new.writer) (Ok tt) result }
+    ensures all { SendsAll plan.now.batch.form (night_of (arrived_of plan.now.batch) verdicts.now) desk.now.live
+        (W.contents machine.old.writer) (W.contents machine.new.writer) result }
     ensures sends { SendsInRooms (PutsWith O.after (option_map sealing_of plan.now.seal)) (asked_by desk.now.live (zip plan.now.batch.mails.now verdicts.now)) desk.now.live
         (out_state B.state O.mails rooms.old) (out_state B.state O.mails rooms.new) }
     ensures mail { rooms.new.mail ≡ rooms.old.mail }
@@ -200,15 +225,15 @@ fn send_in<T, S: Store, R: Room, B: Backup, O: Outgoing, W: Write, E: Write>(
 /// Sends the messages of the loans that want sending, and then gives a sign of life. A loan that a deed of the day has
 /// ended wants sending if a message of it came.
 #[tactic(auto, using(crate::proofs::RoomsLemmas::signs_after, crate::proofs::RoomsLemmas::signs_never))]
-fn send_copied<T, S: Store, R: Room, B: Backup, O: Outgoing, W: Write, E: Write>(
+fn send_copied<T, S: Store, R: Room, B: Backup, O: Outgoing, D, W: Write, E: Write>(
     machine: &mut Machine<'_, T, W, E>,
     desk: &Desk<S>,
-    rooms: &mut Rooms<R, B, O>,
+    rooms: &mut Rooms<R, B, O, D>,
     plan: &Plan<'_>,
     verdicts: &[Verdict],
 ) -> Result<bool, ToolFault>
-    ensures all { SendsAll (night_of plan.now.batch.mails.now plan.now.batch.waiting verdicts.now) desk.now.live
-        (W.contents machine.old.writer) (W.contents machine.new.writer) (Ok tt) result }
+    ensures all { SendsAll plan.now.batch.form (night_of (arrived_of plan.now.batch) verdicts.now) desk.now.live
+        (W.contents machine.old.writer) (W.contents machine.new.writer) result }
     ensures sends { SendsThenSigns (PutsWith O.after (option_map sealing_of plan.now.seal)) (asked_by desk.now.live (zip plan.now.batch.mails.now verdicts.now)) desk.now.live
         (out_state B.state O.mails rooms.old) (out_state B.state O.mails rooms.new) }
     ensures mail { rooms.new.mail ≡ rooms.old.mail }
@@ -217,7 +242,12 @@ fn send_copied<T, S: Store, R: Room, B: Backup, O: Outgoing, W: Write, E: Write>
         Ok(asked) => asked,
         Err(_) => return Err(ToolFault::OutOfMemory),
     };
-    match put_asked(machine, desk, &asked, plan.seal, &mut rooms.out) {
+    let sending = Sending {
+        asking: &asked,
+        seal: plan.seal,
+        form: plan.batch.form,
+    };
+    match put_asked(machine, desk, sending, &mut rooms.out) {
         Ok(()) => sign(
             machine,
             &mut rooms.backup,
@@ -227,25 +257,35 @@ fn send_copied<T, S: Store, R: Room, B: Backup, O: Outgoing, W: Write, E: Write>
     }
 }
 
-/// Puts the messages of the loans that want sending into `out`, and writes their number. With `seal` they leave in sealed
-/// letters. `asking` has the messages that ask, one after another.
+/// What a sending is asked for.
+#[derive(Clone, Copy)]
+pub(crate) struct Sending<'a> {
+    /// The messages that ask, one after another.
+    pub asking: &'a [u8],
+    /// The key and the sender of the letters in which the messages leave, if there is a key.
+    pub seal: Option<Seal<'a>>,
+    /// The form in which the number of messages is told.
+    pub form: Form,
+}
+
+/// Puts the messages of the loans that want sending into `out`, and writes their number. They leave as `sending` says.
 pub(crate) fn put_asked<T, S: Store, O: Outgoing, W: Write, E>(
     machine: &mut Machine<'_, T, W, E>,
     desk: &Desk<S>,
-    asking: &[u8],
-    seal: Option<Seal<'_>>,
+    sending: Sending<'_>,
     out: &mut O,
 ) -> Result<(), ToolFault>
-    ensures sends { SendsAsked asking.now desk.now.live.held (W.contents machine.old.writer) (W.contents machine.new.writer) result }
-    ensures puts { PutsAsked (PutsWith O.after (option_map sealing_of seal.entry)) asking.now desk.now.live (O.mails out.old)
+    ensures sends { SendsAsked sending.entry.form sending.entry.asking.now desk.now.live.held (W.contents machine.old.writer)
+        (W.contents machine.new.writer) result }
+    ensures puts { PutsAsked (PutsWith O.after (option_map sealing_of sending.entry.seal)) sending.entry.asking.now desk.now.live (O.mails out.old)
         (O.mails out.new) result }
 {
-    let sent = match run_outbox_with(machine.alloc, desk, asking, seal, out) {
+    let sent = match run_outbox_with(machine.alloc, desk, sending.asking, sending.seal, out) {
         Ok(sent) => sent,
         Err(fault) => return Err(fault),
     };
-    let line = format!(in machine.alloc; "sent {sent}\n")?;
-    write_and_flush(&mut machine.writer, line.as_bytes())
+    let text = sent_text(machine.alloc, sending.form, sent)?;
+    write_and_flush(&mut machine.writer, &text)
 }
 
 /// Gives a sign of life, and returns `ending`, the result of the night.
@@ -271,7 +311,7 @@ fn ending<S: Store>(
     batch: &Batch<'_>,
     verdicts: &[Verdict],
 ) -> Result<bool, ToolFault>
-    ensures { result ≡ night_ending desk.now.live.role (night_of batch.now.mails.now batch.now.waiting verdicts.now) }
+    ensures { result ≡ night_ending desk.now.live.role (night_of (arrived_of batch.now) verdicts.now) }
 {
     if Tally::of(verdicts).is_waiting(batch.waiting) {
         return Err(ToolFault::Left);

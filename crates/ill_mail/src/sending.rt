@@ -5,13 +5,13 @@ ghost use Rattle.ill_mail.specs.Nights.{SendsAsked};
 ghost use Rattle.ill_text.specs.Fault.{IsFileFault};
 
 use crate::exchange::Outlet;
-use ill_mailbox::fault_lines::report_fault_of_mail;
-use ill_mailbox::mail_folder::MailFolder;
-use crate::rooms::put_asked;
+use crate::rooms::{Sending, put_asked};
 use ill_der::encode;
 use ill_files::machine::Machine;
 use ill_key::Key;
 use ill_key::role::own_sender;
+use ill_mailbox::fault_lines::report_fault_of_mail;
+use ill_mailbox::mail_folder::MailFolder;
 use ill_night::outbox::mail_name;
 use ill_night::outgoing::Outgoing;
 use ill_room::sealed::{Seal, put_sealed};
@@ -39,19 +39,18 @@ impl SentAll {
     }
 }
 
-/// Puts the messages of the loans that want sending into `folder`, and writes their number. With `seal` they leave in
-/// sealed letters. `asking` has the messages that ask, one after another.
+/// Puts the messages of the loans that want sending into `folder`, and writes their number. They leave as `sending` says.
 pub(crate) fn send_asked<T: Files, S: Store, W: Write, E: Write>(
     machine: &mut Machine<'_, T, W, E>,
     desk: &Desk<S>,
-    asking: &[u8],
-    seal: Option<Seal<'_>>,
+    sending: Sending<'_>,
     folder: &str,
 ) -> Result<(), ToolFault>
-    ensures { SendsAsked asking.now desk.now.live.held (W.contents machine.old.writer) (W.contents machine.new.writer) result }
+    ensures { SendsAsked sending.entry.form sending.entry.asking.now desk.now.live.held (W.contents machine.old.writer)
+        (W.contents machine.new.writer) result }
 {
     let mut out = MailFolder::at(machine.rt, machine.alloc, folder);
-    let sent = put_asked(machine, desk, asking, seal, &mut out);
+    let sent = put_asked(machine, desk, sending, &mut out);
     report_fault_of_mail(machine, sent, &out)
 }
 

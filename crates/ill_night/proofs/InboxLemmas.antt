@@ -7,13 +7,13 @@ use Rattle.ill_der.specs.declared.fault.DerFault.{DerFault}
 use Rattle.ill_der.specs.ShortForm.{Views}
 use Rattle.ill_night.specs.declared.verdict.Unfit.TheVariants.{Trailing}
 use Rattle.ill_saved.specs.ManySides.{DeskContents, many_sides}
-use Rattle.ill_night.specs.declared.verdict.Mail.{Mail}
 use Rattle.ill_night.specs.declared.verdict.Verdict.{Verdict}
 use Rattle.ill_night.specs.declared.tally.Tally.{Tally}
 use Rattle.ill_desk.specs.Performing.{CommandState}
 use Rattle.ill_text.specs.declared.fault.ToolFault.{ToolFault}
-use Rattle.ill_night.specs.Inbox.{EndedWell, RunsInbox, Sorting, answered_with, concluded, inbox_text, one_message, tally_line}
+use Rattle.ill_night.specs.Inbox.{Arrived, EndedWell, RunsInbox, Sorting, answered_with, concluded, inbox_text, one_message}
 use Rattle.ill_night.specs.Inbox.{tally_of}
+use Rattle.ill_night.specs.Objects.{told_tally}
 
 -- If bytes follow the APDU `a`, both together are no message: the fault is `Trailing`.
 trailing_is_no_message : (a : Apdu) (rest : List ℕ) → 1 ≤ length rest → one_message (Ok (a, rest)) ≡ Err Trailing
@@ -27,22 +27,24 @@ trailing_unfit bytes read found less viewed =
     sym (ap one_message viewed.1 ∙ trailing_is_no_message found.0 (drop found.1 bytes)
     (omega (arith, length-drop found.1 bytes, less)))
 
--- If the line of the counts is appended to the lines of sorted mails, the state is the concluded one.
+-- If the counts are appended to what is told of sorted mails, the state is the concluded one.
 pub concluded_is : {L : Type 0} (waiting : ℕ) (sorted end : Sorting L) (verdicts : List Verdict) (tally : Tally) (told : List ℕ)
     → sorted ≡ end → verdicts ≡ sorted.verdicts → tally ≡ tally_of verdicts
-    → told ≡ sorted.told ++ tally_line tally waiting
-    → record { live = sorted.live; verdicts = sorted.verdicts; told = told; kept = sorted.kept } ≡ concluded waiting end
+    → told ≡ sorted.told ++ told_tally sorted.form tally waiting
+    → record { form = sorted.form; live = sorted.live; verdicts = sorted.verdicts; told = told; kept = sorted.kept }
+    ≡ concluded waiting end
 concluded_is waiting sorted end verdicts tally told is all counted text =
     let whole : told ≡ inbox_text sorted waiting =
-    text ∙ ap (λ tally. sorted.told ++ tally_line tally waiting) (counted ∙ ap tally_of all) in
-    ap (λ told. record { live = sorted.live; verdicts = sorted.verdicts; told = told; kept = sorted.kept }) whole
+    text ∙ ap (λ tally. sorted.told ++ told_tally sorted.form tally waiting) (counted ∙ ap tally_of all) in
+    ap (λ told. record { form = sorted.form; live = sorted.live; verdicts = sorted.verdicts; told = told; kept = sorted.kept })
+    whole
     ∙ ap (concluded waiting) is
 
--- If a run of `inbox` over `mails` returns verdicts, it has ended well.
-pub ended_if_ok : {X : Type 0} (items : X → List Verdict) (mails : List Mail) (waiting : ℕ) (old new : CommandState DeskContents)
+-- If a run of `inbox` over the mails that arrived returns verdicts, it has ended well.
+pub ended_if_ok : {X : Type 0} (items : X → List Verdict) (arrived : Arrived) (old new : CommandState DeskContents)
     (result : Result X ToolFault)
-    → RunsInbox many_sides mails waiting old (answered_with items result) new
-    → IfOk result (λ verdicts. EndedWell mails (items verdicts) new.desk)
+    → RunsInbox many_sides arrived old (answered_with items result) new
+    → IfOk result (λ verdicts. EndedWell arrived.mails (items verdicts) new.desk)
 unfolding EndedWell
-ended_if_ok items mails waiting old new (Ok verdicts) runs = (waiting, old, new, runs, refl)
-ended_if_ok items mails waiting old new (Err fault) runs = tt
+ended_if_ok items arrived old new (Ok verdicts) runs = (arrived.form, arrived.waiting, old, new, runs, refl)
+ended_if_ok items arrived old new (Err fault) runs = tt

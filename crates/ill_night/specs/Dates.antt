@@ -10,7 +10,6 @@ use Rattle.ill_core.specs.declared.state.State.TheVariants.{InProcess, Condition
 use Rattle.ill_core.specs.declared.responder.Deed.{Deed}
 use Rattle.ill_core.specs.declared.responder.Deed.TheVariants as deeds
 use Rattle.ill_core.specs.State.{is_among}
-use Rattle.ill_core.specs.Verbs.{deed_verb, verb_name}
 use Rattle.ill_saved.specs.declared.role.Role.{Role}
 use Rattle.ill_saved.specs.declared.role.Role.TheVariants.{Requester, Responder}
 use Rattle.ill_saved.specs.declared.side.Side.{Side}
@@ -22,9 +21,9 @@ use Rattle.ill_text.specs.declared.fault.ToolFault.{ToolFault}
 use Rattle.ill_night.specs.declared.dates.Dates.{Dates}
 use Rattle.ill_night.specs.declared.dates.Due.{Due}
 use Rattle.ill_saved.specs.Holdings.{Effects}
-use Rattle.ill_text.specs.LongLines.{word}
 use Rattle.ill_desk.specs.Performing.{CommandState, has_any, Run, EndsRun}
-use Rattle.ill_desk.specs.Telling.{done_line, once_saved, shown_at}
+use Rattle.ill_text.specs.declared.form.Form.{Form}
+use Rattle.ill_night.specs.Objects.{told_deed}
 use Rattle.ill_words.specs.Waiting.{is_sooner}
 
 -- ---- the deed of a loan
@@ -96,37 +95,32 @@ after_deeds effects today live dues = fold (after_deed effects today) (doing liv
 
 -- ---- the lines
 
--- Returns the line of a deed that was done. It has the transaction, the verb, and the state of the side once
--- all is saved.
-abbrev pub deed_line : {L : Type 0} → Effects L Qualifiers → L → Due → List ℕ
-deed_line effects live due =
-    word due.txn.group ++ (word due.txn.transaction ++ (word (verb_name (deed_verb due.deed))
-    ++ done_line (once_saved (shown_at effects due.txn live))))
-
--- Returns the lines of all deeds of `done`.
-abbrev pub deed_lines : {L : Type 0} → Effects L Qualifiers → L → List Due → List ℕ
-deed_lines effects live done = flat_map (deed_line effects live) done
+-- Returns the texts of all deeds of `done`.
+abbrev pub told_deeds : {L : Type 0} → Form → Effects L Qualifiers → L → List Due → List ℕ
+told_deeds form effects live done = flat_map (told_deed form effects live) done
 
 -- ---- the run
 
 -- Returns the run of the deeds that lead to `end`.
-abbrev pub deeds_run : {L : Type 0} → Effects L Qualifiers → Doing L → Run L (Unit {0})
-deeds_run effects end = record {
+abbrev pub deeds_run : {L : Type 0} → Form → Effects L Qualifiers → Doing L → Run L (Unit {0})
+deeds_run form effects end = record {
   live = end.live;
   has_changed = has_any end.done;
-  told = deed_lines effects end.live end.done;
+  told = told_deeds form effects end.live end.done;
   answer = tt;
 }
 
--- The deeds `dues` were attempted on the day `today`, saved at once, and the lines of the done ones written.
--- The state of the command went from `old` to `new`.
-abbrev pub RunsDeeds : {L : Type 0} → Effects L Qualifiers → Date → List Due → CommandState L →
+-- The deeds that lead to `end` were performed, saved at once, and told. The state of the command went from `old` to `new`.
+abbrev pub RunsDeeds : {L : Type 0} → Form → Effects L Qualifiers → Doing L → CommandState L →
     Result (Unit {0}) ToolFault → CommandState L → Type 0
-RunsDeeds effects today dues old result new =
-    EndsRun effects (deeds_run effects (after_deeds effects today old.desk.live dues)) old result new
+RunsDeeds form effects end old result new = EndsRun effects (deeds_run form effects end) old result new
+
+-- Returns the sides of a desk and the done deeds after an attempt at each deed that is due on the day `today`.
+abbrev pub after_dates : Dates → Date → DeskContents → Doing DeskContents
+after_dates which today live = after_deeds many_sides today live (all_due which today (sides_held live).sides)
 
 -- All deeds that are due on the day `today` were attempted at a desk, as `RunsDeeds` says.
-abbrev pub RunsDates : Dates → Date → CommandState DeskContents → Result (Unit {0}) ToolFault →
+abbrev pub RunsDates : Form → Dates → Date → CommandState DeskContents → Result (Unit {0}) ToolFault →
     CommandState DeskContents → Type 0
-RunsDates which today old result new =
-    RunsDeeds many_sides today (all_due which today (sides_held old.desk.live).sides) old result new
+RunsDates form which today old result new =
+    RunsDeeds form many_sides (after_dates which today old.desk.live) old result new

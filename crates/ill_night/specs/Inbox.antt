@@ -3,12 +3,9 @@ use Rattle.std.specs.Prelude.{◌≡◌, ℕ, nat_lt, Bool, true, false, not, �
 use Rattle.std.specs.Prelude.{take, count_by, codes, nat_eq, Option, None, Some, option_map, Result, Ok, Err}
 use Rattle.std.specs.List.{starts_with}
 use Rattle.std.specs.Str.{bytes_eq}
-use Rattle.std.specs.Fmt.{decimal}
 use Rattle.ill_values.specs.declared.apdu.Apdu.{Apdu}
 use Rattle.ill_der.specs.declared.fault.DerFault.{DerFault}
-use Rattle.ill_der.specs.declared.fault.DerFault.TheVariants as ders
 use Rattle.ill_der.specs.ShortForm.{apdu_at}
-use Rattle.ill_der.specs.Faults.{place_of}
 use Rattle.ill_core.specs.declared.taking.Taking.TheVariants as takings
 use Rattle.ill_saved.specs.declared.role.Role.{Role}
 use Rattle.ill_saved.specs.declared.role.Role.TheVariants.{Requester}
@@ -16,14 +13,14 @@ use Rattle.ill_saved.specs.ManySides.{DeskContents, many_sides}
 use Rattle.ill_words.specs.declared.outcome.Outcome.TheVariants as outcomes
 use Rattle.ill_words.specs.declared.outcome.DeskOutcome.{DeskOutcome}
 use Rattle.ill_words.specs.declared.outcome.DeskOutcome.TheVariants as seen
-use Rattle.ill_words.specs.Outcome.{desk_outcome_word}
 use Rattle.ill_text.specs.declared.fault.ToolFault.{ToolFault}
 use Rattle.ill_text.specs.declared.fault.ToolFault.TheVariants as faults
+use Rattle.ill_text.specs.declared.form.Form.{Form}
+use Rattle.ill_night.specs.declared.verdict.Batch.{Batch}
 use Rattle.ill_night.specs.declared.verdict.Mail.{Mail}
 use Rattle.ill_night.specs.declared.verdict.InLetter.{InLetter}
 use Rattle.ill_night.specs.declared.verdict.Unfit.{Unfit}
 use Rattle.ill_night.specs.declared.verdict.Unfit.TheVariants as unfits
-use Rattle.ill_night.specs.declared.verdict.Delay.{Delay}
 use Rattle.ill_night.specs.declared.verdict.Delay.TheVariants as delays
 use Rattle.ill_night.specs.declared.verdict.Verdict.{Verdict}
 use Rattle.ill_night.specs.declared.verdict.Verdict.TheVariants.{Done, Aside, Left}
@@ -31,11 +28,11 @@ use Rattle.ill_night.specs.declared.tally.Heap.{Heap}
 use Rattle.ill_night.specs.declared.tally.Heap.TheVariants as heaps
 use Rattle.ill_night.specs.declared.tally.Tally.{Tally}
 use Rattle.ill_night.specs.declared.inbox.Sorted.{Sorted}
-use Rattle.ill_text.specs.Escape.{escaped}
 use Rattle.ill_saved.specs.Holdings.{Effects}
 use Rattle.ill_desk.specs.Performing.{HeldAndLanded, CommandState, handed, is_change, has_any, Run, EndsRun}
 use Rattle.ill_desk.specs.Take.{KeepsBefore}
-use Rattle.ill_desk.specs.Telling.{long, once_saved, shown_at}
+use Rattle.ill_desk.specs.Telling.{once_saved, shown_at}
+use Rattle.ill_night.specs.Objects.{told_message, told_tally, told_verdict}
 
 -- ---- the message of a mail
 
@@ -90,58 +87,21 @@ abbrev pub verdict_unread : Option InLetter → Verdict
 verdict_unread None = Left delays.NotRead
 verdict_unread (Some letter) = if letter.is_sealed then Left delays.NotRead else Aside unfits.NotSealed
 
--- ---- the words of it
-
--- Returns the word of a fault in the bytes of a mail.
-abbrev pub der_word : DerFault → List ℕ
-der_word (ders.Short at) = codes "short"
-der_word (ders.Tag at) = codes "tag"
-der_word (ders.Length at) = codes "length"
-der_word (ders.Field at) = codes "field"
-der_word ders.OutOfMemory = codes "memory"
-
--- Returns the place of a fault in the bytes, if it has one.
-abbrev pub place_text : Option ℕ → List ℕ
-place_text None = []
-place_text (Some at) = codes " at " ++ decimal at
-
--- Returns the text of the reason why no desk will ever take a mail.
-abbrev pub unfit_text : Unfit → List ℕ
-unfit_text (unfits.NoMessage fault) = der_word fault ++ place_text (place_of fault)
-unfit_text unfits.TooLong = codes "too-long"
-unfit_text unfits.Trailing = codes "trailing"
-unfit_text unfits.NotSealed = codes "not-sealed"
-unfit_text (unfits.Refused refusal) = desk_outcome_word (seen.Plain (outcomes.Refused refusal))
-
--- Returns the text of the reason why a mail waits for the next run.
-abbrev pub delay_text : Delay → List ℕ
-delay_text delays.NotRead = codes "not-read"
-delay_text delays.Record = codes "record"
-delay_text delays.NoSuchTransaction = desk_outcome_word seen.NoSuchTransaction
-delay_text delays.DeskFull = desk_outcome_word seen.DeskFull
-
--- Returns the line of a mail that is put aside or waits.
-abbrev pub stays_line : List ℕ → List ℕ → List ℕ → List ℕ
-stays_line name word reason = escaped name ++ (word ++ (reason ++ codes "\n"))
-
--- Returns the line of the mail `name`. A mail that is done has no line.
-abbrev pub verdict_line : List ℕ → Verdict → List ℕ
-verdict_line name (Done outcome) = []
-verdict_line name (Aside unfit) = stays_line name (codes " aside ") (unfit_text unfit)
-verdict_line name (Left delay) = stays_line name (codes " left ") (delay_text delay)
-
 -- ---- one mail after another
 
--- The state after some mails: the sides, the verdicts, the lines, and the bytes of the taken messages.
+-- The state after some mails: the sides, the verdicts, what is told of them in the form `form`, and the bytes of the taken
+-- messages.
 pub record Sorting (L : Type 0) : Type 0 where
+  pub form : Form
   pub live : L
   pub verdicts : List Verdict
   pub told : List ℕ
   pub kept : List ℕ
 
--- Returns the state with the sides `live` and the verdicts, lines and bytes of `sorted`.
+-- Returns the state with the sides `live`, and all else of `sorted`.
 abbrev pub sorting_of : {L : Type 0} → L → Sorted → Sorting L
 sorting_of live sorted = record {
+  form = sorted.form;
   live = live;
   verdicts = sorted.verdicts.items;
   told = sorted.told.items;
@@ -149,15 +109,16 @@ sorting_of live sorted = record {
 }
 
 -- Returns the state before the first mail.
-abbrev pub unsorted : {L : Type 0} → L → Sorting L
-unsorted live = record { live = live; verdicts = []; told = []; kept = [] }
+abbrev pub unsorted : {L : Type 0} → Form → L → Sorting L
+unsorted form live = record { form = form; live = live; verdicts = []; told = []; kept = [] }
 
 -- Returns the state after the verdict of the mail `name`.
 abbrev pub with_verdict : {L : Type 0} → List ℕ → Verdict → Sorting L → Sorting L
 with_verdict name verdict old = record {
+  form = old.form;
   live = old.live;
   verdicts = old.verdicts ++ verdict ∷ [];
-  told = old.told ++ verdict_line name verdict;
+  told = old.told ++ told_verdict old.form name verdict;
   kept = old.kept;
 }
 
@@ -165,13 +126,14 @@ with_verdict name verdict old = record {
 abbrev pub kept_bytes : DeskOutcome → List ℕ → List ℕ
 kept_bytes outcome bytes = if is_change outcome then bytes else []
 
--- Returns the state after a message with this outcome. Its lines are as by `take --long`, with its side as it
--- is once all is saved. Its bytes are kept if it was taken.
+-- Returns the state after a message with this outcome. It is told with its side as it is once all is saved. Its bytes are
+-- kept if it was taken.
 abbrev pub with_message : {L K : Type 0} → Effects L K → List ℕ → Apdu → DeskOutcome → L → Sorting L → Sorting L
 with_message effects bytes a outcome live old = record {
+  form = old.form;
   live = live;
   verdicts = old.verdicts;
-  told = old.told ++ long a outcome (once_saved (shown_at effects (effects.key_of a) live));
+  told = old.told ++ told_message old.form a outcome (once_saved (shown_at effects (effects.key_of a) live));
   kept = old.kept ++ kept_bytes outcome bytes;
 }
 
@@ -199,8 +161,8 @@ after_mail effects old mail =
     after_bytes effects (verdict_unread mail.letter) mail.name.items (option_map (λ bytes. bytes.items) mail.bytes) old
 
 -- Returns the state after all of `mails`, in their order.
-abbrev pub after_mails : {L K : Type 0} → Effects L K → L → List Mail → Sorting L
-after_mails effects live mails = fold (after_mail effects) (unsorted live) mails
+abbrev pub after_mails : {L K : Type 0} → Effects L K → Form → L → List Mail → Sorting L
+after_mails effects form live mails = fold (after_mail effects) (unsorted form live) mails
 
 -- ---- counts
 
@@ -241,24 +203,6 @@ tally_of verdicts = record {
   left = count_on heaps.Left verdicts;
 }
 
--- Returns the text of the counts of done mails, whose files are removed.
-unfoldable pub done_text : Tally → List ℕ
-done_text tally =
-    codes "taken " ++ decimal tally.taken ++ codes ", repeat " ++ decimal tally.repeat ++ codes ", stale "
-    ++ decimal tally.stale ++ codes ", conflict " ++ decimal tally.conflict ++ codes ", unknown "
-    ++ decimal tally.unknown
-
--- Returns the text of the counts of mails that are put aside or wait. `waiting` mails had no room in this
--- run.
-unfoldable pub staying_text : Tally → ℕ → List ℕ
-staying_text tally waiting =
-    codes ", aside " ++ decimal tally.aside ++ codes ", left " ++ decimal tally.left ++ codes ", waiting "
-    ++ decimal waiting ++ codes "\n"
-
--- Returns the line of all counts.
-abbrev pub tally_line : Tally → ℕ → List ℕ
-tally_line tally waiting = done_text tally ++ staying_text tally waiting
-
 -- ---- the command
 
 -- A message was handed to its side. Or memory ran out for it, and nothing changed.
@@ -266,13 +210,14 @@ abbrev pub HandsOver : {L K : Type 0} → Effects L K → L → Apdu → Result 
 HandsOver effects old a (Ok outcome) new = handed effects old a ≡ (Ok outcome, new)
 HandsOver effects old a (Err fault) new = new ≡ old
 
--- Returns the lines of all mails, and the line of the counts.
+-- Returns what is told of all mails, and the counts.
 abbrev pub inbox_text : {L : Type 0} → Sorting L → ℕ → List ℕ
-inbox_text end waiting = end.told ++ tally_line (tally_of end.verdicts) waiting
+inbox_text end waiting = end.told ++ told_tally end.form (tally_of end.verdicts) waiting
 
--- Returns the state after the line of the counts.
+-- Returns the state after the counts.
 abbrev pub concluded : {L : Type 0} → ℕ → Sorting L → Sorting L
 concluded waiting end = record {
+  form = end.form;
   live = end.live;
   verdicts = end.verdicts;
   told = inbox_text end waiting;
@@ -293,20 +238,35 @@ abbrev pub answered_with : {X Y : Type 0} → (X → Y) → Result X ToolFault �
 answered_with value (Ok answer) = Ok (value answer)
 answered_with value (Err fault) = Err fault
 
--- A run took `mails`, with `waiting` further mails left. The state of the command went from `old` to `new`. Taken
--- messages are kept before they are saved.
-abbrev pub RunsInbox : {L K : Type 0} → Effects L K → List Mail → ℕ → CommandState L →
-    Result (List Verdict) ToolFault → CommandState L → Type 0
-RunsInbox effects mails waiting old result new =
-    KeepsBefore (after_mails effects old.desk.live mails).kept result old new
-    × EndsRun effects (inbox_run (after_mails effects old.desk.live mails) waiting) old result new
+-- The mails of a run, the number of further mails that wait, and the form in which all is told.
+pub record Arrived : Type 0 where
+  pub form : Form
+  pub mails : List Mail
+  pub waiting : ℕ
+
+-- Returns the mails of a batch of the code.
+abbrev pub arrived_of : Batch → Arrived
+arrived_of batch = record { form = batch.form; mails = batch.mails.now; waiting = batch.waiting }
+
+-- Returns the state after all of the mails that arrived at the desk `live`.
+abbrev pub after_all : {L K : Type 0} → Effects L K → Arrived → L → Sorting L
+after_all effects arrived live = after_mails effects arrived.form live arrived.mails
+
+-- A run took the mails that arrived. The state of the command went from `old` to `new`. Taken messages are kept before they
+-- are saved.
+abbrev pub RunsInbox : {L K : Type 0} → Effects L K → Arrived → CommandState L → Result (List Verdict) ToolFault →
+    CommandState L → Type 0
+RunsInbox effects arrived old result new =
+    KeepsBefore (after_all effects arrived old.desk.live).kept result old new
+    × EndsRun effects (inbox_run (after_all effects arrived old.desk.live) arrived.waiting) old result new
 
 -- A run over `mails` ended without a fault and with these verdicts, at a desk that is `new` now. So all its
 -- changes are saved.
 unfoldable pub EndedWell : List Mail → List Verdict → HeldAndLanded DeskContents → Type 0
 EndedWell mails verdicts new =
-    (waiting : ℕ) × (old end : CommandState DeskContents)
-    × RunsInbox many_sides mails waiting old (Ok verdicts) end × (end.desk ≡ new)
+    (form : Form) × (waiting : ℕ) × (old end : CommandState DeskContents)
+    × RunsInbox many_sides (record { form = form; mails = mails; waiting = waiting }) old (Ok verdicts) end
+    × (end.desk ≡ new)
 
 -- ---- the answer
 

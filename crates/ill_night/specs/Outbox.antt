@@ -4,7 +4,6 @@
 use Rattle.std.specs.Prelude.{◌≡◌, ◌⊎◌, ℕ, ◌+◌, ◌/◌, ◌%◌, Bool, false, if◌then◌else◌, List, [], ◌∷◌, ◌++◌, length, take, fold}
 use Rattle.std.specs.Prelude.{map, codes, Option, None, Some, option_map, Result, Ok, Err}
 use Rattle.std.specs.List.{flat_map, list_any}
-use Rattle.std.specs.Fmt.{decimal}
 use Rattle.std.specs.Io.KnownBytes.{Appends}
 use Rattle.sha2.specs.Sha256.{sha256}
 use Rattle.hex.specs.Hex.{encode_lower}
@@ -153,10 +152,6 @@ RunsOutbox Puts bytes held old new (Ok count) =
 RunsOutbox Puts bytes held old new (Err fault) =
     ((fault ≡ OutOfMemory) × (new ≡ old))
     ⊎ ((asking : List Apdu) × AreIn bytes asking × Puts (letters_of asking held) old new (Err fault))
-
--- Returns the line with the number of mails that left.
-abbrev pub sent_line : ℕ → List ℕ
-sent_line count = codes "sent " ++ decimal count ++ codes "\n"
 
 -- Returns the bytes of mails, one after another.
 abbrev pub stream_of : List Letter → List ℕ

@@ -4,14 +4,24 @@
 ghost use Rattle.std.specs.Prelude.{◌≡◌, ◌++◌, map, slice_get, IfErr, IfOk, OnOk};
 ghost use Rattle.std.specs.Option.{option_to_list};
 ghost use Rattle.ill_text.specs.declared.fault.ToolFault.TheVariants.{OutOfMemory};
+ghost use Rattle.ill_core.specs.Verbs.{deed_verb, verb_name};
 ghost use Rattle.ill_text.specs.Fault.{CountsToolFailure};
+ghost use Rattle.ill_text.specs.LongLines.{word};
+ghost use Rattle.ill_desk.specs.Telling.{done_line};
 ghost use Rattle.ill_desk.specs.Performing.{SavesOnce, command_state, view_of};
-ghost use Rattle.ill_night.specs.Dates.{RunsDates, RunsDeeds, after_deed, after_deeds, all_due, deed_at, deed_by_date, deed_line, deed_lines, doing, due_at, due_in, is_overdue, may_expire};
+ghost use Rattle.ill_text.specs.declared.form.Form.TheVariants as forms;
+ghost use Rattle.ill_night.specs.Objects.{told_deed};
+ghost use Rattle.ill_night.specs.Dates.{RunsDates, RunsDeeds, after_deed, after_deeds, all_due, deed_at, deed_by_date, told_deeds, doing, due_at, due_in, is_overdue, may_expire};
+ghost use Rattle.ill_text.specs.Diary.{diary_state};
+ghost use Rattle.ill_night.specs.DeedDiary.{EntersDeeds, lines_of_dates, lines_of_doing};
 
+use crate::deed_diary::DeedDiary;
+use crate::objects::push_deed_object;
 use ill_core::{Deed, State};
 use ill_desk::side_line::push_done_line;
-use ill_saved::{Action, AnyDesk, Desk, DeskFault, Holdings, Role, Side, Sides, Store};
+use ill_saved::{Action, AnyDesk, Desk, DeskFault, Holdings, Role, Shown, Side, Sides, Store};
 use ill_text::fault::ToolFault;
+use ill_text::form::Form;
 use ill_text::long_lines::push_word;
 use ill_text::output::write_and_flush;
 use ill_values::{Day, OutOfMemory as NoMemory, TxnId};
@@ -35,6 +45,28 @@ pub(crate) struct Due {
     pub deed: Deed,
 }
 
+/// The dates of a run: a day, the deeds that it may make due, and the form in which they are told.
+#[derive(Clone, Copy)]
+pub struct DatesRun {
+    /// The day.
+    pub today: Day,
+    /// The kinds of deeds.
+    pub which: Dates,
+    /// The form.
+    pub form: Form,
+}
+
+/// Deeds that are due in a run.
+#[derive(Clone, Copy)]
+pub(crate) struct DuesOn<'a> {
+    /// The day.
+    pub today: Day,
+    /// The deeds, in the order of their loans.
+    pub dues: &'a [Due],
+    /// The form in which they are told.
+    pub form: Form,
+}
+
 /// Performs the deeds that are due on the day `today` at `desk`, in the order of its loans. If any was done, it then
 /// saves the desk once. For each done deed it writes a line, and then it flushes these lines: `GROUP TRANSACTION VERB
 /// done STATE DUE RELEASED/ISSUED`. A refused deed changes nothing, and has no line. At the desk of a requester nothing
@@ -49,12 +81,44 @@ pub fn run_desk_dates<S: Store, W: Write>(
     which: Dates,
     writer: &mut W,
 ) -> Result<(), ToolFault>
-    ensures runs { RunsDates which today (command_state (view_of S.state desk.old) (W.contents writer.old)) result
+    ensures runs { RunsDates forms.Lines which today (command_state (view_of S.state desk.old) (W.contents writer.old)) result
         (command_state (view_of S.state desk.new) (W.contents writer.new)) }
     ensures counted { CountsToolFailure result (S.state desk.old.store).failures (S.state desk.new.store).failures }
 {
+    let dates = DatesRun {
+        today,
+        which,
+        form: Form::Lines,
+    };
+    run_desk_dates_entered(alloc, desk, dates, &mut DeedDiary::none(alloc), writer)
+}
+
+/// Performs the deeds that are due on the day of `dates`, as `run_desk_dates` does, and tells them in its form. Each done
+/// deed is entered in `diary` before the save.
+pub fn run_desk_dates_entered<S: Store, D: Write, W: Write>(
+    alloc: Global,
+    desk: &mut Desk<S>,
+    dates: DatesRun,
+    diary: &mut DeedDiary<D>,
+    writer: &mut W,
+) -> Result<(), ToolFault>
+    ensures runs { RunsDates dates.form dates.which dates.today (command_state (view_of S.state desk.old) (W.contents writer.old)) result
+        (command_state (view_of S.state desk.new) (W.contents writer.new)) }
+    ensures entered { EntersDeeds result (lines_of_dates dates.which dates.today diary.old.begin.items desk.old.live)
+        (diary_state (D.contents diary.old.diary.stream) diary.old.diary.has_failed)
+        (diary_state (D.contents diary.new.diary.stream) diary.new.diary.has_failed) }
+    ensures counted { CountsToolFailure result (S.state desk.old.store).failures (S.state desk.new.store).failures }
+{
+    let DatesRun { today, which, form } = dates;
     match all_due(alloc, desk.sides(), today, which) {
-        Ok(dues) => run_deeds(alloc, desk, today, &dues, writer),
+        Ok(dues) => {
+            let on_day = DuesOn {
+                today,
+                dues: &dues,
+                form,
+            };
+            run_deeds(alloc, desk, on_day, diary, writer)
+        }
         Err(_) => Err(ToolFault::OutOfMemory),
     }
 }
@@ -137,28 +201,37 @@ fn may_expire(state: State) -> bool
     matches!(state, State::InProcess | State::Conditional)
 }
 
-/// Performs `dues` on the day `today`, in their order, saves once, and writes the lines of the done ones.
-fn run_deeds<H: Holdings<Key = TxnId>, S: Store, W: Write>(
+/// Performs the deeds of `on_day` in their order, enters the done ones in `diary`, saves once, and tells them.
+fn run_deeds<H: Holdings<Key = TxnId>, S: Store, D: Write, W: Write>(
     alloc: Global,
     desk: &mut AnyDesk<H, S>,
-    today: Day,
-    dues: &[Due],
+    on_day: DuesOn<'_>,
+    diary: &mut DeedDiary<D>,
     writer: &mut W,
 ) -> Result<(), ToolFault>
-    ensures runs { RunsDeeds H.effects today dues.now
+    ensures runs { RunsDeeds on_day.entry.form H.effects (after_deeds H.effects on_day.entry.today desk.old.live on_day.entry.dues.now)
         (command_state (view_of S.state desk.old) (W.contents writer.old)) result
         (command_state (view_of S.state desk.new) (W.contents writer.new)) }
+    ensures entered { EntersDeeds result (lines_of_doing H.effects diary.old.begin.items
+        (after_deeds H.effects on_day.entry.today desk.old.live on_day.entry.dues.now))
+        (diary_state (D.contents diary.old.diary.stream) diary.old.diary.has_failed)
+        (diary_state (D.contents diary.new.diary.stream) diary.new.diary.has_failed) }
     ensures counted { CountsToolFailure result (S.state desk.old.store).failures
         (S.state desk.new.store).failures }
 {
-    let done = match perform(alloc, desk, today, dues) {
+    let done = match perform(alloc, desk, on_day.today, on_day.dues) {
         Ok(done) => done,
         Err(fault) => return Err(fault),
     };
-    let told = match deed_lines(alloc, desk, &done) {
+    let told = match told_deeds(alloc, on_day.form, desk, &done) {
         Ok(told) => told,
         Err(_) => return Err(ToolFault::OutOfMemory),
     };
+    let entries = match diary.lines(alloc, desk, &done) {
+        Ok(entries) => entries,
+        Err(_) => return Err(ToolFault::OutOfMemory),
+    };
+    diary.enter(&entries);
     if let Err(fault) = save_any(alloc, desk, &done) {
         return Err(fault);
     }
@@ -230,33 +303,46 @@ fn save_any<H: Holdings, S: Store>(
     }
 }
 
-/// Returns the lines of the deeds of `done`, with the state of each loan once all is saved.
-fn deed_lines<H: Holdings<Key = TxnId>, S: Store>(
+/// Returns the lines or objects of the deeds of `done`, with the state of each loan once all is saved.
+fn told_deeds<H: Holdings<Key = TxnId>, S: Store>(
     alloc: Global,
+    form: Form,
     desk: &AnyDesk<H, S>,
     done: &[&Due],
 ) -> Result<Vec<u8>, NoMemory>
-    ensures { IfOk result (λ lines. lines.items
-        ≡ deed_lines H.effects desk.now.live (map (λ due. due.now) done.now)) }
+    ensures { IfOk result (λ told. told.items
+        ≡ told_deeds form H.effects desk.now.live (map (λ due. due.now) done.now)) }
 {
-    let mut lines = Vec::new(alloc);
+    let mut told = Vec::new(alloc);
     for due in done {
-        push_deed_line(&mut lines, desk, due)?;
+        push_deed(&mut told, form, desk, due)?;
     }
-    Ok(lines)
+    Ok(told)
 }
 
-/// Appends to `lines` the line of the deed `due`.
-fn push_deed_line<H: Holdings<Key = TxnId>, S: Store>(
-    lines: &mut Vec<u8>,
+/// Appends the line or the object of the deed `due`.
+fn push_deed<H: Holdings<Key = TxnId>, S: Store>(
+    told: &mut Vec<u8>,
+    form: Form,
     desk: &AnyDesk<H, S>,
     due: &Due,
 ) -> Result<(), NoMemory>
-    ensures { OnOk result (lines.new.items ≡ lines.old.items
-        ++ deed_line H.effects desk.now.live due.now) }
+    ensures { OnOk result (told.new.items ≡ told.old.items ++ told_deed form H.effects desk.now.live due.now) }
+{
+    let now = desk.shown(&due.txn).once_saved();
+    match form {
+        Form::Lines => push_deed_line(told, due, now),
+        Form::Json => push_deed_object(told, due, now),
+    }
+}
+
+/// Appends the line of the deed `due`, with its loan shown as `now`.
+fn push_deed_line(lines: &mut Vec<u8>, due: &Due, now: Shown) -> Result<(), NoMemory>
+    ensures { OnOk result (lines.new.items ≡ lines.old.items ++ (word due.now.txn.group ++ (word due.now.txn.transaction
+        ++ (word (verb_name (deed_verb due.now.deed)) ++ done_line now)))) }
 {
     push_word(lines, due.txn.group())?;
     push_word(lines, due.txn.transaction())?;
     push_word(lines, due.deed.verb().name().as_bytes())?;
-    push_done_line(lines, desk.shown(&due.txn).once_saved())
+    push_done_line(lines, now)
 }

@@ -6,17 +6,18 @@ ghost use Rattle.ill_text.specs.declared.fault.ToolFault.TheVariants.{OutOfMemor
 ghost use Rattle.ill_saved.specs.ManySides.{many_sides};
 ghost use Rattle.ill_desk.specs.Performing.{SavesOnce, command_state, handed, is_change, view_of, with_kept};
 ghost use Rattle.ill_desk.specs.Take.{KeepsBefore};
-ghost use Rattle.ill_night.specs.Inbox.{EndedWell, HandsOver, RunsInbox, after_mail, after_mails, after_message, answered_with, concluded, kept_bytes, message_in, one_message, sorting_of, with_message, verdict_line};
-ghost use Rattle.ill_desk.specs.Telling.{long};
+ghost use Rattle.ill_night.specs.Inbox.{EndedWell, HandsOver, RunsInbox, after_all, after_mail, after_message, answered_with, arrived_of, concluded, kept_bytes, message_in, one_message, sorting_of, with_message};
+ghost use Rattle.ill_night.specs.Objects.{told_message, told_verdict};
 
-use crate::tally::{Tally, push_tally};
-use crate::verdict::{Batch, Mail, Unfit, Verdict, push_verdict};
+use crate::objects::{tell_message, tell_tally, tell_verdict};
+use crate::tally::Tally;
+use crate::verdict::{Batch, Mail, Unfit, Verdict};
 use ill_core::Taking;
 use ill_der::{APDU_LIMIT, ApduView, view};
-use ill_desk::side_line::push_long;
 use ill_desk::take::keep_bytes;
 use ill_saved::{AnyDesk, Desk, Holdings, Shown, Store};
 use ill_text::fault::{ToolFault, refused};
+use ill_text::form::Form;
 use ill_text::output::write_and_flush;
 use ill_values::{Apdu, OutOfMemory as NoMemory};
 use ill_words::{DeskOutcome, Outcome};
@@ -24,8 +25,8 @@ use std::alloc::Global;
 use std::io::Write;
 
 /// Takes the message of each mail of `batch` at `desk`, in their order. It writes the taken messages to `came` and
-/// flushes them. If there are any, it then saves the desk once. Then it writes the verdict of each mail and the counts,
-/// and flushes these lines. The last count is the number of further mails. It returns the verdicts.
+/// flushes them. If there are any, it then saves the desk once. Then it writes the verdict of each mail and the counts, in
+/// the form of `batch`, and flushes them. The last count is the number of further mails. It returns the verdicts.
 ///
 /// Only after `Ok` may the file of a mail be removed. After every fault the store has its old record, or the one with
 /// all mails. Unless the fault is `Write`, nothing was written to `writer`.
@@ -36,7 +37,7 @@ pub fn run_desk_inbox<S: Store, F: Write, W: Write>(
     came: &mut F,
     writer: &mut W,
 ) -> Result<Vec<Verdict>, ToolFault>
-    ensures runs { RunsInbox many_sides batch.now.mails.now batch.now.waiting
+    ensures runs { RunsInbox many_sides (arrived_of batch.now)
         (with_kept (F.contents came.old) (command_state (view_of S.state desk.old) (W.contents writer.old)))
         (answered_with (λ verdicts. verdicts.items) result)
         (with_kept (F.contents came.new) (command_state (view_of S.state desk.new) (W.contents writer.new))) }
@@ -55,7 +56,7 @@ fn run_inbox<H: Holdings, S: Store, F: Write, W: Write>(
     came: &mut F,
     writer: &mut W,
 ) -> Result<Vec<Verdict>, ToolFault>
-    ensures runs { RunsInbox H.effects batch.now.mails.now batch.now.waiting
+    ensures runs { RunsInbox H.effects (arrived_of batch.now)
         (with_kept (F.contents came.old) (command_state (view_of S.state desk.old) (W.contents writer.old)))
         (answered_with (λ verdicts. verdicts.items) result)
         (with_kept (F.contents came.new) (command_state (view_of S.state desk.new) (W.contents writer.new))) }
@@ -74,33 +75,35 @@ fn run_inbox<H: Holdings, S: Store, F: Write, W: Write>(
     }
 }
 
-/// The verdicts on the mails of a run so far, their lines, and the bytes of taken messages.
+/// The verdicts on the mails of a run so far, what is told of them, and the bytes of taken messages.
 #[derive(Drop)]
 pub(crate) struct Sorted {
+    /// The form in which the mails are told.
+    form: Form,
     verdicts: Vec<Verdict>,
-    /// The lines of the mails.
+    /// The lines or objects of the mails.
     told: Vec<u8>,
     /// The bytes of the messages that were taken.
     kept: Vec<u8>,
 }
 
-/// Hands the messages of all mails to their sides, in their order. It adds their lines and the line of the counts.
+/// Hands the messages of all mails to their sides, in their order. It tells them, and then the counts.
 fn sort<H: Holdings, S: Store>(
     alloc: Global,
     desk: &mut AnyDesk<H, S>,
     batch: &Batch<'_>,
 ) -> Result<Sorted, ToolFault>
     ensures sorted { IfOk result (λ sorted. sorting_of desk.new.live sorted
-        ≡ concluded batch.now.waiting (after_mails H.effects desk.old.live batch.now.mails.now)) }
+        ≡ concluded batch.now.waiting (after_all H.effects (arrived_of batch.now) desk.old.live)) }
     ensures fault { IfErr result (λ fault. fault ≡ OutOfMemory) }
     ensures store { desk.new.store ≡ desk.old.store }
 {
-    let mut sorted = match sort_mails(alloc, desk, batch.mails) {
+    let mut sorted = match sort_mails(alloc, desk, batch) {
         Ok(sorted) => sorted,
         Err(fault) => return Err(fault),
     };
     let tally = Tally::of(&sorted.verdicts);
-    match push_tally(&mut sorted.told, &tally, batch.waiting) {
+    match tell_tally(&mut sorted.told, sorted.form, &tally, batch.waiting) {
         Ok(()) => Ok(sorted),
         Err(_) => Err(ToolFault::OutOfMemory),
     }
@@ -110,19 +113,20 @@ fn sort<H: Holdings, S: Store>(
 fn sort_mails<H: Holdings, S: Store>(
     alloc: Global,
     desk: &mut AnyDesk<H, S>,
-    mails: &[Mail],
+    batch: &Batch<'_>,
 ) -> Result<Sorted, ToolFault>
     ensures sorted { IfOk result (λ sorted. sorting_of desk.new.live sorted
-        ≡ after_mails H.effects desk.old.live mails.now) }
+        ≡ after_all H.effects (arrived_of batch.now) desk.old.live) }
     ensures fault { IfErr result (λ fault. fault ≡ OutOfMemory) }
     ensures store { desk.new.store ≡ desk.old.store }
 {
     let mut sorted = Sorted {
+        form: batch.form,
         verdicts: Vec::new(alloc),
         told: Vec::new(alloc),
         kept: Vec::new(alloc),
     };
-    for mail in mails {
+    for mail in batch.mails {
         if let Err(fault) = sorted.sort_mail(alloc, desk, mail) {
             return Err(fault);
         }
@@ -172,8 +176,8 @@ impl Sorted {
         }
     }
 
-    /// Hands the message `read`, which stands in `bytes`, to its side. It adds the lines of the message, and keeps its
-    /// bytes if it was taken. It returns the outcome.
+    /// Hands the message `read`, which stands in `bytes`, to its side. It tells the message, and keeps its bytes if it was
+    /// taken. It returns the outcome.
     fn sort_message<H: Holdings, S: Store>(
         &mut self,
         alloc: Global,
@@ -202,7 +206,7 @@ impl Sorted {
         Ok(outcome)
     }
 
-    /// Adds the lines of the message `read`, which stands in `bytes`, and keeps its bytes if it was taken.
+    /// Tells the message `read`, which stands in `bytes`, and keeps its bytes if it was taken.
     fn tell(
         &mut self,
         bytes: &[u8],
@@ -211,24 +215,28 @@ impl Sorted {
         now: Shown,
     ) -> Result<(), NoMemory>
         ensures verdicts { self.new.verdicts ≡ self.old.verdicts }
-        ensures told { OnOk result (self.new.told.items ≡ self.old.told.items ++ long read.now outcome now) }
+        ensures form { self.new.form ≡ self.old.form }
+        ensures told { OnOk result (self.new.told.items ≡ self.old.told.items
+            ++ told_message self.old.form read.now outcome now) }
         ensures kept { OnOk result (self.new.kept.items ≡ self.old.kept.items ++ kept_bytes outcome bytes.now) }
     {
-        push_long(&mut self.told, read, outcome, now)?;
+        tell_message(&mut self.told, self.form, read, outcome, now)?;
         if is_change(outcome) {
             self.kept.extend_from_slice(bytes)?;
         }
         Ok(())
     }
 
-    /// Adds the verdict of a mail, and its line if it has one.
+    /// Adds the verdict of a mail, and tells it if it stays.
     fn settle(&mut self, name: &[u8], verdict: Verdict) -> Result<(), ToolFault>
         ensures verdicts { OnOk result (self.new.verdicts.items ≡ self.old.verdicts.items ++ verdict ∷ []) }
-        ensures told { OnOk result (self.new.told.items ≡ self.old.told.items ++ verdict_line name.now verdict) }
+        ensures form { self.new.form ≡ self.old.form }
+        ensures told { OnOk result (self.new.told.items ≡ self.old.told.items
+            ++ told_verdict self.old.form name.now verdict) }
         ensures kept { self.new.kept ≡ self.old.kept }
         ensures fault { IfErr result (λ fault. fault ≡ OutOfMemory) }
     {
-        push_verdict(&mut self.told, name, verdict)?;
+        tell_verdict(&mut self.told, self.form, name, verdict)?;
         self.verdicts.push(verdict)?;
         Ok(())
     }

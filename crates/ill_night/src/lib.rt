@@ -5,8 +5,10 @@
 pub mod asked;
 pub mod copy;
 pub mod dates;
+pub mod deed_diary;
 pub mod inbox;
 pub mod night;
+pub mod objects;
 pub mod outbox;
 pub mod outgoing;
 pub mod person;

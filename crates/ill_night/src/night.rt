@@ -2,6 +2,7 @@
 
 use crate::dates::Dates;
 use ill_text::diary::Stamp;
+use ill_text::form::Form;
 use ill_values::Day;
 
 /// The arguments of a run of `ill exchange`.
@@ -20,6 +21,8 @@ pub struct Night<'a> {
     pub copy: Option<&'a str>,
     /// The path of the file that is written anew at the end, as a sign of life.
     pub beat: Option<&'a str>,
+    /// The form in which the night is told.
+    pub form: Form,
     /// Set if the desk is on a shelf, which has sorted the mails.
     pub is_on_shelf: bool,
 }

@@ -4,7 +4,8 @@ ghost use Rattle.std.specs.Prelude.{◌≡◌, ◌++◌, OnOk};
 ghost use Rattle.ill_words.specs.declared.outcome.Outcome.TheVariants as outcomes;
 ghost use Rattle.ill_words.specs.declared.outcome.DeskOutcome.TheVariants as seen;
 ghost use Rattle.ill_night.specs.declared.verdict.Verdict.TheVariants as verdicts;
-ghost use Rattle.ill_night.specs.Inbox.{count_on, done_text, ending, heap_of, is_heap, is_waiting, staying_text, tally_line, tally_of};
+ghost use Rattle.ill_night.specs.Inbox.{count_on, ending, heap_of, is_heap, is_waiting, tally_of};
+ghost use Rattle.ill_night.specs.Lines.{done_text, staying_text, tally_line};
 
 use crate::verdict::Verdict;
 use ill_core::Taking;
@@ -133,7 +134,7 @@ pub(crate) fn push_tally(
 }
 
 /// Appends the counts of done mails.
-#[tactic(auto, unfolding(crate::specs::Inbox::done_text))]
+#[tactic(auto, unfolding(crate::specs::Lines::done_text))]
 fn push_done(lines: &mut Vec<u8>, tally: &Tally) -> Result<(), OutOfMemory>
     ensures { OnOk result (lines.new.items ≡ lines.old.items ++ done_text tally.now) }
 {
@@ -153,7 +154,7 @@ fn push_done(lines: &mut Vec<u8>, tally: &Tally) -> Result<(), OutOfMemory>
 }
 
 /// Appends the counts of mails that are put aside, that wait, and that had no room in this run.
-#[tactic(auto, unfolding(crate::specs::Inbox::staying_text))]
+#[tactic(auto, unfolding(crate::specs::Lines::staying_text))]
 fn push_staying(lines: &mut Vec<u8>, tally: &Tally, waiting: usize) -> Result<(), OutOfMemory>
     ensures { OnOk result (lines.new.items ≡ lines.old.items ++ staying_text tally.now waiting) }
 {

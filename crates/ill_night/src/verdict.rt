@@ -2,12 +2,14 @@
 
 ghost use Rattle.std.specs.Prelude.{◌≡◌, ◌++◌, codes, OnOk};
 ghost use Rattle.ill_night.specs.declared.verdict.Unfit.TheVariants as unfits;
-ghost use Rattle.ill_night.specs.Inbox.{begins_as_record, delay_text, der_word, place_text, stays_line, unfit_text, verdict_line, verdict_of, verdict_unread, verdict_without_message};
+ghost use Rattle.ill_night.specs.Inbox.{begins_as_record, verdict_of, verdict_unread, verdict_without_message};
+ghost use Rattle.ill_night.specs.Lines.{delay_text, der_word, place_text, stays_line, unfit_text, verdict_line};
 
 use ill_core::Refusal;
 use ill_der::DerFault;
 use ill_saved::Role;
 use ill_text::escape::push_escaped;
+use ill_text::form::Form;
 use ill_values::OutOfMemory;
 use ill_words::{DeskOutcome, Outcome};
 use itoa::Buffer;
@@ -44,6 +46,8 @@ pub struct Batch<'a> {
     pub mails: &'a [Mail],
     /// The number of further mails, which wait for the next run.
     pub waiting: usize,
+    /// The form in which the run is told.
+    pub form: Form,
 }
 
 impl Mail {
@@ -185,7 +189,7 @@ fn push_left(lines: &mut Vec<u8>, name: &[u8], delay: Delay) -> Result<(), OutOf
 }
 
 /// Returns the word of the reason why a mail waits.
-fn delay_word(delay: Delay) -> &'static str
+pub(crate) fn delay_word(delay: Delay) -> &'static str
     ensures { result.now ≡ delay_text delay }
 {
     match delay {

@@ -23,11 +23,11 @@ use Rattle.ill_text.specs.Input.{AreIn}
 use Rattle.ill_words.specs.Sending.{is_over, wants_sending}
 use Rattle.ill_words.proofs.SendingLemmas.{open_wants}
 use Rattle.ill_desk.specs.Performing.{CommandState, HeldAndLanded}
-use Rattle.ill_night.specs.declared.dates.Dates.{Dates}
+use Rattle.ill_text.specs.declared.form.Form.{Form}
 use Rattle.ill_night.specs.declared.verdict.Mail.{Mail}
 use Rattle.ill_night.specs.declared.verdict.Verdict.{Verdict}
 use Rattle.ill_night.specs.Outbox.{Issue, asked_by, is_asked, leaving_desk}
-use Rattle.ill_mail.specs.Nights.{Night, ExchangesAt, PerformsDueDeeds, SettlesRun, TakesMails, night_asks}
+use Rattle.ill_mail.specs.Nights.{AskedNight, Night, ExchangesAt, PerformsDueDeeds, SettlesRun, TakesMails, night_asks}
 use Rattle.ill_world.specs.declared.event.Event.{Event}
 use Rattle.ill_world.specs.declared.event.Event.TheVariants as events
 use Rattle.ill_world.specs.declared.event.DeskEvent.{DeskEvent}
@@ -114,10 +114,10 @@ asked_alike x y was_asked right = go (is_over y) refl
 -- ---- one command of a night
 
 -- The mails of a night are those that were taken.
-night_mails : (old met : CommandState DeskContents) (night : Night) (taken : TakesMails old (Ok night) met)
+night_mails : (form : Form) (old met : CommandState DeskContents) (night : Night) (taken : TakesMails form old (Ok night) met)
     → night.mails ≡ mails_taken taken
-night_mails old met night (inl failed) = absurd failed.0.0
-night_mails old met night (inr took) = go took.2 took.4
+night_mails form old met night (inl failed) = absurd failed.0.0
+night_mails form old met night (inr took) = go took.2 took.4
   where
     go : (answer : Result (List Verdict) ToolFault) → SettlesRun took.0 took.1 answer (Ok night) → night.mails ≡ took.0
     go (Ok verdicts) settles = elim settles [
@@ -176,20 +176,21 @@ module _ (projects : EachProjects) (reaches : EachReaches) (stand : EachStands) 
     landed = side_for txn (party w role).landed
 
     -- An inbox takes what came.
-    inbox_took : (old new : CommandState DeskContents) (result : Result Night ToolFault) (night : Night) → result ≡ Ok night
-        → Reached projects reaches stand changes txn role w old.desk landed → (taken : TakesMails old result new)
+    inbox_took : (form : Form) (old new : CommandState DeskContents) (result : Result Night ToolFault) (night : Night)
+        → result ≡ Ok night
+        → Reached projects reaches stand changes txn role w old.desk landed → (taken : TakesMails form old result new)
         → Bring (IsOneOf others) (mails_taken taken) → new.desk.landed ≡ Some (Some after.file)
         → Took (party w role) after (messages_of (mails_taken taken))
     unfolding after_deeds_of
-    inbox_took old new (Ok some) night is start taken bring content =
+    inbox_took form old new (Ok some) night is start taken bring content =
         let came : List Apdu = messages_of (mails_taken taken) in
         let side : Side = takes_all landed (messages_for txn came) in
         reached_took role w after came side new.desk (record {
           deeds = [];
-          reached = mails_reach projects reaches stand changes txn role w old new some landed start taken
+          reached = mails_reach projects reaches stand changes txn role w form old new some landed start taken
               (brought (party w (other role)).sent others were (mails_taken taken) bring);
         }) refl content
-    inbox_took old new (Err fault) night is start taken bring content = absurd cc
+    inbox_took form old new (Err fault) night is start taken bring content = absurd cc
 
     -- A night whose outbox was put into a folder whole sends all.
     outbox_sent : (mails : List Mail) (night : Night) (asking left : List Apdu) → night.mails ≡ mails
@@ -222,37 +223,38 @@ module _ (projects : EachProjects) (reaches : EachReaches) (stand : EachStands) 
         }
 
     -- The end of a night, after its mails, takes what came and sends all.
-    rest_sent : (mails : List Mail) (asking left : List Apdu) (dates : Option (Date × Dates)) (night : Night)
+    rest_sent : (mails : List Mail) (asking left : List Apdu) (asked : AskedNight) (night : Night)
         → night.mails ≡ mails → (met rested : CommandState DeskContents) (done : Unit {0})
         → Reached projects reaches stand changes txn role w met.desk (takes_all landed (messages_for txn (messages_of mails)))
-        → PerformsDueDeeds dates met (Ok done) rested → AreIn (night_asks rested.desk.live night) asking
+        → PerformsDueDeeds asked.form asked.dates met (Ok done) rested → AreIn (night_asks rested.desk.live night) asking
         → left ≡ map (λ (issue : Issue). issue.apdu) (leaving_desk asking rested.desk.live.held)
         → rested.desk.landed ≡ Some (Some after.file) → Sent role (party w role) after mails night.verdicts left asking
     unfolding reached_took
-    rest_sent mails asking left dates night are met rested done start deeds asks leave content =
+    rest_sent mails asking left asked night are met rested done start deeds asks leave content =
         let side : Side = takes_all landed (messages_for txn (messages_of mails)) in
-        let by_deeds = deeds_reach projects reaches stand changes txn role w dates met rested done side start deeds in
+        let by_deeds = deeds_reach projects reaches stand changes txn role w asked.form asked.dates met rested done side start
+        deeds in
         let took = reached_took role w after (messages_of mails) side rested.desk by_deeds refl content in
         outbox_sent mails night asking left are took rested.desk (after_deeds_of side by_deeds.deeds) by_deeds.reached
         (sym took.side) asks leave
 
     -- A whole night takes what came and sends all.
-    exchange_sent : (asking left : List Apdu) (dates : Option (Date × Dates)) (old new : CommandState DeskContents)
+    exchange_sent : (asking left : List Apdu) (asked : AskedNight) (old new : CommandState DeskContents)
         (result : Result Bool ToolFault) → Reached projects reaches stand changes txn role w old.desk landed
-        → (exchange : ExchangesAt dates old result new) → Bring (IsOneOf others) (mails_of dates exchange)
-        → IsWhole dates exchange asking left → new.desk.landed ≡ Some (Some after.file)
-        → Sent role (party w role) after (mails_of dates exchange) (verdicts_of dates exchange) left asking
-    exchange_sent asking left dates old new result start (met, Err fault, taken, ends) bring whole content = absurd whole
-    exchange_sent asking left dates old new result start (met, Ok night, taken, (rested, Err fault, deeds, sends, same)) bring
+        → (exchange : ExchangesAt asked old result new) → Bring (IsOneOf others) (mails_of asked exchange)
+        → IsWhole asked exchange asking left → new.desk.landed ≡ Some (Some after.file)
+        → Sent role (party w role) after (mails_of asked exchange) (verdicts_of asked exchange) left asking
+    exchange_sent asking left asked old new result start (met, Err fault, taken, ends) bring whole content = absurd whole
+    exchange_sent asking left asked old new result start (met, Ok night, taken, (rested, Err fault, deeds, sends, same)) bring
         whole content = absurd whole
-    exchange_sent asking left dates old new result start (met, Ok night, taken, (rested, Ok done, deeds, inl failed, same))
+    exchange_sent asking left asked old new result start (met, Ok night, taken, (rested, Ok done, deeds, inl failed, same))
         bring whole content = absurd whole
-    exchange_sent asking left dates old new result start
+    exchange_sent asking left asked old new result start
         (met, Ok night, taken, (rested, Ok done, deeds, inr (sent, inl failed, ends), same)) bring whole content = absurd whole
-    exchange_sent asking left dates old new result start
-        (met, Ok night, taken, (rested, Ok done, deeds, inr (sent, inr (asked, are, told), ends), same)) bring whole content =
-        rest_sent (mails_taken taken) asking left dates night (night_mails old met night taken) met rested done
-        (mails_reach projects reaches stand changes txn role w old met night landed start taken
+    exchange_sent asking left asked old new result start
+        (met, Ok night, taken, (rested, Ok done, deeds, inr (sent, inr (said, are, told), ends), same)) bring whole content =
+        rest_sent (mails_taken taken) asking left asked night (night_mails asked.form old met night taken) met rested done
+        (mails_reach projects reaches stand changes txn role w asked.form old met night landed start taken
         (brought (party w (other role)).sent others were (mails_taken taken) bring))
         deeds (subst (AreIn (night_asks rested.desk.live night)) whole.0 are) whole.1
         (ap (λ (d : HeldAndLanded DeskContents). d.landed) (sym same) ∙ content)
@@ -272,9 +274,9 @@ module _ (projects : EachProjects) (reaches : EachReaches) (stand : EachStands) 
     all_took (by_night night) = (night_sent night).took
     all_took (by_inbox inbox) =
         let command = inbox.command in
-        inbox_took command.old command.new command.runs.0 inbox.night inbox.taken
+        inbox_took command.runs.0 command.old command.new command.runs.1 inbox.night inbox.taken
         (starts_from projects reaches stand changes txn role w stands before command.old.desk at command.starts)
-        command.runs.1 command.runs.2 command.landed
+        command.runs.2 command.runs.3 command.landed
 
   -- ---- what a night does to a loan
 

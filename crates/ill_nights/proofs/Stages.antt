@@ -18,12 +18,13 @@ use Rattle.ill_saved.specs.Holdings.{IsReadAgain}
 use Rattle.ill_saved.specs.ManySides.{DeskContents, desk_acts, many_sides, side_for, sides_held}
 use Rattle.ill_text.specs.declared.fault.ToolFault.{ToolFault}
 use Rattle.ill_desk.specs.Performing.{CommandState, HeldAndLanded, has_any, saved, with_sides}
+use Rattle.ill_text.specs.declared.form.Form.{Form}
 use Rattle.ill_night.specs.declared.dates.Dates.{Dates}
 use Rattle.ill_night.specs.declared.verdict.Mail.{Mail}
 use Rattle.ill_night.specs.declared.verdict.Verdict.{Verdict}
 use Rattle.ill_night.specs.Dates.{Doing, after_act, after_deed, after_deeds, all_due, doing}
 use Rattle.ill_night.specs.Inbox.{RunsInbox, after_mails, unsorted}
-use Rattle.ill_mail.specs.Nights.{Night, PerformsDueDeeds, SettlesRun, TakesMails}
+use Rattle.ill_mail.specs.Nights.{Night, PerformsDueDeeds, SettlesRun, TakesMails, arrived_in}
 use Rattle.ill_world.specs.declared.event.Event.TheVariants as events
 use Rattle.ill_world.specs.declared.event.DeskEvent.{DeskEvent}
 use Rattle.ill_world.specs.declared.event.DeskEvent.TheVariants as desk_events
@@ -159,29 +160,29 @@ module _ (projects : EachProjects) (reaches : EachReaches) (stand : EachStands) 
   -- ---- the mails
 
   -- Mails that were taken and saved lead the side on by their messages, in order.
-  pub mails_reach : (w : DeskParties) (old met : CommandState DeskContents) (night : Night) (side : Side)
-      → Reached w old.desk side → (taken : TakesMails old (Ok night) met)
+  pub mails_reach : (w : DeskParties) (form : Form) (old met : CommandState DeskContents) (night : Night) (side : Side)
+      → Reached w old.desk side → (taken : TakesMails form old (Ok night) met)
       → Bring (WasSent (party w (other role)).sent) (mails_taken taken)
       → Reached w met.desk (takes_all side (messages_for txn (messages_of (mails_taken taken))))
-  mails_reach w old met night side start (inl failed) were = absurd failed.0.0
-  mails_reach w old met night side start (inr took) were = go took.2 took.3 took.4
+  mails_reach w form old met night side start (inl failed) were = absurd failed.0.0
+  mails_reach w form old met night side start (inr took) were = go took.2 took.3 took.4
     where
       mails : List Mail
       mails = took.0
 
-      led : Led projects reaches stand changes txn role start.now (after_mails many_sides old.desk.live mails).live
-          (messages_for txn (messages_of mails)) [] (after_mails many_sides old.desk.live mails).kept
-      led = mails_led projects reaches stand changes txn role start.now start.stands (unsorted old.desk.live)
+      led : Led projects reaches stand changes txn role start.now (after_mails many_sides form old.desk.live mails).live
+          (messages_for txn (messages_of mails)) [] (after_mails many_sides form old.desk.live mails).kept
+      led = mails_led projects reaches stand changes txn role start.now start.stands (unsorted form old.desk.live)
           (sym start.at.live) mails (subst (λ (p : DeskParty). Bring (WasSent p.sent) mails) (sym start.there) were)
 
-      go : (answer : Result (List Verdict) ToolFault) → RunsInbox many_sides mails took.1 old answer met
+      go : (answer : Result (List Verdict) ToolFault) → RunsInbox many_sides (arrived_in form mails took.1) old answer met
           → SettlesRun mails took.1 answer (Ok night)
           → Reached w met.desk (takes_all side (messages_for txn (messages_of mails)))
       go (Ok verdicts) runs settles =
           saved_reaches w old.desk met.desk side (takes_all side (messages_for txn (messages_of mails)))
-          (after_mails many_sides old.desk.live mails).live start led.now led.stands led.here led.there
+          (after_mails many_sides form old.desk.live mails).live start led.now led.stands led.here led.there
           (led.side ∙ ap (λ s. takes_all s (messages_for txn (messages_of mails))) start.live)
-          (has_any (after_mails many_sides old.desk.live mails).kept) (λ none. (led.quiet none).0) runs.1.2.0 runs.1.2.1
+          (has_any (after_mails many_sides form old.desk.live mails).kept) (λ none. (led.quiet none).0) runs.1.2.0 runs.1.2.1
       go (Err fault) runs settles = absurd cc
 
 -- ---- the deeds of the day
@@ -291,15 +292,16 @@ module _ (projects : EachProjects) (reaches : EachReaches) (stand : EachStands) 
     pub reached : Reached projects reaches stand changes txn role w desk (after_deeds_of side deeds)
 
   -- The deeds of the day lead the side on, if they were done and saved.
-  pub deeds_reach : (role : Role) (w : DeskParties) (dates : Option (Date × Dates)) (old met : CommandState DeskContents)
+  pub deeds_reach : (role : Role) (w : DeskParties) (form : Form) (dates : Option (Date × Dates))
+      (old met : CommandState DeskContents)
       (done : Unit {0}) (side : Side) → Reached projects reaches stand changes txn role w old.desk side
-      → PerformsDueDeeds dates old (Ok done) met → ReachedByDeeds role w met.desk side
+      → PerformsDueDeeds form dates old (Ok done) met → ReachedByDeeds role w met.desk side
   unfolding after_deeds_of
-  deeds_reach role w None old met done side start is = record {
+  deeds_reach role w form None old met done side start is = record {
     deeds = [];
     reached = subst (λ desk. Reached projects reaches stand changes txn role w desk side) (sym is.2) start;
   }
-  deeds_reach role w (Some (today, which)) old met done side start is =
+  deeds_reach role w form (Some (today, which)) old met done side start is =
       let dues = all_due which today (sides_held old.desk.live).sides in
       let end : Doing DeskContents = after_deeds many_sides today old.desk.live dues in
       let did = all_did role start.now start.stands (doing old.desk.live []) (sym start.at.live) today dues in

@@ -10,9 +10,10 @@ use Rattle.ill_saved.specs.RecordsV2.{records_at}
 use Rattle.ill_saved.specs.ManySides.{DeskContents, whole_of}
 use Rattle.ill_text.specs.declared.fault.ToolFault.{ToolFault}
 use Rattle.ill_text.specs.Input.{AreIn}
+use Rattle.ill_text.specs.declared.form.Form.TheVariants.{Lines}
 use Rattle.ill_desk.specs.Performing.{CommandState, command_state}
 use Rattle.ill_night.specs.Outbox.{Issue, leaving_desk}
-use Rattle.ill_mail.specs.Nights.{ExchangesAt, Night, TakesMails, night_ending}
+use Rattle.ill_mail.specs.Nights.{AskedNight, ExchangesAt, Night, TakesMails, night_ending}
 use Rattle.ill_runs.specs.Libraries.{Library}
 use Rattle.ill_nights.specs.Nights.{IsNight}
 
@@ -43,12 +44,16 @@ module _ (others : List Apdu) (before : Library) (held : SidesOf) (read : record
   all_leave = sym (take_all (length leaving) leaving (le_refl (length leaving)))
 
   -- No mail is taken.
-  abbrev none_taken : TakesMails state (Ok no_mails) state
+  abbrev none_taken : TakesMails Lines state (Ok no_mails) state
   none_taken =
       inr ([], 0, Ok [], (tt, (refl, tt, (refl, λ changed. absurd (true≢false (sym changed))))), inl refl)
 
+  -- The night has no day, and is told in lines.
+  abbrev asked : AskedNight
+  asked = record { form = Lines; dates = None }
+
   -- The night takes no mail, does no deed, and sends what wants sending.
-  abbrev night : ExchangesAt None state result state
+  abbrev night : ExchangesAt asked state result state
   night = (
     state,
     Ok no_mails,
@@ -77,7 +82,7 @@ module _ (others : List Apdu) (before : Library) (held : SidesOf) (read : record
         new = state;
         leaving = leaving;
         starts = (ap (map_ok whole_of) read, refl);
-        runs = (None, result, night, tt, ([], length leaving, all_leave));
+        runs = (asked, result, night, tt, ([], length leaving, all_leave));
         landed = refl;
         left = refl;
       };

@@ -15,9 +15,8 @@ use Rattle.ill_desk.specs.Performing.{CommandState}
 use Rattle.ill_night.specs.declared.verdict.Mail.{Mail}
 use Rattle.ill_night.specs.declared.verdict.Verdict.{Verdict}
 use Rattle.ill_night.specs.declared.verdict.Verdict.TheVariants.{Done}
-use Rattle.ill_night.specs.declared.dates.Dates.{Dates}
 use Rattle.ill_night.specs.Outbox.{Issue, is_asked, leaving_desk}
-use Rattle.ill_mail.specs.Nights.{Night, ExchangesAt}
+use Rattle.ill_mail.specs.Nights.{AskedNight, Night, ExchangesAt}
 use Rattle.ill_world.specs.Round.{CanAnswer}
 use Rattle.ill_runs.specs.Mail.{mails_of, mails_taken, message_of}
 use Rattle.ill_runs.specs.Libraries.{Exchanges, IsCommand, IsHistory, Libraries, Library, TakesMail, libraries_after}
@@ -27,14 +26,14 @@ use Rattle.ill_nights.specs.Messages.{InStepOrAtRest, after_deeds_of, after_mess
 
 -- A night was whole. Its mails were taken, its deeds were done, it was copied, and `left` are all messages of its outbox.
 -- `asking` are the messages that ask.
-abbrev pub IsWhole : (dates : Option (Date × Dates)) → {old new : CommandState DeskContents} →
-    {result : Result Bool ToolFault} → ExchangesAt dates old result new → (asking left : List Apdu) → Type 0
-IsWhole dates (met, Err fault, taken, ends) asking left = ⊥
-IsWhole dates (met, Ok night, taken, (rested, Err fault, deeds, sends, same)) asking left = ⊥
-IsWhole dates (met, Ok night, taken, (rested, Ok done, deeds, inl failed, same)) asking left = ⊥
-IsWhole dates (met, Ok night, taken, (rested, Ok done, deeds, inr (sent, inl failed, ends), same)) asking left = ⊥
-IsWhole dates (met, Ok night, taken, (rested, Ok done, deeds, inr (sent, inr (asked, are, told), ends), same)) asking left =
-    (asked ≡ asking) × (left ≡ map (λ (issue : Issue). issue.apdu) (leaving_desk asking rested.desk.live.held))
+abbrev pub IsWhole : (asked : AskedNight) → {old new : CommandState DeskContents} →
+    {result : Result Bool ToolFault} → ExchangesAt asked old result new → (asking left : List Apdu) → Type 0
+IsWhole asked (met, Err fault, taken, ends) asking left = ⊥
+IsWhole asked (met, Ok night, taken, (rested, Err fault, deeds, sends, same)) asking left = ⊥
+IsWhole asked (met, Ok night, taken, (rested, Ok done, deeds, inl failed, same)) asking left = ⊥
+IsWhole asked (met, Ok night, taken, (rested, Ok done, deeds, inr (sent, inl failed, ends), same)) asking left = ⊥
+IsWhole asked (met, Ok night, taken, (rested, Ok done, deeds, inr (sent, inr (said, are, told), ends), same)) asking left =
+    (said ≡ asking) × (left ≡ map (λ (issue : Issue). issue.apdu) (leaving_desk asking rested.desk.live.held))
 
 -- A whole night leads from the library `before` to `after`, by the command `exchange`. `others` have left the other
 -- library.
@@ -80,10 +79,10 @@ abbrev pub AreBytes : List Mail → Type 0
 AreBytes mails = Each (λ (mail : Mail). IsBytesOf (option_map (λ bytes. bytes.items) mail.bytes)) mails
 
 -- Returns the verdicts of the mails that a desk took in a night.
-abbrev pub verdicts_of : (dates : Option (Date × Dates)) → {old new : CommandState DeskContents} →
-    {result : Result Bool ToolFault} → ExchangesAt dates old result new → List Verdict
-verdicts_of dates (met, Err fault, taken, ends) = []
-verdicts_of dates (met, Ok night, taken, ends) = night.verdicts
+abbrev pub verdicts_of : (asked : AskedNight) → {old new : CommandState DeskContents} →
+    {result : Result Bool ToolFault} → ExchangesAt asked old result new → List Verdict
+verdicts_of asked (met, Err fault, taken, ends) = []
+verdicts_of asked (met, Ok night, taken, ends) = night.verdicts
 
 -- In a night the mails were bytes, and each mail of the transaction was done with.
 abbrev pub HasDone : Qualifiers → {others : List Apdu} → {before after : Library} → IsNight others before after → Type 0
@@ -114,7 +113,7 @@ TookOf txn before after came =
 pub record IsInbox (others : List Apdu) (before after : Library) : Type 0 where
   pub command : IsCommand (TakesMail others) before after
   pub night : Night
-  pub taken : command.runs.0 ≡ Ok night
+  pub taken : command.runs.1 ≡ Ok night
 
 -- A library took all its mail, by `inbox` or in a whole night.
 pub data TakesAll (others : List Apdu) (before after : Library) : Type 0 where
@@ -123,7 +122,7 @@ pub data TakesAll (others : List Apdu) (before after : Library) : Type 0 where
 
 -- Returns the messages that a library took.
 abbrev pub messages_of_all : {others : List Apdu} → {before after : Library} → TakesAll others before after → List Apdu
-messages_of_all (by_inbox inbox) = messages_of (mails_taken inbox.command.runs.1)
+messages_of_all (by_inbox inbox) = messages_of (mails_taken inbox.command.runs.2)
 messages_of_all (by_night night) = messages_came night
 
 -- People work at the responder's library: any commands lead from the libraries `asked` to `met`. The requester's library

@@ -3,7 +3,6 @@ use Rattle.std.proofs.Common.{◌≡◌, inl, inr, ℕ, zero, suc, Bool, true, L
 use Rattle.std.proofs.Common.{option_map, Result, Ok, Err, refl, sym, ap, ◌∙◌, subst, append-nil, arith, ◌≤◌}
 use Rattle.std.specs.Io.KnownBytes.{Appends, append_known}
 use Rattle.std.proofs.KnownBytes.{Appends-nil}
-use Rattle.ill_values.specs.Day.{Date}
 use Rattle.ill_values.specs.Apdu.{IsApdu}
 use Rattle.ill_values.specs.declared.apdu.Apdu.{Apdu}
 use Rattle.ill_der.specs.ShortForm.{spelling}
@@ -18,9 +17,8 @@ use Rattle.ill_desk.specs.Performing.{HeldAndLanded, CommandState, command_state
 use Rattle.ill_der.specs.Handling.{Handled}
 use Rattle.ill_desk.specs.Take.{Progress, RunsTaking, TakesMessage, kept_text, progress}
 use Rattle.ill_desk.specs.Telling.{Wording}
-use Rattle.ill_night.specs.declared.dates.Dates.{Dates}
 use Rattle.ill_night.specs.Outbox.{Issue, leaving_desk}
-use Rattle.ill_mail.specs.Nights.{ExchangesAt}
+use Rattle.ill_mail.specs.Nights.{AskedNight, ExchangesAt}
 use Rattle.ill_world.specs.World.{party}
 use Rattle.ill_runs.specs.Mail.{IsOneOf, IsOutbox, IsReleased, LeavesIfDone, Leaves}
 use Rattle.ill_runs.specs.Libraries.{Library, Libraries, StartsFrom, IsCommand, Acts, Takes, TakesMail, Sends}
@@ -167,18 +165,19 @@ inbox_cut others before after cut saves =
       leaving = [];
       starts = cut.starts;
       runs = (
+        saves.0,
         Err save_failed,
         inr (
-          saves.0,
+          saves.1,
           0,
           Err save_failed,
           (
             inl tt,
-            (refl, saves.2.0, subst (λ desk. IsFaulted many_sides desk failed.end) saves.2.1 failed.faulted),
+            (refl, saves.3.0, subst (λ desk. IsFaulted many_sides desk failed.end) saves.3.1 failed.faulted),
           ),
           refl,
         ),
-        saves.1,
+        saves.2,
         refl,
       );
       landed = failed.landed;
@@ -193,8 +192,8 @@ deeds_cut others before after cut saves =
     let met = saves.0 in
     let reached = saves.1 in
     let new : CommandState DeskContents = record met { desk = failed.end } in
-    let dates : Option (Date × Dates) = Some (saves.2, saves.3) in
-    let night : ExchangesAt dates reached.start (Err save_failed) new = (
+    let asked : AskedNight = record { form = reached.form; dates = Some (saves.2, saves.3) } in
+    let night : ExchangesAt asked reached.start (Err save_failed) new = (
       met,
       Ok reached.night,
       reached.taken,
@@ -211,7 +210,7 @@ deeds_cut others before after cut saves =
       new = new;
       leaving = [];
       starts = subst (StartsFrom before.file) (sym reached.from) cut.starts;
-      runs = (dates, Err save_failed, night, reached.came, refl);
+      runs = (asked, Err save_failed, night, reached.came, refl);
       landed = failed.landed;
       left = cut.left ∙ sym (append-nil before.left);
     }
@@ -295,7 +294,7 @@ night_stopped others before after cut met reached now = record {
   new = met;
   leaving = [];
   starts = subst (StartsFrom before.file) (sym reached.from) cut.starts;
-  runs = (Ok reached.night, reached.taken, reached.came, refl);
+  runs = (reached.form, Ok reached.night, reached.taken, reached.came, refl);
   landed = subst (λ (desk : HeldAndLanded DeskContents). desk.landed ≡ Some (Some after.file)) now cut.landed;
   left = cut.left ∙ sym (append-nil before.left);
 }
@@ -353,11 +352,11 @@ fewer_if_done (Ok done) live left size is = fewer_of_outbox live left size is
 fewer_if_done (Err fault) live left size none = fewer_of_none left size none
 
 -- The first messages that leave in a night may leave alone.
-fewer_of_night : (dates : Option (Date × Dates)) (old new : CommandState DeskContents) (result : Result Bool ToolFault)
-    (night : ExchangesAt dates old result new) (left : List Apdu) (size : ℕ) → Leaves dates night left
-    → Leaves dates night (take size left)
-fewer_of_night dates old new result (met, Err fault, taken, ends) left size none = fewer_of_none left size none
-fewer_of_night dates old new result (met, Ok night, taken, ends) left size is =
+fewer_of_night : (asked : AskedNight) (old new : CommandState DeskContents) (result : Result Bool ToolFault)
+    (night : ExchangesAt asked old result new) (left : List Apdu) (size : ℕ) → Leaves asked night left
+    → Leaves asked night (take size left)
+fewer_of_night asked old new result (met, Err fault, taken, ends) left size none = fewer_of_none left size none
+fewer_of_night asked old new result (met, Ok night, taken, ends) left size is =
     fewer_if_done ends.1 ends.0.desk.live left size is
 
 -- A night of which only the first messages have left is a command.

@@ -305,13 +305,13 @@ module _ (stand : EachStands) (stay : (txn : Qualifiers) (w : DeskParties) (even
     inbox_ran : (is : IsCommand (TakesMail others) before after) → HasRun who sent p is.leaving is.new.desk.landed
     inbox_ran is =
         let takes = is.runs in
-        let run = taking_is_run who sent (desk_restarts p) restarted_of is.old is.new takes.0
-        (started before p is.old.desk at is.starts) takes.1 (brought sent others were _ takes.2) in
+        let run = taking_is_run who sent (desk_restarts p) restarted_of takes.0 is.old is.new takes.1
+        (started before p is.old.desk at is.starts) takes.2 (brought sent others were _ takes.3) in
         record {
           end = run.0;
           leads = then_leads restart_leads run.1;
-          landed = store_of_end takes.0 is.new.desk run.0 run.2;
-          may_leave = λ apart. none_leave run.0.live is.leaving takes.3;
+          landed = store_of_end takes.1 is.new.desk run.0 run.2;
+          may_leave = λ apart. none_leave run.0.live is.leaving takes.4;
         }
 
     -- The commands `outbox` and `send` are a run.

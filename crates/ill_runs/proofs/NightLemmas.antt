@@ -6,12 +6,13 @@ use Rattle.ill_saved.specs.declared.role.Role.{Role}
 use Rattle.ill_saved.specs.ManySides.{DeskContents, many_sides, sides_held}
 use Rattle.ill_text.specs.declared.fault.ToolFault.{ToolFault}
 use Rattle.ill_desk.specs.Performing.{HeldAndLanded, CommandState}
+use Rattle.ill_text.specs.declared.form.Form.{Form}
 use Rattle.ill_night.specs.declared.verdict.Mail.{Mail}
 use Rattle.ill_night.specs.declared.verdict.Verdict.{Verdict}
 use Rattle.ill_night.specs.declared.dates.Dates.{Dates}
-use Rattle.ill_night.specs.Inbox.{RunsInbox, after_mails, inbox_run, unsorted}
+use Rattle.ill_night.specs.Inbox.{Arrived, RunsInbox, after_all, inbox_run, unsorted}
 use Rattle.ill_night.specs.Dates.{after_deeds, all_due, deeds_run, doing}
-use Rattle.ill_mail.specs.Nights.{Night, TakesMails, ExchangesAt, PerformsDueDeeds, SettlesRun}
+use Rattle.ill_mail.specs.Nights.{AskedNight, Night, TakesMails, ExchangesAt, PerformsDueDeeds, SettlesRun, arrived_in}
 use Rattle.ill_world.specs.Desks.{DeskParty, Sending}
 use Rattle.ill_world.specs.DeskSafety.{IsDeskOf}
 use Rattle.ill_runs.specs.Events.{Leads, IsReadAs, IsDesk, EndsAs, IsRun}
@@ -29,14 +30,13 @@ module _ (who : Role) (sent : List Sending) (p : DeskParty) (of : IsDeskOf who p
   -- ---- the inbox
 
   -- Taking mails is a run, if the other desk has sent the message of each.
-  inbox_is_run : (mails : List Mail) (waiting : ℕ) (old new : CommandState DeskContents)
-      (result : Result (List Verdict) ToolFault)
-      → IsDesk old.desk p → Bring (WasSent sent) mails → RunsInbox many_sides mails waiting old result new
+  inbox_is_run : (arrived : Arrived) (old new : CommandState DeskContents) (result : Result (List Verdict) ToolFault)
+      → IsDesk old.desk p → Bring (WasSent sent) arrived.mails → RunsInbox many_sides arrived old result new
       → IsRun who sent p result new.desk
-  inbox_is_run mails waiting old new result at were is =
-      ended_is_run who sent p (inbox_run (after_mails many_sides old.desk.live mails) waiting) old new result at.landed
-      (subst (λ live. Leads who sent p (record p { live = (after_mails many_sides live mails).live })) (sym at.live)
-      (mails_lead who sent p (unsorted p.live) mails were)) is.1
+  inbox_is_run arrived old new result at were is =
+      ended_is_run who sent p (inbox_run (after_all many_sides arrived old.desk.live) arrived.waiting) old new result at.landed
+      (subst (λ live. Leads who sent p (record p { live = (after_all many_sides arrived live).live })) (sym at.live)
+      (mails_lead who sent p (unsorted arrived.form p.live) arrived.mails were)) is.1
 
   -- If a run ended at a desk, the settling of its mails ends there.
   settling_ends : (mails : List Mail) (waiting : ℕ) (answer : Result (List Verdict) ToolFault) (result : Result Night ToolFault)
@@ -47,23 +47,25 @@ module _ (who : Role) (sent : List Sending) (p : DeskParty) (of : IsDeskOf who p
       subst (λ (r : Result Night ToolFault). EndsAs r desk q) (sym is) ends
 
   -- Taking the mails of a folder is a run, if the other desk has sent the message of each.
-  pub taking_is_run : (old new : CommandState DeskContents) (result : Result Night ToolFault) → IsDesk old.desk p
-      → (taken : TakesMails old result new) → Bring (WasSent sent) (mails_taken taken) → IsRun who sent p result new.desk
-  taking_is_run old new result at (inl failed) were = same_is_run result old.desk new.desk at failed.1
-  taking_is_run old new result at (inr took) were =
+  pub taking_is_run : (form : Form) (old new : CommandState DeskContents) (result : Result Night ToolFault) → IsDesk old.desk p
+      → (taken : TakesMails form old result new) → Bring (WasSent sent) (mails_taken taken) → IsRun who sent p result new.desk
+  taking_is_run form old new result at (inl failed) were = same_is_run result old.desk new.desk at failed.1
+  taking_is_run form old new result at (inr took) were =
       let answer = took.2 in
-      let run = inbox_is_run took.0 took.1 old new answer at were took.3 in
+      let run = inbox_is_run (arrived_in form took.0 took.1) old new answer at were took.3 in
       (run.0, run.1, settling_ends took.0 took.1 answer result new.desk run.0 took.4 run.2)
 
   -- ---- the deeds of the day
 
   -- The deeds of the day of a night are a run.
-  deeds_are_run : (dates : Option (Date × Dates)) (old new : CommandState DeskContents) (result : Result (Unit {0}) ToolFault)
-      → IsDesk old.desk p → PerformsDueDeeds dates old result new → IsRun who sent p result new.desk
-  deeds_are_run None old new result at is = same_is_run result old.desk new.desk at is.2
-  deeds_are_run (Some (today, which)) old new result at is =
+  deeds_are_run : (form : Form) (dates : Option (Date × Dates)) (old new : CommandState DeskContents)
+      (result : Result (Unit {0}) ToolFault)
+      → IsDesk old.desk p → PerformsDueDeeds form dates old result new → IsRun who sent p result new.desk
+  deeds_are_run form None old new result at is = same_is_run result old.desk new.desk at is.2
+  deeds_are_run form (Some (today, which)) old new result at is =
       let dues = all_due which today (sides_held old.desk.live).sides in
-      ended_is_run who sent p (deeds_run many_sides (after_deeds many_sides today old.desk.live dues)) old new result at.landed
+      ended_is_run who sent p (deeds_run form many_sides (after_deeds many_sides today old.desk.live dues)) old new result
+      at.landed
       (subst (λ live. Leads who sent p (record p { live = (after_deeds many_sides today live dues).live })) (sym at.live)
       (deeds_lead who sent p today (doing p.live []) dues of)) is
 
@@ -80,18 +82,19 @@ left_after_deeds (Ok done) desk q left ends leaves = inr (subst (λ live. IsOutb
 left_after_deeds (Err fault) desk q left ends leaves = inl leaves
 
 -- A night is a run, if the other desk has sent the message of each mail.
-pub night_is_run : (who : Role) (sent : List Sending) (dates : Option (Date × Dates)) (p : DeskParty) → IsDeskOf who p
+pub night_is_run : (who : Role) (sent : List Sending) (asked : AskedNight) (p : DeskParty) → IsDeskOf who p
     → (old new : CommandState DeskContents) (result : Result Bool ToolFault) (left : List Apdu) → IsDesk old.desk p
-    → (night : ExchangesAt dates old result new) → Bring (WasSent sent) (mails_of dates night) → Leaves dates night left
+    → (night : ExchangesAt asked old result new) → Bring (WasSent sent) (mails_of asked night) → Leaves asked night left
     → (q : DeskParty) × Leads who sent p q × IsReadAs new.desk.landed q.landed × LeaveIfAny q left
-night_is_run who sent dates p of old new result left at (met, Err fault, taken, ends) were leaves =
-    let run = taking_is_run who sent p of old met (Err fault) at taken were in
+night_is_run who sent asked p of old new result left at (met, Err fault, taken, ends) were leaves =
+    let run = taking_is_run who sent p of asked.form old met (Err fault) at taken were in
     (run.0, run.1, subst (λ desk. IsReadAs desk.landed run.0.landed) (sym ends.2) run.2, inl leaves)
-night_is_run who sent dates p of old new result left at (met, Ok night, taken, ends) were leaves =
-    let run = taking_is_run who sent p of old met (Ok night) at taken were in
+night_is_run who sent asked p of old new result left at (met, Ok night, taken, ends) were leaves =
+    let run = taking_is_run who sent p of asked.form old met (Ok night) at taken were in
     let between : CommandState DeskContents = ends.0 in
     let said : Result (Unit {0}) ToolFault = ends.1 in
-    let deeds = deeds_are_run who sent run.0 (leads_keep_role run.1 who of) dates met between said run.2 ends.2 in (
+    let deeds = deeds_are_run who sent run.0 (leads_keep_role run.1 who of) asked.form asked.dates met between said run.2
+    ends.2 in (
       deeds.0,
       then_leads run.1 deeds.1,
       subst (λ desk. IsReadAs desk.landed deeds.0.landed) (sym ends.4) (store_of_end said between.desk deeds.0 deeds.2),

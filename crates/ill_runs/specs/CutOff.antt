@@ -12,16 +12,17 @@ use Rattle.ill_saved.specs.declared.side.Action.{Action}
 use Rattle.ill_saved.specs.Holdings.{IsReadAgain}
 use Rattle.ill_saved.specs.Ranges.{Each}
 use Rattle.ill_saved.specs.Side.{other}
-use Rattle.ill_saved.specs.ManySides.{DeskContents, many_sides, sides_held}
+use Rattle.ill_saved.specs.ManySides.{DeskContents, many_sides}
 use Rattle.ill_words.specs.declared.outcome.DeskOutcome.{DeskOutcome}
 use Rattle.ill_text.specs.declared.fault.ToolFault.{ToolFault}
+use Rattle.ill_text.specs.declared.form.Form.{Form}
 use Rattle.ill_desk.specs.Performing.{HeldAndLanded, CommandState, Run, IsChange, acted, handed, with_sides}
 use Rattle.ill_desk.specs.Take.{Progress, TakesMessage, progress}
 use Rattle.ill_desk.specs.Telling.{Wording}
 use Rattle.ill_night.specs.declared.verdict.Mail.{Mail}
 use Rattle.ill_night.specs.declared.dates.Dates.{Dates}
 use Rattle.ill_night.specs.Inbox.{after_mails, inbox_run}
-use Rattle.ill_night.specs.Dates.{after_deeds, all_due, deeds_run}
+use Rattle.ill_night.specs.Dates.{after_dates, deeds_run}
 use Rattle.ill_mail.specs.Nights.{Night, TakesMails}
 use Rattle.ill_world.specs.World.{party}
 use Rattle.ill_runs.specs.Mail.{IsOneOf, Bring, mails_taken}
@@ -67,28 +68,29 @@ TakeSaves others old now =
 -- messages are among `others`.
 abbrev pub InboxSaves : List Apdu → HeldAndLanded DeskContents → HeldAndLanded DeskContents → Type 0
 InboxSaves others old now =
-    (mails : List Mail) × Bring (IsOneOf others) mails × SavesRun old (inbox_run (after_mails many_sides old.live mails) 0) now
+    (form : Form) × (mails : List Mail) × Bring (IsOneOf others) mails
+    × SavesRun old (inbox_run (after_mails many_sides form old.live mails) 0) now
 
 -- The commands `inbox` and `exchange`, which began at the desk `old`, have taken and saved mails, whose messages are among
 -- `others`. Their state is `met` now.
 pub record NightReaches (others : List Apdu) (old : HeldAndLanded DeskContents) (met : CommandState DeskContents) : Type 0 where
+  pub form : Form
   pub start : CommandState DeskContents
   pub from : start.desk ≡ old
   pub night : Night
-  pub taken : TakesMails start (Ok night) met
+  pub taken : TakesMails form start (Ok night) met
   pub came : Bring (IsOneOf others) (mails_taken taken)
 
--- Returns the run of the deeds of the day `today` at a desk with the sides `live`.
-abbrev pub deeds_of_day : Date → Dates → DeskContents → Run DeskContents (Unit {0})
-deeds_of_day today which live =
-    deeds_run many_sides (after_deeds many_sides today live (all_due which today (sides_held live).sides))
+-- Returns the run of the deeds of the day `today` at a desk with the sides `live`, told in the form `form`.
+abbrev pub deeds_of_day : Form → Date → Dates → DeskContents → Run DeskContents (Unit {0})
+deeds_of_day form today which live = deeds_run form many_sides (after_dates which today live)
 
 -- The command `exchange`, which began at the desk `old`, saves the sides of `now`: after its mails it has done the deeds of
 -- the day `today`.
 abbrev pub DeedsSave : List Apdu → HeldAndLanded DeskContents → HeldAndLanded DeskContents → Type 0
 DeedsSave others old now =
-    (met : CommandState DeskContents) × NightReaches others old met × (today : Date) × (which : Dates)
-    × SavesRun met.desk (deeds_of_day today which met.desk.live) now
+    (met : CommandState DeskContents) × (reached : NightReaches others old met) × (today : Date) × (which : Dates)
+    × SavesRun met.desk (deeds_of_day reached.form today which met.desk.live) now
 
 -- A command, which began at the desk `old`, comes to a save. It saves the sides of `now`.
 abbrev pub Saves : List Apdu → HeldAndLanded DeskContents → HeldAndLanded DeskContents → Type 0

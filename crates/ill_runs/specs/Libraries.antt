@@ -1,7 +1,6 @@
 -- Two libraries between their commands: the files of their desks, and the messages that have left them. Each command of
 -- one leads from such a state to the next.
 use Rattle.std.specs.Prelude.{◌≡◌, ◌⊎◌, ℕ, Bool, List, [], ◌∷◌, ◌++◌, Option, Some, Result, Ok}
-use Rattle.ill_values.specs.Day.{Date}
 use Rattle.ill_values.specs.TxnId.{Qualifiers}
 use Rattle.ill_values.specs.declared.apdu.Apdu.{Apdu}
 use Rattle.ill_saved.specs.declared.role.Role.{Role}
@@ -14,12 +13,12 @@ use Rattle.ill_saved.specs.Ranges.{Each}
 use Rattle.ill_saved.specs.RecordsV2.{records_at, sides_spelling}
 use Rattle.ill_saved.specs.ManySides.{DeskContents, many_sides, side_for}
 use Rattle.ill_text.specs.declared.fault.ToolFault.{ToolFault}
+use Rattle.ill_text.specs.declared.form.Form.{Form}
 use Rattle.ill_desk.specs.Performing.{HeldAndLanded, CommandState}
 use Rattle.ill_desk.specs.Act.{RunsAct}
 use Rattle.ill_desk.specs.Take.{RunsTaking}
 use Rattle.ill_desk.specs.Telling.{Wording}
-use Rattle.ill_night.specs.declared.dates.Dates.{Dates}
-use Rattle.ill_mail.specs.Nights.{Night, TakesMails, ExchangesAt}
+use Rattle.ill_mail.specs.Nights.{AskedNight, Night, TakesMails, ExchangesAt}
 use Rattle.ill_world.specs.World.{TwoOf, party}
 use Rattle.ill_world.specs.Safety.{EndsAlike, WasShipped, WasGranted}
 use Rattle.ill_world.specs.declared.event.DeskEvent.{DeskEvent}
@@ -80,7 +79,8 @@ Takes others old leaving new =
 -- The command `inbox`: the desk takes mails, whose messages are among `others`. No message leaves.
 abbrev pub TakesMail : List Apdu → CommandState DeskContents → List Apdu → CommandState DeskContents → Type 0
 TakesMail others old leaving new =
-    (result : Result Night ToolFault) × (taken : TakesMails old result new) × Bring (IsOneOf others) (mails_taken taken)
+    (form : Form) × (result : Result Night ToolFault) × (taken : TakesMails form old result new)
+    × Bring (IsOneOf others) (mails_taken taken)
     × (leaving ≡ [])
 
 -- The commands `outbox` and `send`: the messages of an outbox leave, or some that may be sent. The desk stays as it is.
@@ -91,8 +91,8 @@ Sends old leaving new =
 -- The command `exchange`: a night, to which mails come whose messages are among `others`.
 abbrev pub Exchanges : List Apdu → CommandState DeskContents → List Apdu → CommandState DeskContents → Type 0
 Exchanges others old leaving new =
-    (dates : Option (Date × Dates)) × (result : Result Bool ToolFault) × (night : ExchangesAt dates old result new)
-    × Bring (IsOneOf others) (mails_of dates night) × Leaves dates night leaving
+    (asked : AskedNight) × (result : Result Bool ToolFault) × (night : ExchangesAt asked old result new)
+    × Bring (IsOneOf others) (mails_of asked night) × Leaves asked night leaving
 
 -- One command leads from the library `before` to `after`. `others` have left the other library: any of them may come,
 -- once or often, early or late. A command that is stopped before its first save is the last case. One that is stopped

@@ -3,7 +3,6 @@ use Rattle.std.specs.Prelude.{◌≡◌, ℕ, nat_le, Bool, true, List, [], ◌�
 use Rattle.std.specs.Prelude.{Result, Ok, Err}
 use Rattle.std.specs.List.{slice_get}
 use Rattle.std.proofs.Common.{inl, inr, ⊎_elim}
-use Rattle.ill_values.specs.Day.{Date}
 use Rattle.ill_values.specs.TxnId.{Qualifiers}
 use Rattle.ill_values.specs.declared.apdu.Apdu.{Apdu}
 use Rattle.ill_der.specs.Handling.{Handles}
@@ -19,10 +18,10 @@ use Rattle.ill_desk.specs.Take.{RunsTaking}
 use Rattle.ill_desk.specs.Telling.{Wording}
 use Rattle.ill_night.specs.declared.verdict.Mail.{Mail}
 use Rattle.ill_night.specs.declared.verdict.Unfit.{Unfit}
-use Rattle.ill_night.specs.declared.dates.Dates.{Dates}
 use Rattle.ill_night.specs.Inbox.{message_in}
 use Rattle.ill_night.specs.Outbox.{leaving_desk}
-use Rattle.ill_mail.specs.Nights.{Night, TakesMails, ExchangesAt}
+use Rattle.ill_text.specs.declared.form.Form.{Form}
+use Rattle.ill_mail.specs.Nights.{AskedNight, Night, TakesMails, ExchangesAt}
 use Rattle.ill_world.specs.World.{sent_message}
 use Rattle.ill_world.specs.Desks.{Sending, sent_for}
 
@@ -81,15 +80,15 @@ abbrev pub Bring : (Apdu → Type 0) → List Mail → Type 0
 Bring Known mails = Each (λ mail. Each Known (message_of mail)) mails
 
 -- Returns the mails that a desk took from a folder, by how that went.
-abbrev pub mails_taken : {old new : CommandState DeskContents} → {result : Result Night ToolFault} →
-    TakesMails old result new → List Mail
+abbrev pub mails_taken : {form : Form} → {old new : CommandState DeskContents} → {result : Result Night ToolFault} →
+    TakesMails form old result new → List Mail
 mails_taken (inl failed) = []
 mails_taken (inr took) = took.0
 
 -- Returns the mails that a desk took in a night.
-abbrev pub mails_of : (dates : Option (Date × Dates)) → {old new : CommandState DeskContents} → {result : Result Bool ToolFault} →
-    ExchangesAt dates old result new → List Mail
-mails_of dates night = mails_taken night.2
+abbrev pub mails_of : (asked : AskedNight) → {old new : CommandState DeskContents} → {result : Result Bool ToolFault} →
+    ExchangesAt asked old result new → List Mail
+mails_of asked night = mails_taken night.2
 
 -- ---- the messages that leave
 
@@ -104,7 +103,7 @@ LeavesIfDone (Ok done) live left = IsOutbox live left
 LeavesIfDone (Err fault) live left = left ≡ []
 
 -- `left` leave a desk in a night, by how the night went. If its mails could not be taken, none leaves.
-abbrev pub Leaves : (dates : Option (Date × Dates)) → {old new : CommandState DeskContents} → {result : Result Bool ToolFault} →
-    ExchangesAt dates old result new → List Apdu → Type 0
-Leaves dates (met, Err fault, taken, ends) left = left ≡ []
-Leaves dates (met, Ok night, taken, ends) left = LeavesIfDone ends.1 ends.0.desk.live left
+abbrev pub Leaves : (asked : AskedNight) → {old new : CommandState DeskContents} → {result : Result Bool ToolFault} →
+    ExchangesAt asked old result new → List Apdu → Type 0
+Leaves asked (met, Err fault, taken, ends) left = left ≡ []
+Leaves asked (met, Ok night, taken, ends) left = LeavesIfDone ends.1 ends.0.desk.live left

@@ -13,7 +13,7 @@ use Rattle.ill_der.specs.ShortForm.{spelling}
 use Rattle.ill_commands.specs.AtFile.{ShowsFile, TakesAtFile}
 use Rattle.ill_commands.specs.Streams.{Streams, streams_of}
 use Rattle.ill_files.specs.Opening.{FailsToOpen}
-use Rattle.ill_mail.specs.Nights.{ExchangesAtFile, InboxAtFile, OutboxAtFile}
+use Rattle.ill_mail.specs.Nights.{ExchangesAtFile, InboxAtFile, OutboxAtFile, asked_night}
 use Rattle.ill_text.specs.Input.{ReadsInput}
 use Rattle.ill_desk.specs.Take.{answer_of}
 use Rattle.ill_desk.specs.declared.take.TakeForm.{TakeForm}
@@ -47,6 +47,7 @@ is_lines form = false
 -- go to the output.
 abbrev pub is_headed : Visit → Bool
 is_headed (visits.Status form) = is_lines form
+is_headed (visits.Exchange night key) = is_lines night.form
 is_headed (visits.Outbox outlet) = is_some outlet
 is_headed visit = true
 
@@ -55,7 +56,7 @@ abbrev pub RunsVisit : Visit → Option (List ℕ) → Option (List ℕ) → Res
 RunsVisit (visits.Status form) = ShowsFile form
 RunsVisit (visits.Inbox folder) = InboxAtFile
 RunsVisit (visits.Outbox outlet) = OutboxAtFile (is_some outlet)
-RunsVisit (visits.Exchange night key) = ExchangesAtFile night.dates
+RunsVisit (visits.Exchange night key) = ExchangesAtFile (asked_night night)
 
 -- The desks at `paths` were visited one after another, and `answer` is the gravest of their answers.
 abbrev pub VisitsAll : Bool → (Option (List ℕ) → Option (List ℕ) → Result Bool ToolFault → Type 0) → List (List ℕ) →

@@ -2,8 +2,8 @@
 
 ghost use Rattle.std.specs.Prelude.{true, Some, is_some, option_map};
 ghost use Rattle.ill_mail.specs.Keyed.{WithKey};
-ghost use Rattle.ill_mail.specs.Nights.{ExchangesAtFile, InboxAtFile, OutboxAtFile};
-ghost use Rattle.ill_shelf.specs.Shelf.{OpensShelf, VisitsShelf, VisitsWith};
+ghost use Rattle.ill_mail.specs.Nights.{ExchangesAtFile, InboxAtFile, OutboxAtFile, asked_night};
+ghost use Rattle.ill_shelf.specs.Shelf.{OpensShelf, VisitsShelf, VisitsWith, is_lines};
 
 use crate::on_shelf::{
     Way, exchange_at_desks, exchange_of_shelf, inbox_of_shelf, look_at_shelf, outbox_of_shelf,
@@ -113,7 +113,7 @@ pub fn exchange_of_shelf_with<T: LockFiles, W: Write, E: Write>(
     key_file: Option<&str>,
     night: &Night<'_>,
 ) -> Result<bool, ToolFault>
-    ensures { VisitsWith (option_map (λ file. file.now) key_file.entry) true (ExchangesAtFile night.now.dates)
+    ensures { VisitsWith (option_map (λ file. file.now) key_file.entry) (is_lines night.now.form) (ExchangesAtFile (asked_night night.now))
         (W.contents machine.old.writer) (W.contents machine.new.writer) result }
 {
     match key_file {
@@ -130,8 +130,8 @@ fn exchange_sealed<T: LockFiles, W: Write, E: Write>(
     key_file: &str,
     night: &Night<'_>,
 ) -> Result<bool, ToolFault>
-    ensures { OpensShelf true (ExchangesAtFile night.now.dates) (W.contents machine.old.writer) (W.contents machine.new.writer)
-        result }
+    ensures { OpensShelf (is_lines night.now.form) (ExchangesAtFile (asked_night night.now)) (W.contents machine.old.writer)
+        (W.contents machine.new.writer) result }
 {
     let key = read_key(machine.rt, key_file)?;
     let shelf = look_at_shelf(machine, folder, night)?;

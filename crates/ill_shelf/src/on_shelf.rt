@@ -5,7 +5,7 @@ ghost use Rattle.ill_commands.specs.AtFile.{ActsAtFile, LoanAtFile, NewAtFile, S
 ghost use Rattle.ill_commands.specs.Letters.{SendsWith};
 ghost use Rattle.ill_commands.specs.Note.{NotesAtFile, text_of};
 ghost use Rattle.ill_desk.specs.ActAs.{asking_of};
-ghost use Rattle.ill_mail.specs.Nights.{ExchangesAtFile, InboxAtFile, OutboxAtFile};
+ghost use Rattle.ill_mail.specs.Nights.{ExchangesAtFile, InboxAtFile, OutboxAtFile, asked_night};
 ghost use Rattle.ill_shelf.specs.Shelf.{IsFurther, RetiresAtFile, VisitsShelf, is_lines, retired_line, told_with};
 ghost use Rattle.ill_text.specs.Fault.{IsOpenFault};
 
@@ -278,7 +278,8 @@ pub fn exchange_of_shelf<T: LockFiles, W: Write, E: Write>(
     folder: &str,
     night: &Night<'_>,
 ) -> Result<bool, ToolFault>
-    ensures { VisitsShelf true (ExchangesAtFile night.now.dates) (W.contents machine.old.writer) (W.contents machine.new.writer) result }
+    ensures { VisitsShelf (is_lines night.now.form) (ExchangesAtFile (asked_night night.now)) (W.contents machine.old.writer)
+        (W.contents machine.new.writer) result }
 {
     let shelf = look_at_shelf(machine, folder, night)?;
     let way = Way {
@@ -334,7 +335,8 @@ pub(crate) fn exchange_at_desks<T: LockFiles, W: Write, E: Write>(
     night: &Night<'_>,
     way: Way<'_>,
 ) -> Result<bool, ToolFault>
-    ensures { VisitsShelf true (ExchangesAtFile night.now.dates) (W.contents machine.old.writer) (W.contents machine.new.writer) result }
+    ensures { VisitsShelf (is_lines night.now.form) (ExchangesAtFile (asked_night night.now)) (W.contents machine.old.writer)
+        (W.contents machine.new.writer) result }
 {
     let from = MailsFrom {
         folder: way.incoming,
@@ -356,7 +358,7 @@ pub(crate) fn exchange_at_desks<T: LockFiles, W: Write, E: Write>(
 /// Returns the night of each desk of a shelf, whose mails come from `incoming`. It has no sign of life, which is given
 /// once, at the end.
 fn at_each<'a>(night: &Night<'a>, incoming: &'a str) -> Night<'a>
-    ensures { result.dates ≡ night.now.dates }
+    ensures { asked_night result ≡ asked_night night.now }
 {
     Night {
         incoming,
@@ -365,6 +367,7 @@ fn at_each<'a>(night: &Night<'a>, incoming: &'a str) -> Night<'a>
         stamp: same_stamp(&night.stamp),
         copy: night.copy,
         beat: None,
+        form: night.form,
         is_on_shelf: true,
     }
 }

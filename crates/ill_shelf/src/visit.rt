@@ -95,7 +95,8 @@ fn is_headed(visit: &Visit<'_, '_, '_>) -> bool
     match visit {
         Visit::Status(form) => is_lines(*form),
         Visit::Outbox(outlet) => outlet.is_some(),
-        Visit::Inbox(_) | Visit::Exchange(..) => true,
+        Visit::Exchange(night, _) => is_lines(night.form),
+        Visit::Inbox(_) => true,
     }
 }
 

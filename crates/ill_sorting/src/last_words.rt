@@ -21,11 +21,7 @@ use std::io::{self, Write};
 use std::rt::Files;
 
 /// Returns the bytes of the mark of the group of `desk`, if the group is retired.
-pub fn load_mark<T: Files>(
-    rt: &T,
-    alloc: Global,
-    desk: &str,
-) -> io::Result<Option<Vec<u8>>> {
+pub fn load_mark<T: Files>(rt: &T, alloc: Global, desk: &str) -> io::Result<Option<Vec<u8>>> {
     let path = retired_path(alloc, desk)?;
     let mut store = FileStore::at(rt, alloc, path.as_str(), RECORD_LIMIT)?;
     match store.load(alloc) {

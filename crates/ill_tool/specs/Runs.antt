@@ -46,8 +46,8 @@ Runs (asks.Inbox file folder stamp key) left rest before after result =
     (rest ≡ left) × WithKey key InboxAtFile before after result
 Runs (asks.Outbox file folder key) left rest before after result =
     (rest ≡ left) × WithKey key (OutboxAtFile (is_some folder)) before after result
-Runs (asks.Exchange file incoming outgoing dates stamp copy beat key) left rest before after result =
-    (rest ≡ left) × WithKey key (ExchangesAtFile dates) before after result
+Runs (asks.Exchange file incoming outgoing form dates stamp copy beat key) left rest before after result =
+    (rest ≡ left) × WithKey key (ExchangesAtFile (record { form = form; dates = dates })) before after result
 Runs (asks.Key file deed) left rest before after result = RunsKey deed left rest before after result
 Runs (asks.Send file txn number key) left rest before after result =
     (rest ≡ left) × SendsWith key txn number before after result
@@ -96,8 +96,8 @@ RunsShelf (asks.Inbox folder incoming stamp key) left rest before after result =
     (rest ≡ left) × VisitsWith key true InboxAtFile before after result
 RunsShelf (asks.Outbox folder outgoing key) left rest before after result =
     (rest ≡ left) × WithKey key (VisitsShelf (is_some outgoing) (OutboxAtFile (is_some outgoing))) before after result
-RunsShelf (asks.Exchange folder incoming outgoing dates stamp copy beat key) left rest before after result =
-    (rest ≡ left) × VisitsWith key true (ExchangesAtFile dates) before after result
+RunsShelf (asks.Exchange folder incoming outgoing form dates stamp copy beat key) left rest before after result =
+    (rest ≡ left) × VisitsWith key (is_lines form) (ExchangesAtFile (record { form = form; dates = dates })) before after result
 RunsShelf (asks.Retire folder group) left rest before after result = (rest ≡ left) × RetiresAtFile before after result
 RunsShelf other left rest before after result = (rest ≡ left) × (after ≡ before) × (result ≡ Err Arguments)
 

@@ -20,10 +20,10 @@ from ill.texts import words as command_line
 from ill.texts.words import HELP, LINE, MAN, body, find, named
 
 EXPLAIN = "crates/ill_explain/src"
-WORLD, WORDS, TEXT, SHOW, LIST, SLIP, COUNTED, DESK, NIGHT, FILES, KEY, COMMANDS, MAIL, SHELF, ROOM = (
+WORLD, WORDS, TEXT, SHOW, LIST, SLIP, COUNTED, DESK, NIGHT, FILES, KEY, COMMANDS, MAIL, MAILBOX, SHELF, ROOM = (
     f"crates/ill_{room}/src"
     for room in ("world", "words", "text", "show", "list", "slip", "figures", "desk", "night", "files", "key", "commands",
-                 "mail", "shelf", "room"))
+                 "mail", "mailbox", "shelf", "room"))
 FILE_KINDS = {"File", "NewFile", "Paths", "Folder"}
 KEY_KINDS = {"KeyFile", "Key", "NightKey"}
 FLAGS = {"Long", "Keep", "Picture", "Open", "Mine", "Actions", "Json", "Csv"}
@@ -165,8 +165,8 @@ def numbers_of():
         "loans": constant("SIDES_LIMIT", f"{saved}/sides.rt"), "messages": constant("MAX_APDUS", f"{TEXT}/input.rt"),
         "many": constant("MANY", f"{COMMANDS}/commands.rt"), "few": constant("FEW", f"{SHOW}/numbers.rt"),
         "soon": constant("SOON", f"{LIST}/soon.rt"),
-        "mails": constant("MAILS", f"{MAIL}/mail.rt"),
-        "longer": constant("APDU_LIMIT", f"{der}/header.rt") + constant("LINE_END", f"{MAIL}/mail.rt") + 1,
+        "mails": constant("MAILS", f"{MAILBOX}/mail.rt"),
+        "longer": constant("APDU_LIMIT", f"{der}/header.rt") + constant("LINE_END", f"{MAILBOX}/mail.rt") + 1,
         "longest": constant("APDU_LIMIT", f"{der}/header.rt"), "shortest": shortest,
         "lines": constant("MAX_LINES", f"{WORLD}/simulation.rt"), "line": constant("MAX_LINE", f"{WORLD}/lines.rt"),
         "qualifier": constant("QUALIFIER_LIMIT", f"{values}/text.rt"),
@@ -185,7 +185,7 @@ def numbers_of():
         "letter_first": constant("LETTER_LIMIT", f"{KEY}/letter.rt") + 1,
         "sealed": constant("TEXT", "crates/ill_seal/src/letter.rt") + constant("SEAL", "crates/ill_seal/src/letter.rt"),
         "key": constant("SIZE", f"{KEY}/key_file.rt"), "key_groups": constant("DIGITS", "crates/ill_seal/src/key.rt") // 4,
-        "made": constant("NEW_DESKS", f"{SHELF}/sorting.rt"), "escaped": 2,
+        "made": constant("NEW_DESKS", f"crates/ill_sorting/src/sorting.rt"), "escaped": 2,
         **{status: statuses()[STATUS[cause]] for status, cause in (("well", "ok"), ("refused", "refused"),
                                                                   ("failed", "left"))}}
 
@@ -290,7 +290,7 @@ def causes_of(command, arguments):
     if "Key" in arguments and "read" in found:
         found.add("not-sealed")
     called = {"handle_input(": {"der", "too-many"}, "refused(": {"refused"}, "wants_person(": {"refused"},
-              "push_tally(": {"left"}, "Err(ToolFault::Left)": {"left"}, f" {name}(alloc": {"script"},
+              "tell_tally(": {"left"}, "Err(ToolFault::Left)": {"left"}, f" {name}(alloc": {"script"},
               "DeskFault::NoSuchTransaction)": {"no-such-transaction"},
               "desk.message_of(": {"no-such-transaction", "no-such-message", "not-saved"}}
     return found.union(*(more for word, more in called.items() if word in source))
@@ -597,11 +597,11 @@ def compare_words(named_texts, words, arguments):
     files = re.findall(r"^  \$ ill new (\w+)", read(HELP), re.M)
     objects = "".join(map(read, (f"{TEXT}/apdu_object.rt", f"{SHOW}/objects.rt", f"{LIST}/list_objects.rt",
                                  f"{SHOW}/diary.rt", f"{SHOW}/since.rt", f"{LIST}/news.rt", f"{LIST}/listed_news.rt",
-                                 f"{SHOW}/verify.rt")))
+                                 f"{SHOW}/verify.rt", f"{NIGHT}/objects.rt")))
     labels = set(re.findall(r'(?:\(|\(text, )"([\w-]+)"(?:, |\)\?;)', objects))
     counted = set(re.findall(r"(\w+) \{\1\}", read(f"{NIGHT}/tally.rt")))
     staying = {f"NAME {word} REASON" for word in re.findall(r'b" (\w+) "', read(f"{NIGHT}/verdict.rt"))}
-    sent = {f"{word} N" for word in re.findall(r'"(\w+) \{\w+\}\\n"', read(f"{MAIL}/rooms.rt"))}
+    sent = {f"{word} N" for word in re.findall(r'"(\w+) \{\w+\}\\n"', read(f"{NIGHT}/objects.rt"))}
     told = {text for text, _ in told_faults()}
     told |= set(re.findall(r'b"(changed) "', read("crates/ill_desk/src/act_as.rt")))
     known = words | labels | counted | staying | sent | verbs_known | set(arguments) | told | set(files) | {

@@ -9,7 +9,8 @@ use Rattle.ill_text.specs.Fault.{IsOpenFault}
 -- written.
 abbrev pub invariant-loop-place : goal.invariant-loop-place
 invariant-loop-place g l = record {
-  told : AddsParts l.today l.since (take l.place (map (λ file. string_bytes file) l.files)) l.initial.page.items l.page.items
+  told : AddsParts l.days.today l.days.since (take l.place (map (λ file. string_bytes file) l.files)) l.initial.page.items
+      l.page.items
       l.answer;
   fault : IfErr l.answer IsOpenFault;
   silent : l.machine.writer ≡ l.initial.machine.writer;

@@ -1,24 +1,31 @@
 -- Answers the contract of `exchange_at` (`src/exchange.rt`).
-use Rattle.std.proofs.Common.{ap, ◌∙◌}
-use Rattle.ill_desk.specs.Performing.{view_of}
+use Rattle.std.proofs.Common.{ap, subst, ◌∙◌}
+use Rattle.ill_desk.specs.Performing.{command_state, view_of}
+use Rattle.ill_text.specs.declared.form.Form.{Form}
+use Rattle.ill_night.specs.Inbox.{arrived_of}
+use Rattle.ill_mail.specs.Nights.{ExchangesAt, asked_night}
 use Rattle.ill_mail.proofs.RoomsLemmas.{night_opened, night_unopened}
 use Rattle.ill_mail.proofs.exchange.exchange_at.Goals as goal
 
 -- The mail of the desk could not be opened.
 pub returns-in-Err : goal.returns-in-Err
 returns-in-Err g c =
-    night_unopened c.args.night.now.dates (view_of g.S.Store.state c.args.desk.now)
+    night_unopened (asked_night c.args.night.now) (view_of g.S.Store.state c.args.desk.now)
     (g.W.Write.contents c.args.machine.now.writer) (g.W.Write.contents c.open_mail.new.machine.writer)
     c.in-Err.fault c.in-Err.ensures.faults (ap (λ writer. g.W.Write.contents writer) c.in-Err.ensures.silent)
 
--- The night is that of `night_in`. All else writes nothing.
+-- The night is that of `night_in`, told in the form that is asked for. All else writes nothing.
 pub returns : goal.returns
 returns g c =
     let view = view_of g.S.Store.state in
-    night_opened c.batch_of.result.mails.now c.batch_of.result.waiting c.args.night.now.dates (view c.args.desk.now)
+    let old = command_state (view c.args.desk.now) (g.W.Write.contents c.args.machine.now.writer) in
+    let new = command_state (view c.night_in-done.new.desk) (g.W.Write.contents c.report_fault_of_mail.new.machine.writer) in
+    let night = night_opened (arrived_of c.batch_of.result) c.args.night.now.dates (view c.args.desk.now)
     (view c.night_in-done.new.desk) (g.W.Write.contents c.args.machine.now.writer)
     (g.W.Write.contents c.open_mail.new.machine.writer) (g.W.Write.contents c.night_in-done.new.machine.writer)
     (g.W.Write.contents c.report_fault_of_mail.new.machine.writer) c.night_in-done.result c.report_fault_of_mail.result
     c.night_in-done.ensures.over (ap (λ writer. g.W.Write.contents writer) c.in-Ok.ensures.silent)
     (ap (λ writer. g.W.Write.contents writer) (c.report_fault_of_mail.ensures.silent ∙ c.warn_of_streams.ensures))
-    c.report_fault_of_mail.ensures.answer
+    c.report_fault_of_mail.ensures.answer in
+    subst (λ (form : Form). ExchangesAt (record { form = form; dates = c.args.night.now.dates }) old
+    c.report_fault_of_mail.result new) c.batch_of.ensures.form night

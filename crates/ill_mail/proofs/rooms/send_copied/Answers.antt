@@ -16,11 +16,12 @@ returns-in-Ok-put_asked-clause-all g c =
     let before = g.W.Write.contents c.args.machine.now.writer in
     let quiet = ap (λ writer. g.W.Write.contents writer) c.sign.ensures.silent in
     let asks = c.deref.ensures.value ∙ c.in-Ok.ensures in
-    let told = subst (λ (after : Option (List ℕ)). SendsAsked c.deref.result.now desk.held before after sent) (sym quiet)
+    let form = c.args.plan.now.batch.form in
+    let told = subst (λ (after : Option (List ℕ)). SendsAsked form c.deref.result.now desk.held before after sent) (sym quiet)
     c.in-Ok-put_asked.ensures.sends in
     inr (
       sent,
-      subst (λ (bytes : List ℕ). SendsAsked bytes desk.held before (g.W.Write.contents c.sign.new.machine.writer) sent) asks
+      subst (λ (bytes : List ℕ). SendsAsked form bytes desk.held before (g.W.Write.contents c.sign.new.machine.writer) sent) asks
           told,
       subst (λ (ending : Result Bool ToolFault). EndsAfterSending ending sent c.sign.result) c.ending.ensures
           c.sign.ensures.ends,

@@ -8,6 +8,6 @@ use Rattle.ill_night.proofs.inbox.sort_mails.Given as goal
 abbrev pub invariant-loop-mail : goal.invariant-loop-mail
 invariant-loop-mail g l = record {
   sorted : sorting_of l.desk.live l.sorted
-      ≡ fold (after_mail g.H.Held.effects) (unsorted l.initial.desk.live) (take l.mail-index l.mails);
+      ≡ fold (after_mail g.H.Held.effects) (unsorted l.batch.form l.initial.desk.live) (take l.mail-index l.batch.mails.now);
   store : l.desk.store ≡ l.initial.desk.store;
 }

@@ -2,7 +2,7 @@
 use Rattle.std.proofs.Common.{◌≡◌, ℕ, ◌++◌, List, ap, append_assoc, refl, ◌∙◌}
 use Rattle.std.specs.Prelude.{codes}
 use Rattle.std.specs.Fmt.{decimal}
-use Rattle.ill_night.specs.Inbox.{done_text}
+use Rattle.ill_night.specs.Lines.{done_text}
 use Rattle.ill_night.proofs.tally.push_done.Goals as goal
 
 -- Joining ten texts from the right equals joining them from the left.

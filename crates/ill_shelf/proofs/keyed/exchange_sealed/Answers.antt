@@ -1,8 +1,8 @@
 -- Answers the contract of `exchange_sealed` (`src/keyed.rt`).
-use Rattle.std.proofs.Common.{ℕ, List, Option, inr, true, ap, subst, ◌∙◌}
-use Rattle.ill_mail.specs.Nights.{ExchangesAtFile}
+use Rattle.std.proofs.Common.{ℕ, List, Option, inr, ap, subst, ◌∙◌}
+use Rattle.ill_mail.specs.Nights.{ExchangesAtFile, asked_night}
 use Rattle.ill_text.specs.Visits.{graver}
-use Rattle.ill_shelf.specs.Shelf.{VisitsShelf}
+use Rattle.ill_shelf.specs.Shelf.{VisitsShelf, is_lines}
 use Rattle.ill_shelf.proofs.keyed.exchange_sealed.Goals as goal
 
 -- Proves the contract of `exchange_sealed`. `look_at_shelf` and `open_letters` write nothing, and `exchange_at_desks` visits
@@ -13,7 +13,7 @@ returns g c =
     let opened = c.in_ok-opened.opened in
     let quiet = ap (λ writer. g.W.Write.contents writer) (c.in_ok-opened.ensures.silent ∙ c.in_ok-shelf.ensures.silent) in
     let visited = subst (λ (start : Option (List ℕ)).
-    VisitsShelf true (ExchangesAtFile c.args.night.now.dates) start
+    VisitsShelf (is_lines c.args.night.now.form) (ExchangesAtFile (asked_night c.args.night.now)) start
     (g.W.Write.contents c.exchange_at_desks-done.new.machine.writer) done) quiet
     c.exchange_at_desks-done.ensures in
     inr (done, opened.is_waiting, opened.are_sealed, visited, c.graver.ensures ∙ ap (graver done) c.opened_answer.ensures)

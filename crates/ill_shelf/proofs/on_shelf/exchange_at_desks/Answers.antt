@@ -1,8 +1,8 @@
 -- Answers the contract of `exchange_at_desks` (`src/on_shelf.rt`).
-use Rattle.std.proofs.Common.{ℕ, List, Option, inr, map, true, ap, subst, sym}
+use Rattle.std.proofs.Common.{ℕ, List, Option, inr, map, ap, subst, sym}
 use Rattle.std.specs.Prelude.{string_bytes}
-use Rattle.ill_mail.specs.Nights.{ExchangesAtFile}
-use Rattle.ill_shelf.specs.Shelf.{VisitsAll}
+use Rattle.ill_mail.specs.Nights.{AskedNight, ExchangesAtFile, asked_night}
+use Rattle.ill_shelf.specs.Shelf.{VisitsAll, is_lines}
 use Rattle.ill_shelf.proofs.on_shelf.exchange_at_desks.Goals as goal
 
 -- Proves the contract of `exchange_at_desks`. `visit_all` visits the desks, and `graver` combines its answer with that
@@ -10,16 +10,16 @@ use Rattle.ill_shelf.proofs.on_shelf.exchange_at_desks.Goals as goal
 pub returns : goal.returns
 returns g c =
     let paths = map (λ path. string_bytes path) c.deref.result.now in
-    let dates = c.args.night.now.dates in
+    let asked = asked_night c.args.night.now in
+    let heads = is_lines asked.form in
     let answer = c.visit_all-answer.result in
     let quiet = ap (λ writer. g.W.Write.contents writer) c.in_ok-is_waiting.ensures.silent in
     let ended = ap (λ writer. g.W.Write.contents writer) c.end_night-further.ensures.silent in
     let told = g.W.Write.contents c.visit_all-answer.new.machine.writer in
-    let on_dates = subst (λ dates.
-    VisitsAll true (ExchangesAtFile dates) paths (g.W.Write.contents c.sort_mails.new.machine.writer) told answer)
-    c.at_each.ensures c.visit_all-answer.ensures in
-    let begun = subst (λ (start : Option (List ℕ)). VisitsAll true (ExchangesAtFile dates) paths start told answer) quiet
-    on_dates in
+    let as_asked = subst (λ (now : AskedNight). VisitsAll (is_lines now.form) (ExchangesAtFile now) paths
+    (g.W.Write.contents c.sort_mails.new.machine.writer) told answer) c.at_each.ensures c.visit_all-answer.ensures in
+    let begun = subst (λ (start : Option (List ℕ)). VisitsAll heads (ExchangesAtFile asked) paths start told answer) quiet
+    as_asked in
     let visited = subst (λ (end : Option (List ℕ)).
-    VisitsAll true (ExchangesAtFile dates) paths (g.W.Write.contents c.args.machine.now.writer) end answer) (sym ended) begun in
+    VisitsAll heads (ExchangesAtFile asked) paths (g.W.Write.contents c.args.machine.now.writer) end answer) (sym ended) begun in
     inr (paths, answer, c.end_night-further.result, visited, c.end_night-further.ensures.further, c.graver.ensures)

@@ -1,7 +1,8 @@
 -- Answers the contract of `visit_all` (`src/visit.rt`).
-use Rattle.std.proofs.Common.{◌≡◌, ◌+◌, ◌<◌, ℕ, Bool, List, map, take, get_or, ap, sym, subst, ◌∙◌}
+use Rattle.std.proofs.Common.{◌≡◌, ◌+◌, ◌<◌, ℕ, Bool, List, Result, map, take, get_or, ap, sym, subst, ◌∙◌}
 use Rattle.std.specs.Prelude.{string_bytes}
 use Rattle.std.proofs.lemmas.List.{length-map, get_or-map}
+use Rattle.ill_text.specs.declared.fault.ToolFault.{ToolFault}
 use Rattle.ill_shelf.specs.Shelf.{Headed, RunsVisit, VisitsAll, is_headed}
 use Rattle.ill_text.specs.Visits.{Stop}
 use Rattle.ill_text.proofs.VisitsLemmas.{no_visit, one_more_visit}
@@ -23,7 +24,8 @@ loop-place-preserved g c =
     (g.W.Write.contents c.args.machine.now.writer) (g.W.Write.contents c.loop-place.machine.writer)
     (g.W.Write.contents c.visit_desk-next.new.machine.writer) c.loop-place.answer c.visit_desk-next.result within found
     c.loop-place.invariant c.visit_desk-next.ensures in
-    subst (λ answer. VisitsAll (is_headed c.args.visit.now) (RunsVisit c.args.visit.now) (take (place + 1) names)
+    subst (λ (answer : Result Bool ToolFault).
+    VisitsAll (is_headed c.args.visit.now) (RunsVisit c.args.visit.now) (take (place + 1) names)
     (g.W.Write.contents c.args.machine.now.writer) (g.W.Write.contents c.visit_desk-next.new.machine.writer) answer)
     (sym c.graver-answer.ensures) visited
 

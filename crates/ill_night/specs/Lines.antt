@@ -1,0 +1,96 @@
+-- The lines of a night: of its mails, its deeds and its messages (this profile's own).
+use Rattle.std.specs.Prelude.{ℕ, List, [], ◌++◌, codes, Option, None, Some}
+use Rattle.std.specs.Fmt.{decimal}
+use Rattle.ill_values.specs.TxnId.{Qualifiers}
+use Rattle.ill_der.specs.declared.fault.DerFault.{DerFault}
+use Rattle.ill_der.specs.declared.fault.DerFault.TheVariants as ders
+use Rattle.ill_der.specs.Faults.{place_of}
+use Rattle.ill_core.specs.Verbs.{deed_verb, verb_name}
+use Rattle.ill_saved.specs.Holdings.{Effects}
+use Rattle.ill_words.specs.declared.outcome.Outcome.TheVariants as outcomes
+use Rattle.ill_words.specs.declared.outcome.DeskOutcome.TheVariants as seen
+use Rattle.ill_words.specs.Outcome.{desk_outcome_word}
+use Rattle.ill_text.specs.Escape.{escaped}
+use Rattle.ill_text.specs.LongLines.{word}
+use Rattle.ill_desk.specs.Telling.{done_line, once_saved, shown_at}
+use Rattle.ill_night.specs.declared.dates.Due.{Due}
+use Rattle.ill_night.specs.declared.tally.Tally.{Tally}
+use Rattle.ill_night.specs.declared.verdict.Delay.{Delay}
+use Rattle.ill_night.specs.declared.verdict.Delay.TheVariants as delays
+use Rattle.ill_night.specs.declared.verdict.Unfit.{Unfit}
+use Rattle.ill_night.specs.declared.verdict.Unfit.TheVariants as unfits
+use Rattle.ill_night.specs.declared.verdict.Verdict.{Verdict}
+use Rattle.ill_night.specs.declared.verdict.Verdict.TheVariants.{Done, Aside, Left}
+
+-- ---- the verdict of a mail
+
+-- Returns the word of a fault in the bytes of a mail.
+abbrev pub der_word : DerFault → List ℕ
+der_word (ders.Short at) = codes "short"
+der_word (ders.Tag at) = codes "tag"
+der_word (ders.Length at) = codes "length"
+der_word (ders.Field at) = codes "field"
+der_word ders.OutOfMemory = codes "memory"
+
+-- Returns the place of a fault in the bytes, if it has one.
+abbrev pub place_text : Option ℕ → List ℕ
+place_text None = []
+place_text (Some at) = codes " at " ++ decimal at
+
+-- Returns the text of the reason why no desk will ever take a mail.
+abbrev pub unfit_text : Unfit → List ℕ
+unfit_text (unfits.NoMessage fault) = der_word fault ++ place_text (place_of fault)
+unfit_text unfits.TooLong = codes "too-long"
+unfit_text unfits.Trailing = codes "trailing"
+unfit_text unfits.NotSealed = codes "not-sealed"
+unfit_text (unfits.Refused refusal) = desk_outcome_word (seen.Plain (outcomes.Refused refusal))
+
+-- Returns the text of the reason why a mail waits for the next run.
+abbrev pub delay_text : Delay → List ℕ
+delay_text delays.NotRead = codes "not-read"
+delay_text delays.Record = codes "record"
+delay_text delays.NoSuchTransaction = desk_outcome_word seen.NoSuchTransaction
+delay_text delays.DeskFull = desk_outcome_word seen.DeskFull
+
+-- Returns the line of a mail that is put aside or waits.
+abbrev pub stays_line : List ℕ → List ℕ → List ℕ → List ℕ
+stays_line name word reason = escaped name ++ (word ++ (reason ++ codes "\n"))
+
+-- Returns the line of the mail `name`. A mail that is done has no line.
+abbrev pub verdict_line : List ℕ → Verdict → List ℕ
+verdict_line name (Done outcome) = []
+verdict_line name (Aside unfit) = stays_line name (codes " aside ") (unfit_text unfit)
+verdict_line name (Left delay) = stays_line name (codes " left ") (delay_text delay)
+
+-- ---- counts
+
+-- Returns the text of the counts of done mails, whose files are removed.
+unfoldable pub done_text : Tally → List ℕ
+done_text tally =
+    codes "taken " ++ decimal tally.taken ++ codes ", repeat " ++ decimal tally.repeat ++ codes ", stale "
+    ++ decimal tally.stale ++ codes ", conflict " ++ decimal tally.conflict ++ codes ", unknown "
+    ++ decimal tally.unknown
+
+-- Returns the text of the counts of mails that are put aside or wait. `waiting` mails had no room in this
+-- run.
+unfoldable pub staying_text : Tally → ℕ → List ℕ
+staying_text tally waiting =
+    codes ", aside " ++ decimal tally.aside ++ codes ", left " ++ decimal tally.left ++ codes ", waiting "
+    ++ decimal waiting ++ codes "\n"
+
+-- Returns the line of all counts.
+abbrev pub tally_line : Tally → ℕ → List ℕ
+tally_line tally waiting = done_text tally ++ staying_text tally waiting
+
+-- ---- deeds and messages
+
+-- Returns the line of a deed that was done. It has the transaction, the verb, and the state of the side once
+-- all is saved.
+abbrev pub deed_line : {L : Type 0} → Effects L Qualifiers → L → Due → List ℕ
+deed_line effects live due =
+    word due.txn.group ++ (word due.txn.transaction ++ (word (verb_name (deed_verb due.deed))
+    ++ done_line (once_saved (shown_at effects due.txn live))))
+
+-- Returns the line with the number of mails that left.
+abbrev pub sent_line : ℕ → List ℕ
+sent_line count = codes "sent " ++ decimal count ++ codes "\n"

@@ -12,6 +12,7 @@ use ill_files::diary::diary_bytes;
 use ill_files::machine::Machine;
 use ill_files::notes::notes_bytes;
 use ill_files::open::open;
+use ill_list::news::news_since;
 use ill_list::report::push_fault;
 use ill_page::{
     DeskShown, LoanShown, Status, begin_desks, end_desks, figures_page, loan_page, notice_page,
@@ -67,7 +68,10 @@ fn push_file<T: Files>(
     find: Option<&str>,
 ) -> Result<(), OutOfMemory> {
     match open_with_annex(house.rt, house.alloc, file, &mut sink()) {
-        Ok((desk, annex)) => {
+        Ok((desk, mut annex)) => {
+            let today = Some(house.operator.today);
+            let news = news_since(house.alloc, desk.sides(), &annex, today)?;
+            annex.news = news;
             let shown = DeskShown {
                 today: house.operator.today,
                 find,

@@ -4,6 +4,7 @@ use crate::day::tell_no_day;
 use crate::shown::Shown;
 use crate::verbs::{Form, Parts, form_of, names_of, nearest};
 use clap::ArgMatches;
+use ill_days::read_day;
 use ill_line::command_line::Argument;
 use ill_saved::{Desk, FileStore, RECORD_LIMIT, Role};
 use ill_values::{Day, Item, OutOfMemory, TextFault};
@@ -24,7 +25,7 @@ pub fn tell_action<T: Files>(
     let file = matches.get_str(Argument::File.id()).unwrap_or_default();
     let today = matches
         .get_str(Argument::Today.id())
-        .and_then(|word| Day::read(word.as_bytes()).ok());
+        .and_then(|word| read_day(word.as_bytes()).ok());
     match role_at(rt, alloc, file) {
         Some(role) => tell_words(alloc, text, role, today, words),
         None => Ok(()),

@@ -1,11 +1,12 @@
-//! What is wrong with a word that is no day.
+//! Explains words that are no days.
 
 use crate::shown::Shown;
-use ill_values::{Day, DayFault, OutOfMemory};
+use ill_days::read_day;
+use ill_values::{DayFault, OutOfMemory};
 
-/// Appends a line about a day, if it is none.
+/// Appends a line about the word of an option that wants a day, if it is none.
 pub(crate) fn tell_day(text: &mut String, word: &str) -> Result<(), OutOfMemory> {
-    match Day::read(word.as_bytes()) {
+    match read_day(word.as_bytes()) {
         Ok(_) => Ok(()),
         Err(fault) => tell_no_day(text, word, fault),
     }

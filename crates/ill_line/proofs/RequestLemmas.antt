@@ -13,8 +13,9 @@ use Rattle.clap.specs.Matches.{found_of, first_value, matched_of, raw_values, su
 use Rattle.clap.specs.Walk.{Row, Text, rows_of, first_of, all_of}
 use Rattle.clap.specs.Simple.{subcommand_rows, subcommand_rows_of}
 use Rattle.clap.proofs.WalkLemmas.{first_value-rows, raw_values-rows}
-use Rattle.ill_values.specs.Day.{Date, read_date}
+use Rattle.ill_values.specs.Day.{Date}
 use Rattle.ill_values.specs.declared.fault.DayFault.{DayFault}
+use Rattle.ill_days.specs.Days.{read_day}
 use Rattle.ill_words.specs.Words.{◌>>=◌, number_of}
 use Rattle.ill_text.specs.declared.fault.ToolFault.TheVariants.{Arguments, OutOfMemory}
 use Rattle.ill_line.specs.declared.request.Refusal.{Refusal}
@@ -45,10 +46,10 @@ none_said m id argument refusal named is right =
 -- `day_in` returns the day that is read from the text `word` of `argument`.
 pub day_read : (m : ArgMatches) (id word bytes : List ℕ) (argument : Argument) (read : Result Date DayFault)
     → id ≡ id_of argument → Some word ≡ first_value (found_of m) id → bytes ≡ word
-    → read ≡ read_date bytes → day_in argument (rows_of (found_of m)) ≡ option_map Some (result_ok read)
+    → read ≡ read_day bytes → day_in argument (rows_of (found_of m)) ≡ option_map Some (result_ok read)
 day_read m id word bytes argument read named is same reads =
     ap day_said (text_said m id argument (Some word) named is)
-    ∙ ap (λ (read : Result Date DayFault). option_map Some (result_ok read)) (sym (reads ∙ ap read_date same))
+    ∙ ap (λ (read : Result Date DayFault). option_map Some (result_ok read)) (sym (reads ∙ ap read_day same))
 
 -- `state_in` returns the state that is read from the text `word` of its argument.
 pub state_read : (m : ArgMatches) (id word bytes : List ℕ) (read : Option State) → id ≡ id_of InState

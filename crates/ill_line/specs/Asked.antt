@@ -11,7 +11,8 @@ use Rattle.ill_values.specs.Text.{qualifier_check}
 use Rattle.ill_values.specs.TxnId.{Qualifiers, txn_id_of}
 use Rattle.ill_core.specs.declared.state.State.{State}
 use Rattle.ill_saved.specs.declared.role.Role.{Role}
-use Rattle.ill_words.specs.Words.{◌>>=◌, who_named, day_of, number_of}
+use Rattle.ill_days.specs.Days.{day_of_text}
+use Rattle.ill_words.specs.Words.{◌>>=◌, who_named, number_of}
 use Rattle.ill_values.specs.declared.fault.TextFault.{TextFault}
 use Rattle.ill_text.specs.declared.fault.ToolFault.{ToolFault}
 use Rattle.ill_text.specs.declared.fault.ToolFault.TheVariants.{Arguments, OutOfMemory}
@@ -100,11 +101,11 @@ words_if false words = None
 abbrev pub note_words_of : Found → Option (List (List ℕ))
 note_words_of found = texts_of NoteWords found >>= λ words. words_if (is_note (note_text words)) words
 
--- Returns the day that an optional word spells. It is Some None without a word, and None if the word is no
--- day.
+-- Returns the day that an optional word spells, with hyphens or without. It is Some None without a word, and None if the
+-- word is no day.
 abbrev pub day_said : Option (List ℕ) → Option (Option Date)
 day_said None = Some None
-day_said (Some word) = option_map Some (day_of word)
+day_said (Some word) = option_map Some (day_of_text word)
 
 -- Returns the day of the optional argument `argument`, as `day_said` does.
 abbrev pub day_in : Argument → Found → Option (Option Date)
@@ -146,7 +147,7 @@ stamp_if is_kept found = stamp_of found >>= stamp_unless is_kept
 
 -- Returns the day of an argument that must be given, if it is one.
 abbrev pub day_given : Argument → Found → Option Date
-day_given argument found = text_of argument found >>= day_of
+day_given argument found = text_of argument found >>= day_of_text
 
 -- Returns the span of figures, if both days are valid and the last is not before the first.
 abbrev pub span_of : Found → Option Span
@@ -205,10 +206,10 @@ days_on today digits = number_of digits >>= λ days. result_ok (day_after days t
 
 -- Returns the day of a word. It is a day or, if `today` is given, a plus sign and a number of days after it.
 abbrev pub day_or_days : Option Date → List ℕ → Option Date
-day_or_days None word = day_of word
-day_or_days (Some today) [] = day_of []
+day_or_days None word = day_of_text word
+day_or_days (Some today) [] = day_of_text []
 day_or_days (Some today) (byte ∷ digits) =
-    if byte == 0x2B then days_on today digits else day_of (byte ∷ digits)
+    if byte == 0x2B then days_on today digits else day_of_text (byte ∷ digits)
 
 -- Returns the day of an optional word, as `day_or_days` does. It is Some None without a word.
 abbrev pub due_said : Option Date → Option (List ℕ) → Option (Option Date)

@@ -16,7 +16,8 @@ messages are carried, by mail or by hand, is left to the libraries. `ill COMMAND
 
 A loan is named by its GROUP and TRANSACTION, of 1 to 64 characters of ASCII
 each, from space to tilde. If one begins with a hyphen, `--` goes before the
-arguments. A day is eight digits, as 20250315, of the years 1900 to 9999.
+arguments. A day is eight digits, as 20250315, of the years 1900 to 9999. After
+an option it may have hyphens, as 2025-03-15.
 
 FILE has at most 67,108,864 bytes. Only `new`, `act`, `take`, `inbox` and
 `exchange` change it. `show`, `check`, `simulate` and `simulate-desks` read and

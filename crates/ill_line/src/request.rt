@@ -15,6 +15,7 @@ use crate::command_line::{Argument, Name, SHELF, command, is_option};
 use clap::error::ErrorKind;
 use clap::{ArgMatches, Command, Error};
 use ill_core::State;
+use ill_days::read_day;
 use ill_desk::take::TakeForm;
 use ill_figures::figures::{FiguresView, Span};
 use ill_files::paths::is_beside;
@@ -491,7 +492,8 @@ fn stamp_if<'a>(is_kept: bool, matches: &ArgMatches<'a>) -> Result<Option<Stamp<
 {
     match stamp(matches) {
         Ok(Some(_)) if !is_kept => Err(Refusal::Fault(ToolFault::Arguments)),
-        stamp => stamp,
+        Ok(stamp) => Ok(stamp),
+        Err(refusal) => Err(refusal),
     }
 }
 
@@ -1004,7 +1006,7 @@ fn day_or_days(word: &[u8], today: Option<Day>) -> Option<Day>
 {
     match (today, word) {
         (Some(today), [b'+', digits @ ..]) => days_on(today, digits),
-        _ => Day::read(word).ok(),
+        _ => read_day(word).ok(),
     }
 }
 
@@ -1033,7 +1035,7 @@ fn day(matches: &ArgMatches<'_>, argument: Argument) -> Result<Option<Day>, Refu
     ensures { ReadsValue (λ day. day) (day_in argument (rows_of (found_of matches.now))) result }
 {
     match matches.get_str(argument.id()) {
-        Some(word) => match Day::read(word.as_bytes()) {
+        Some(word) => match read_day(word.as_bytes()) {
             Ok(day) => Ok(Some(day)),
             Err(_) => Err(Refusal::Fault(ToolFault::Arguments)),
         },
@@ -1046,7 +1048,7 @@ fn day_given(alloc: Global, matches: &ArgMatches<'_>, argument: Argument) -> Res
     ensures { ReadsValue (λ day. day) (day_given argument (rows_of (found_of matches.now))) result }
 {
     let word = text(alloc, matches, argument)?;
-    match Day::read(word.as_bytes()) {
+    match read_day(word.as_bytes()) {
         Ok(day) => Ok(day),
         Err(_) => Err(Refusal::Fault(ToolFault::Arguments)),
     }

@@ -86,9 +86,9 @@ If none fails, it is {failed} if mails are left, or with; Else it is {refused} i
 If DIR is no shelf, it is {refused} with `no-record`
 A due date is soon if it is at most {soon} days away
 """
-# Numbers in names, and what they are no numbers of: standards, letters, versions of this program.
+# Numbers in names, and what they are no numbers of: standards, letters, versions of this program, a day with hyphens.
 NAMES = r"`\+14` is the day 14|UTF-8|Code 128|`[0-9a-f]{32}-\d{3}`|SHA-256|ISO \d+(?:-\d)?|RFC 4180|X\.690|U\+00\d\d" \
-        r"|ill 0\.1\b|\b0\.1 does|simple two-party profile"
+        r"|ill 0\.1\b|\b0\.1 does|simple two-party profile|hyphens, as \d{4}-\d\d-\d\d\b"
 
 # The faults of a key.
 KEY_FAULTS = ["key missing", "key unreadable", "key open", "key size", "key digits", "key check"]

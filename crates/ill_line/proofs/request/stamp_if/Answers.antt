@@ -1,0 +1,7 @@
+-- Answers the contract of `stamp_if` (`src/request.rt`).
+use Rattle.ill_line.proofs.RequestLemmas.{refused_on}
+use Rattle.ill_line.proofs.request.stamp_if.Goals as goal
+
+-- A right refusal of the day and the name is one of the stamp.
+pub returns-in-Err : goal.returns-in-Err
+returns-in-Err c = refused_on _ _ _ c.in-Err.ensures

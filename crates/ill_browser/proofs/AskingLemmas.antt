@@ -1,5 +1,5 @@
 -- Proves what holds of a request that asks for something.
-use Rattle.std.proofs.Common.{◌≡◌, ◌∙◌, ◌≤◌, ◌⊎◌, inl, inr, ⊎_elim, ℕ, Bool, true, false, List, length}
+use Rattle.std.proofs.Common.{◌≡◌, ◌≤◌, ◌⊎◌, inl, inr, ⊎_elim, ℕ, Bool, true, false, List, length}
 use Rattle.std.proofs.Common.{Result, Ok, Err, refl, sym, subst, arith, rules}
 use Rattle.std.specs.Prelude.{◌==◌, not, nat_lt, if◌then◌else◌, bytes_eq, codes}
 use Rattle.std.proofs.lemmas.Bool.Decides.{nat_tests}
@@ -167,16 +167,21 @@ asks_by_form rules v body asked post e =
       posts = posted.1;
     }
 
+-- The body of a request has at most 4,096 bytes.
+pub sized_few : (rules : RulesShown) (v : VisitShown) (size : ℕ) → body_size rules v ≡ Ok size → size ≤ 4096
+sized_few rules v size e =
+    let root = passed_unless (is_root v.path) refusals.NoPage _ size e in
+    ⊎_elim
+    (λ look. subst (λ size. size ≤ 4096) (sym look.1) (omega arith))
+    (λ post. (form_is_fit rules v size post.1.1).few)
+    (at_look (is_look v) (is_post v) (form_size rules v) size root.1)
+
 -- The body of a request that asks for something has at most 4,096 bytes.
 pub asks_few : (rules : RulesShown) (v : VisitShown) (body : List ℕ) (asked : Asked) → wanted_of rules v body ≡ Ok asked
     → length body ≤ 4096
 asks_few rules v body asked e =
     let whole = asks_whole rules v body asked e in
-    let root = passed_unless (is_root v.path) refusals.NoPage _ whole.size whole.sized in
-    ⊎_elim
-    (λ look. subst (λ size. size ≤ 4096) (sym (whole.full ∙ look.1)) (omega arith))
-    (λ post. subst (λ size. size ≤ 4096) (sym whole.full) (form_is_fit rules v whole.size post.1.1).few)
-    (at_look (is_look v) (is_post v) (form_size rules v) whole.size root.1)
+    subst (λ size. size ≤ 4096) (sym whole.full) (sized_few rules v whole.size whole.sized)
 
 -- What a request that looks at a page asks for, its query asks for.
 pub asks_by_query : (rules : RulesShown) (v : VisitShown) (body : List ℕ) (asked : Asked) → is_look v ≡ true

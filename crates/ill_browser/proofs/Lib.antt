@@ -4,3 +4,4 @@ pub mod AskingLemmas
 pub mod LookLemmas
 pub mod ChangeLemmas
 pub mod BadAskings
+pub mod ReadingLemmas

@@ -189,18 +189,18 @@ Reads asked (Ok wanted) = asked ≡ Ok (asked_of wanted)
 Reads asked (Err OutOfMemory) = Unit {0}
 Reads asked (Err refusal) = asked ≡ Err refusal
 
--- The body broke off, or could not be read. Or memory ran out.
-abbrev pub BreaksOff : {X : Type 0} → (size : ℕ) → Result X VisitFault → Type 0
-BreaksOff size (Err Cut) = 0 < size
-BreaksOff size (Err OutOfMemory) = Unit {0}
-BreaksOff size other = ⊥
+-- The body broke off, or could not be read. Or memory ran out, and nothing was read.
+abbrev pub BreaksOff : {X : Type 0} → (size : ℕ) → (left rest : Option (List ℕ)) → Result X VisitFault → Type 0
+BreaksOff size left rest (Err Cut) = 0 < size
+BreaksOff size left rest (Err OutOfMemory) = rest ≡ left
+BreaksOff size left rest other = ⊥
 
 -- The `size` bytes of the body were read, and the result is what was asked with them. Or they could not be read.
 abbrev pub ReadsBody : (size : ℕ) → (List ℕ → Result Asked VisitFault) → (left rest : Option (List ℕ)) →
     Result Wanted VisitFault → Type 0
 ReadsBody size wanted left rest result =
     ((body : List ℕ) × (length body ≡ size) × Consumes left rest body × Reads (wanted body) result)
-    ⊎ BreaksOff size result
+    ⊎ BreaksOff size left rest result
 
 -- A request has this result. It was refused, and nothing was read. Or exactly its body was read.
 abbrev pub Answers : Result ℕ VisitFault → (List ℕ → Result Asked VisitFault) → (left rest : Option (List ℕ)) →

@@ -80,7 +80,7 @@ pub(crate) fn read_body<R: Read>(
 ) -> Result<Vec<u8>, VisitFault>
     ensures { MatchResult result
         (λ body. (length body.items ≡ size) × Consumes (R.remaining reader.old) (R.remaining reader.new) body.items)
-        (λ refusal. BreaksOff size result) }
+        (λ refusal. BreaksOff size (R.remaining reader.old) (R.remaining reader.new) result) }
 {
     let mut body = vec![in alloc; 0; size]?;
     if size == 0 {

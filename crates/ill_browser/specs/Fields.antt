@@ -1,11 +1,12 @@
 -- The fields of a form, as a browser sends them.
-use Rattle.std.specs.Prelude.{ℕ, Bool, ◌&&◌, ◌==◌, if◌then◌else◌, List, ◌++◌, map, filter, find, take, drop, length, codes}
+use Rattle.std.specs.Prelude.{ℕ, Bool, ◌==◌, if◌then◌else◌, List, map, filter, find, length, codes}
 use Rattle.std.specs.Prelude.{Option, Some, None, option_map}
 use Rattle.std.specs.Prelude.{string_bytes, bytes_eq}
 use Rattle.std.specs.List.{flat_map, list_all, list_any}
 use Rattle.std.specs.Option.{option_to_list}
 use Rattle.std.specs.Str.Lossy.{utf8_lossy}
 use Rattle.form_urlencoded.specs.Form.{raw_pairs, decode}
+use Rattle.ill_days.specs.Days.{day_digits}
 use Rattle.ill_browser.specs.declared.field.Field.{Field}
 
 -- A field: its name as it is written, and its value.
@@ -47,15 +48,6 @@ only_named name fields = if count_named name fields == 1 then first_named name f
 -- Returns true if each field has one of these names.
 abbrev pub are_named : List (List ℕ) → List Pair → Bool
 are_named names fields = list_all (λ field. list_any (λ name. is_named name field) names) fields
-
--- Returns true if `text` has the shape of a day that a browser sends: four bytes, two and two, with hyphens between.
-abbrev pub is_dashed : List ℕ → Bool
-is_dashed text =
-    length text == 10 && bytes_eq (take 1 (drop 4 text)) (codes "-") && bytes_eq (take 1 (drop 7 text)) (codes "-")
-
--- Returns the digits of a day, as `20250315` of `2025-03-15`. A text of another shape is returned as it is.
-abbrev pub day_digits : List ℕ → List ℕ
-day_digits text = if is_dashed text then take 4 text ++ take 2 (drop 5 text) ++ drop 8 text else text
 
 -- Returns the word of a day: its digits. No text at all is `none`.
 abbrev pub day_word : List ℕ → List ℕ

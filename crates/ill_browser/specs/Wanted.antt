@@ -3,14 +3,15 @@ use Rattle.std.specs.Prelude.{◌≡◌, ◌⊎◌, ℕ, ◌<◌, Bool, true, fa
 use Rattle.std.specs.Prelude.{Option, Some, None, option_map, Result, Ok, Err, bytes_eq, string_bytes}
 use Rattle.std.specs.Result.{result_ok}
 use Rattle.std.specs.Io.KnownBytes.{Consumes}
-use Rattle.ill_values.specs.Day.{Date, read_date}
+use Rattle.ill_values.specs.Day.{Date}
+use Rattle.ill_days.specs.Days.{day_of_text}
 use Rattle.ill_values.specs.TxnId.{Qualifiers, txn_id_of}
 use Rattle.ill_browser.specs.declared.fault.VisitFault.{VisitFault}
 use Rattle.ill_browser.specs.declared.fault.VisitFault.TheVariants.{Cut, Fields, OutOfMemory}
 use Rattle.ill_browser.specs.declared.wanted.Wanted.{Wanted}
 use Rattle.ill_browser.specs.declared.wanted.Wanted.TheVariants as wants
 use Rattle.ill_browser.specs.declared.wanted.LoanName.{LoanName}
-use Rattle.ill_browser.specs.Fields.{Pair, fields_in, only_named, are_named, day_digits, words_in}
+use Rattle.ill_browser.specs.Fields.{Pair, fields_in, only_named, are_named, words_in}
 use Rattle.ill_browser.specs.Visit.{RulesShown, VisitShown, body_size, is_look}
 
 -- A loan, and the text that names its desk.
@@ -131,7 +132,7 @@ found_named fields = do
 abbrev pub day_named : List ℕ → List Pair → Option Date
 day_named name fields = do
   text ← only_named name fields
-  result_ok (read_date (day_digits text))
+  day_of_text text
 
 -- Returns the figures that the fields of a query name.
 abbrev pub figures_named : List Pair → Option Asked

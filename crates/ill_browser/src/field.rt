@@ -1,10 +1,11 @@
 //! The fields of a form, in the query of a URL or in the body of a request.
 
-ghost use Rattle.std.specs.Prelude.{◌≡◌, ◌++◌, drop, length, take, map, option_map, option_copied, find, bytes_eq, string_bytes, IfOk};
+ghost use Rattle.std.specs.Prelude.{◌≡◌, map, option_map, option_copied, find, bytes_eq, string_bytes, IfOk};
 ghost use Rattle.std.specs.List.{list_any};
-ghost use Rattle.ill_browser.specs.Fields.{are_named, count_named, day_digits, day_word, field_shown, fields_in, first_named, is_dashed, is_named, only_named, text_of, word_in, words_in};
+ghost use Rattle.ill_browser.specs.Fields.{are_named, count_named, day_word, field_shown, fields_in, first_named, is_named, only_named, text_of, word_in, words_in};
 
 use form_urlencoded::{decode, raw_pairs};
+use ill_days::undashed;
 use ill_values::OutOfMemory;
 use std::alloc::Global;
 
@@ -140,37 +141,10 @@ fn day_word(alloc: Global, text: &[u8]) -> Result<Vec<u8>, OutOfMemory>
     ensures { IfOk result (λ word. word.items ≡ day_word text.now) }
 {
     if text.is_empty() {
-        Vec::from_slice(alloc, b"none")
-    } else {
-        day_digits(alloc, text)
+        return Vec::from_slice(alloc, b"none");
     }
-}
-
-/// Returns the digits of a day, as `20250315` of `2025-03-15`. A text of another shape is returned as it is.
-pub(crate) fn day_digits(alloc: Global, text: &[u8]) -> Result<Vec<u8>, OutOfMemory>
-    ensures { IfOk result (λ digits. digits.items ≡ day_digits text.now) }
-{
-    if is_dashed(text) {
-        undashed(alloc, text)
-    } else {
-        Vec::from_slice(alloc, text)
+    match undashed(text) {
+        Some(digits) => Vec::from_slice(alloc, &digits),
+        None => Vec::from_slice(alloc, text),
     }
-}
-
-/// Returns true if `text` has the shape of a day that a browser sends.
-fn is_dashed(text: &[u8]) -> bool
-    ensures { result ≡ is_dashed text.now }
-{
-    text.len() == 10 && &text[4..5] == "-".as_bytes() && &text[7..8] == "-".as_bytes()
-}
-
-/// Returns the bytes of a day without its hyphens.
-fn undashed(alloc: Global, text: &[u8]) -> Result<Vec<u8>, OutOfMemory>
-    requires { length text.now ≡ 10 }
-    ensures { IfOk result (λ word. word.items ≡ take 4 text.now ++ take 2 (drop 5 text.now) ++ drop 8 text.now) }
-{
-    let mut word = Vec::from_slice(alloc, &text[..4])?;
-    word.extend_from_slice(&text[5..7])?;
-    word.extend_from_slice(&text[8..])?;
-    Ok(word)
 }

@@ -9,8 +9,9 @@ ghost use Rattle.ill_browser.specs.Wanted.{Answers, Reads, ReadsNamed, act_named
 
 use crate::body::read_body;
 use crate::fault::VisitFault;
-use crate::field::{Field, are_named, day_digits, only, read_fields, words};
+use crate::field::{Field, are_named, only, read_fields, words};
 use crate::visit::{Rules, Visit, body_size, is_look};
+use ill_days::read_day;
 use ill_values::{Day, TextFault, TxnId};
 use std::alloc::Global;
 use std::io::Read;
@@ -135,7 +136,7 @@ fn looked_beside(alloc: Global, fields: &[Field<'_>]) -> Result<Wanted, VisitFau
     if are_named(fields, &SLIP_NAMES) {
         slip(alloc, fields)
     } else if are_named(fields, &FIGURES_NAMES) {
-        figures(alloc, fields)
+        figures(fields)
     } else {
         Err(VisitFault::Fields)
     }
@@ -174,23 +175,22 @@ fn is_slip(fields: &[Field<'_>]) -> bool
 }
 
 /// Reads the figures that the fields name.
-fn figures(alloc: Global, fields: &[Field<'_>]) -> Result<Wanted, VisitFault>
+fn figures(fields: &[Field<'_>]) -> Result<Wanted, VisitFault>
     ensures { Reads (or_fields (figures_named (map field_shown fields.now))) result }
 {
-    let from = day(alloc, fields, "from")?;
-    let to = day(alloc, fields, "to")?;
+    let from = day(fields, "from")?;
+    let to = day(fields, "to")?;
     Ok(Wanted::Figures { from, to })
 }
 
 /// Reads the day in the only field with this name.
-fn day(alloc: Global, fields: &[Field<'_>], name: &str) -> Result<Day, VisitFault>
+fn day(fields: &[Field<'_>], name: &str) -> Result<Day, VisitFault>
     ensures { ReadsNamed (λ day. day) (day_named name.now (map field_shown fields.now)) result }
 {
     let Some(text) = only(fields, name) else {
         return Err(VisitFault::Fields);
     };
-    let digits = day_digits(alloc, text.as_bytes())?;
-    match Day::read(&digits) {
+    match read_day(text.as_bytes()) {
         Ok(day) => Ok(day),
         Err(_) => Err(VisitFault::Fields),
     }

@@ -1,0 +1,60 @@
+-- A mail is added to a run.
+use Rattle.std.proofs.Common.{◌≡◌, ◌⊎◌, inl, inr, ⊎_elim, refl, sym, ◌∙◌, ap, subst, ℕ, zero, suc, true, List, []}
+use Rattle.std.proofs.Common.{◌∷◌, ◌++◌, length, slice_get, Option, Some, IfSome}
+use Rattle.std.proofs.lemmas.Bool.{and_parts, and_from}
+use Rattle.std.proofs.lemmas.Option.{none-some}
+use Rattle.ill_disk.proofs.Memory.{value_or}
+use Rattle.ill_mail_disk.specs.Keeping.{KeeperOf}
+use Rattle.ill_mail_disk.specs.Spots.{SpotOf}
+use Rattle.ill_mail_disk.specs.Runs.{IsSpread, are_spread, is_admitted, is_spread_from, is_spread_from_all, keeps_off, spares}
+
+-- An element of a list with one more is of the list, or the one more.
+last_or : {X : Type 0} (xs : List X) (y : X) (i : ℕ) (z : X) → slice_get (xs ++ y ∷ []) i ≡ Some z →
+    (slice_get xs i ≡ Some z) ⊎ ((i ≡ length xs) × (y ≡ z))
+last_or [] y zero z is = inr (refl, ap (value_or y) is)
+last_or [] y (suc i) z is = absurd (none-some z is)
+last_or (x ∷ xs) y zero z is = inl is
+last_or (x ∷ xs) y (suc i) z is = ⊎_elim (λ l. inl l) (λ r. inr (ap suc r.0, r.1)) (last_or xs y i z is)
+
+-- A mail that is spread from all is spread from each.
+spread_each : (spot : SpotOf) (spots : List (Option SpotOf)) (i : ℕ) (other : SpotOf) →
+    is_spread_from_all spot spots ≡ true → slice_get spots i ≡ Some (Some other) → are_spread spot other ≡ true
+spread_each spot [] i other all is = absurd (none-some (Some other) is)
+spread_each spot (x ∷ spots) zero other all is =
+    subst (λ (o : Option SpotOf). is_spread_from spot o ≡ true) (ap (value_or x) is)
+    (and_parts (is_spread_from spot x) (is_spread_from_all spot spots) all).0
+spread_each spot (x ∷ spots) (suc i) other all is =
+    spread_each spot spots i other (and_parts (is_spread_from spot x) (is_spread_from_all spot spots) all).1 is
+
+-- If one mail is spread from another, the other is from it.
+spread_both : (one other : SpotOf) → are_spread one other ≡ true → are_spread other one ≡ true
+spread_both one other is =
+    let parts = and_parts (spares one other) (spares other one) is in
+    and_from (spares other one) (spares one other) parts.1 parts.0
+
+-- What the run tells of a mail that is added.
+told : (asked : KeeperOf) (spots : List (Option SpotOf)) (x : Option SpotOf) (spot : SpotOf) →
+    IfSome x (λ s. is_admitted asked spots s ≡ true) → x ≡ Some spot → is_admitted asked spots spot ≡ true
+told asked spots x spot is same = subst (λ (o : Option SpotOf). IfSome o (λ s. is_admitted asked spots s ≡ true)) same is
+
+-- With a mail that it admits a run is spread.
+pub add_spread : (asked : KeeperOf) (spots : List (Option SpotOf)) (x : Option SpotOf) → IsSpread asked spots →
+    IfSome x (λ s. is_admitted asked spots s ≡ true) → IsSpread asked (spots ++ x ∷ [])
+add_spread asked spots x spread is = record {
+  mails = λ mail other spot second one two differ. ⊎_elim
+      (λ first. ⊎_elim
+      (λ also. spread.mails mail other spot second first also differ)
+      (λ last. spread_both second spot (spread_each second spots mail spot
+      (and_parts (keeps_off asked second) (is_spread_from_all second spots) (told asked spots x second is last.1)).1 first))
+      (last_or spots x other (Some second) two))
+      (λ last. ⊎_elim
+      (λ also. spread_each spot spots other second
+      (and_parts (keeps_off asked spot) (is_spread_from_all spot spots) (told asked spots x spot is last.1)).1 also)
+      (λ both. absurd (differ (last.0 ∙ sym both.0)))
+      (last_or spots x other (Some second) two))
+      (last_or spots x mail (Some spot) one);
+  asked = λ mail spot one. ⊎_elim
+      (λ first. spread.asked mail spot first)
+      (λ last. (and_parts (keeps_off asked spot) (is_spread_from_all spot spots) (told asked spots x spot is last.1)).0)
+      (last_or spots x mail (Some spot) one);
+}

@@ -1,0 +1,47 @@
+-- The paths of a mail differ.
+use Rattle.std.proofs.Common.{◌≡◌, sym, ◌∙◌, subst, ℕ, true, not, ◌&&◌, List, [], ◌∷◌}
+use Rattle.std.specs.Str.{bytes_eq}
+use Rattle.std.proofs.lemmas.Bool.{true≢false, and_parts, not-true}
+use Rattle.std.proofs.lemmas.Slice.Eq.{bytes_eq-Decides}
+use Rattle.ill_mail_disk.specs.Touches.{IsNoneOf}
+use Rattle.ill_mail_disk.specs.Spots.{SpotOf, are_apart, is_none_of}
+
+-- The paths of a mail are apart.
+pub record AreApart (spot : SpotOf) : Type 0 where
+  pub claimed : IsNoneOf (spot.waiting ∷ spot.aside ∷ spot.reason ∷ []) spot.claimed
+  pub waiting : IsNoneOf (spot.aside ∷ spot.reason ∷ []) spot.waiting
+  pub aside : IsNoneOf (spot.reason ∷ []) spot.aside
+
+-- A path that is tested is none of these.
+pub none_of : (paths : List (List ℕ)) (path : List ℕ) → is_none_of paths path ≡ true → IsNoneOf paths path
+none_of [] path is = tt
+none_of (other ∷ paths) path is =
+    let parts = and_parts (not (bytes_eq other path)) (is_none_of paths path) is in (
+      λ same.
+          true≢false (sym ((bytes_eq-Decides other path).1 same) ∙ not-true (bytes_eq other path) parts.0),
+      none_of paths path parts.1,
+    )
+
+-- The paths of a mail that is tested are apart.
+pub apart_of : (spot : SpotOf) → are_apart spot ≡ true → AreApart spot
+apart_of spot is =
+    let parts = and_parts (is_none_of (spot.waiting ∷ spot.aside ∷ spot.reason ∷ []) spot.claimed
+    && is_none_of (spot.aside ∷ spot.reason ∷ []) spot.waiting)
+    (is_none_of (spot.reason ∷ []) spot.aside) is in
+    let first = and_parts (is_none_of (spot.waiting ∷ spot.aside ∷ spot.reason ∷ []) spot.claimed)
+    (is_none_of (spot.aside ∷ spot.reason ∷ []) spot.waiting) parts.0 in record {
+      claimed = none_of (spot.waiting ∷ spot.aside ∷ spot.reason ∷ []) spot.claimed first.0;
+      waiting = none_of (spot.aside ∷ spot.reason ∷ []) spot.waiting first.1;
+      aside = none_of (spot.reason ∷ []) spot.aside parts.1;
+    }
+
+-- Copies of paths that are apart are apart.
+pub copies_apart : (c w a r c' w' a' r' : List ℕ) (file : ℕ) → c' ≡ c → w' ≡ w → a' ≡ a → r' ≡ r →
+    are_apart (record { claimed = c; waiting = w; aside = a; reason = r; file = file }) ≡ true →
+    are_apart (record { claimed = c'; waiting = w'; aside = a'; reason = r'; file = file }) ≡ true
+copies_apart c w a r c' w' a' r' file one two three four apart =
+    subst (λ x. are_apart (record { claimed = x; waiting = w'; aside = a'; reason = r'; file = file }) ≡ true) (sym one)
+    (subst (λ x. are_apart (record { claimed = c; waiting = x; aside = a'; reason = r'; file = file }) ≡ true) (sym two)
+    (subst (λ x. are_apart (record { claimed = c; waiting = w; aside = x; reason = r'; file = file }) ≡ true) (sym three)
+    (subst (λ x. are_apart (record { claimed = c; waiting = w; aside = a; reason = x; file = file }) ≡ true) (sym four)
+    apart)))

@@ -1,0 +1,114 @@
+-- The definitions of `Spots` and `Runs` exclude each case of `BadMails`.
+use Rattle.std.proofs.Common.{◌≡◌, ◌⊎◌, inl, inr, ⊎_elim, refl, sym, ◌∙◌, ap, subst, ℕ, zero, suc, Bool, true, false, List, []}
+use Rattle.std.proofs.Common.{◌∷◌, slice_get, Option, Some, option_map, Result, Ok, Err}
+use Rattle.std.proofs.lemmas.Bool.{true≢false}
+use Rattle.std.proofs.lemmas.Option.{none-some}
+use Rattle.ill_disk.specs.Disk.{File, Disk, AreLeft, Crash, bytes_of, found_at}
+use Rattle.ill_disk.specs.Calls.{DiskState}
+use Rattle.ill_disk.proofs.Memory.{value_or}
+use Rattle.ill_disk.proofs.Moments.{each_moment}
+use Rattle.ill_mail_disk.specs.MailCalls.{is_file}
+use Rattle.ill_mail_disk.specs.Touches.{TouchesOnly}
+use Rattle.ill_mail_disk.specs.Spots.{SpotOf, Place, Waiting, Claimed, Aside, Gone, GivesMailBack, Outlasts, Survives, moved}
+use Rattle.ill_mail_disk.specs.Spots.{place_by}
+use Rattle.ill_mail_disk.specs.Runs.{RunState, ComesAt, MovesInRun}
+use Rattle.ill_mail_disk.specs.BadMails.{LosesMail, at_no_path, IsBadMove, other_moves, third_place, unclaimed_moves, not_moved}
+use Rattle.ill_mail_disk.specs.BadMails.{other_asks, IsBadGivingBack, over_another}
+use Rattle.ill_mail_disk.proofs.Staying.{is_this}
+
+-- ---- losses of power
+
+-- A test that is not true is false.
+not_so : (b : Bool) → (b ≡ true → ⊥) → b ≡ false
+not_so true not_true = absurd (not_true refl)
+not_so false not_true = refl
+
+-- A mail whose file is at none of its paths is gone.
+gone_by : (aside waiting claimed : Bool) → aside ≡ false → waiting ≡ false → claimed ≡ false →
+    place_by aside waiting claimed ≡ Gone
+gone_by true waiting claimed a w c = absurd (true≢false a)
+gone_by false true claimed a w c = absurd (true≢false w)
+gone_by false false true a w c = absurd (true≢false c)
+gone_by false false false a w c = refl
+
+-- No loss of power loses a mail that survives.
+pub none_lost : (spot : SpotOf) (old new : DiskState) → Survives spot old new → LosesMail spot old new → ⊥
+none_lost spot old new survives (at_no_path moment after h outlasts at crash none) =
+    let missing : (path : List ℕ) → ((found_at path after.names ≡ Some spot.file) → ⊥) →
+    is_file spot.file (found_at path after.names) ≡ false =
+    λ path not_there. not_so (is_file spot.file (found_at path after.names))
+    (λ is. not_there (is_this spot.file (found_at path after.names) is)) in
+    each_moment (Outlasts spot) old new moment (survives h outlasts) at after.names crash.names
+    (gone_by (is_file spot.file (found_at spot.aside after.names)) (is_file spot.file (found_at spot.waiting after.names))
+    (is_file spot.file (found_at spot.claimed after.names))
+    (missing spot.aside (none spot.aside (inr (inr (inl refl)))))
+    (missing spot.waiting (none spot.waiting (inr (inl refl))))
+    (missing spot.claimed (none spot.claimed (inl refl))))
+
+-- A crash leaves the bytes of a flushed file.
+left_at : (before after : List File) (file : ℕ) (f : File) → AreLeft before after → slice_get before file ≡ Some f →
+    f.is_flushed ≡ true → bytes_of after (Some file) ≡ Some f.bytes
+left_at [] after file f left is flushed = absurd (none-some f is)
+left_at (e ∷ before) [] file f left is flushed = absurd left
+left_at (e ∷ before) (g ∷ after) zero f left is flushed =
+    let same : e ≡ f = ap (value_or e) is in
+    ap Some (left.0.bytes (ap (λ (x : File). x.is_flushed) same ∙ flushed) ∙ ap (λ (x : File). x.bytes) same)
+left_at (e ∷ before) (g ∷ after) (suc file) f left is flushed = left_at before after file f left.1 is flushed
+
+-- A loss of power leaves the bytes of a file that was flushed before.
+pub flushed_lasts : (paths : List (List ℕ)) (old moment after : Disk) (file : ℕ) (f : File) → TouchesOnly paths old moment →
+    slice_get old.files file ≡ Some f → f.is_flushed ≡ true → Crash moment after →
+    bytes_of after.files (Some file) ≡ Some f.bytes
+flushed_lasts paths old moment after file f touches is flushed crash =
+    let now = touches.files file f is in
+    left_at moment.files after.files file now.0 crash.files now.1 (now.2.flushed flushed) ∙ ap Some now.2.bytes
+
+-- ---- moves
+
+-- Where a claimed mail comes is its own place, or the one to which it is moved.
+claimed_comes : {A E : Type 0} (to place : Place) (x y : Option Place) (answer : Result A E) → x ≡ Some Claimed →
+    y ≡ Some place → ComesAt to x answer y → (place ≡ Claimed) ⊎ (place ≡ to)
+claimed_comes to place x y (Ok done) is_x is_y comes =
+    inr (ap (value_or to) (sym is_y ∙ comes ∙ ap (option_map (moved to)) is_x))
+claimed_comes to place x y (Err fault) is_x is_y comes = ⊎_elim
+    (λ stays. inl (ap (value_or Claimed) (sym is_y ∙ stays ∙ is_x)))
+    (λ moves. inr (ap (value_or to) (sym is_y ∙ moves ∙ ap (option_map (moved to)) is_x))) comes
+
+-- A mail that is not claimed does not move.
+unmoved : (to place : Place) → (place ≡ Claimed → ⊥) → moved to place ≡ place
+unmoved to Waiting differ = refl
+unmoved to Claimed differ = absurd (differ refl)
+unmoved to Aside differ = refl
+unmoved to Gone differ = refl
+
+-- A mail that is not claimed stays.
+unclaimed_comes : {A E : Type 0} (to place : Place) (x y : Option Place) (answer : Result A E) → x ≡ Some place →
+    (place ≡ Claimed → ⊥) → ComesAt to x answer y → y ≡ Some place
+unclaimed_comes to place x y (Ok done) is differ comes =
+    comes ∙ ap (option_map (moved to)) is ∙ ap Some (unmoved to place differ)
+unclaimed_comes to place x y (Err fault) is differ comes = ⊎_elim (λ stays. stays ∙ is)
+    (λ moves. moves ∙ ap (option_map (moved to)) is ∙ ap Some (unmoved to place differ)) comes
+
+-- After a call that is done a claimed mail is where it was moved.
+done_comes : {A E : Type 0} (to : Place) (x y : Option Place) (answer : Result A E) (done : A) → answer ≡ Ok done →
+    x ≡ Some Claimed → ComesAt to x answer y → y ≡ Some to
+done_comes {A = A} {E = E} to x y answer done is is_x comes =
+    subst (λ (r : Result A E). ComesAt to x r y) is comes ∙ ap (option_map (moved to)) is_x
+
+-- No move is bad.
+pub no_bad_move : {A E : Type 0} (to : Place) (mail : ℕ) (old new : RunState) (answer : Result A E) →
+    MovesInRun to mail old answer new → IsBadMove to mail old answer new → ⊥
+no_bad_move to mail old new answer moves (other_moves other place h differ was lost) =
+    lost ((moves.else_same h).others other differ ∙ was)
+no_bad_move to mail old new answer moves (third_place place h was is not_claimed not_to) = ⊎_elim not_claimed not_to
+    (claimed_comes to place (slice_get old.places mail) (slice_get new.places mail) answer was is (moves.here h))
+no_bad_move to mail old new answer moves (unclaimed_moves place h was differ lost) =
+    lost (unclaimed_comes to place (slice_get old.places mail) (slice_get new.places mail) answer was differ (moves.here h))
+no_bad_move to mail old new answer moves (not_moved done h is not_claimed was still) =
+    not_claimed (ap (value_or to) (sym (done_comes to (slice_get old.places mail) (slice_get new.places mail) answer done is
+    was (moves.here h)) ∙ still))
+no_bad_move to mail old new answer moves (other_asks h differ) = differ (moves.else_same h).asked
+
+-- No mail is given back over another file.
+pub none_over_another : (spot : SpotOf) (old new : DiskState) → GivesMailBack spot old new → IsBadGivingBack spot old new → ⊥
+none_over_another spot old new gives (over_another file h stands lost) = lost (gives.stays h file stands)

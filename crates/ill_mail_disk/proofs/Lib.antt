@@ -1,0 +1,13 @@
+pub mod Touching
+pub mod Steps
+pub mod Placing
+pub mod Apart
+pub mod Calling
+pub mod Removing
+pub mod Staying
+pub mod PuttingAside
+pub mod GivingBack
+pub mod Kept
+pub mod Running
+pub mod Adding
+pub mod BadMails

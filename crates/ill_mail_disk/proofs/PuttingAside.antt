@@ -1,0 +1,197 @@
+-- A claimed mail is put aside.
+use Rattle.std.proofs.Common.{◌≡◌, inl, inr, ⊎_elim, refl, sym, ◌∙◌, ap, subst, ℕ, Bool, true, false, List, [], ◌∷◌}
+use Rattle.std.proofs.Common.{Some, Result, Ok, Err, IsErr}
+use Rattle.std.proofs.lemmas.Bool.{true≢false, eq-eqb}
+use Rattle.std.proofs.lemmas.Option.{none-some}
+use Rattle.ill_disk.specs.Disk.{Name, Disk, after_rename, found_at, with_rename}
+use Rattle.ill_disk.specs.Calls.{DiskState, Answers}
+use Rattle.ill_disk.proofs.Crashes.{in_append, in_map}
+use Rattle.ill_disk.proofs.Names.{found_moved}
+use Rattle.ill_mail_disk.specs.MailCalls.{Brings, Tells, is_file}
+use Rattle.ill_mail_disk.specs.Touches.{Touches}
+use Rattle.ill_mail_disk.specs.Spots.{SpotOf, Place, Aside, Gone, place_by, place_in, moved, Comes}
+use Rattle.ill_mail_disk.specs.Spots.{Outlasts, PutsMailAside, StaysThere, aside_paths}
+use Rattle.ill_mail_disk.proofs.Apart.{AreApart}
+use Rattle.ill_mail_disk.proofs.Calling.{brings_touches}
+use Rattle.ill_mail_disk.proofs.Placing.{IsSpared}
+use Rattle.ill_mail_disk.proofs.Removing.{unclaimed_by}
+use Rattle.ill_mail_disk.proofs.Staying.{is_this, stays_spared, stays_tell, stays_then}
+use Rattle.ill_mail_disk.proofs.Steps.{survives_one, survives_then, touches_more, touches_then}
+
+-- A file is itself.
+pub this_file : (file : ℕ) → is_file file (Some file) ≡ true
+this_file file = eq-eqb file file refl
+
+-- Returns true if the place is that of a mail that is gone.
+abbrev pub is_gone : Place → Bool
+is_gone Gone = true
+is_gone place = false
+
+-- A mail that waits does not move.
+waiting_by : (to : Place) (aside waiting claimed : Bool) → waiting ≡ true →
+    place_by aside waiting claimed ≡ moved to (place_by aside waiting claimed)
+waiting_by to true waiting claimed is = refl
+waiting_by to false true claimed is = refl
+waiting_by to false false claimed is = absurd (true≢false (sym is))
+
+-- A claimed mail whose file stands aside then is aside.
+aside_by : (aside aside' waiting waiting' claimed claimed' : Bool) → waiting ≡ false → claimed ≡ true → aside' ≡ true →
+    place_by aside' waiting' claimed' ≡ moved Aside (place_by aside waiting claimed)
+aside_by aside false waiting waiting' claimed claimed' w c a = absurd (true≢false (sym a))
+aside_by aside true true waiting' claimed claimed' w c a = absurd (true≢false w)
+aside_by aside true false waiting' false claimed' w c a = absurd (true≢false (sym c))
+aside_by true true false waiting' true claimed' w c a = refl
+aside_by false true false waiting' true claimed' w c a = refl
+
+-- A mail whose file stands aside is not gone.
+not_gone_aside : (aside waiting claimed : Bool) → aside ≡ true → place_by aside waiting claimed ≡ Gone → ⊥
+not_gone_aside true waiting claimed is gone = true≢false (sym (ap is_gone gone))
+not_gone_aside false waiting claimed is gone = true≢false (sym is)
+
+module _ (spot : SpotOf) (apart : AreApart spot) where
+  -- No path of the mail is that of its reason.
+  reason_spared : IsSpared (spot.reason ∷ []) spot
+  reason_spared = record {
+    claimed = (apart.claimed.1.1.0, tt);
+    waiting = (apart.waiting.1.0, tt);
+    aside = apart.aside;
+  }
+
+  -- A mail stays while its reason is written.
+  pub stays_reason : (old new : DiskState) → Touches (spot.reason ∷ []) old new → StaysThere (aside_paths spot) spot old new
+  stays_reason old new touches =
+      stays_spared (spot.reason ∷ []) (aside_paths spot) spot old new reason_spared (λ p none. (none.0, tt)) touches
+
+  module _ (d : Disk) (found : found_at spot.claimed d.names ≡ Some spot.file) where
+    -- After the rename the file stands aside, in any names.
+    stands_aside : (names : List Name) →
+        found_at spot.aside (with_rename spot.claimed spot.aside (found_at spot.claimed d.names) names) ≡ Some spot.file
+    stands_aside names =
+        found_moved spot.claimed spot.aside spot.file names (found_at spot.claimed d.names) found
+
+    -- After the rename the mail is not gone, in any names.
+    not_gone : (names : List Name) →
+        place_in (with_rename spot.claimed spot.aside (found_at spot.claimed d.names) names) spot ≡ Gone → ⊥
+    not_gone names gone =
+        let after : List Name = with_rename spot.claimed spot.aside (found_at spot.claimed d.names) names in
+        not_gone_aside (is_file spot.file (found_at spot.aside after)) (is_file spot.file (found_at spot.waiting after))
+        (is_file spot.file (found_at spot.claimed after))
+        (ap (is_file spot.file) (stands_aside names) ∙ this_file spot.file) gone
+
+    -- No crash after the rename loses the mail.
+    pub outlasts_rename : Outlasts spot d → Outlasts spot (after_rename spot.claimed spot.aside d)
+    outlasts_rename outlasts names stands gone =
+        let change : List Name → List Name = with_rename spot.claimed spot.aside (found_at spot.claimed d.names) in ⊎_elim
+        (λ before. outlasts names before gone)
+        (λ changed. let from = in_map change d.may_stand names changed in
+        not_gone from.0 (sym (ap (λ (n : List Name). place_in n spot) from.2) ∙ gone))
+        (in_append d.may_stand _ names stands)
+
+    -- After the rename a claimed mail is aside.
+    pub aside_place : is_file spot.file (found_at spot.waiting d.names) ≡ false →
+        place_in (after_rename spot.claimed spot.aside d).names spot ≡ moved Aside (place_in d.names spot)
+    aside_place waits =
+        let after : List Name = (after_rename spot.claimed spot.aside d).names in
+        aside_by (is_file spot.file (found_at spot.aside d.names)) (is_file spot.file (found_at spot.aside after))
+        (is_file spot.file (found_at spot.waiting d.names)) (is_file spot.file (found_at spot.waiting after))
+        (is_file spot.file (found_at spot.claimed d.names)) (is_file spot.file (found_at spot.claimed after))
+        waits (ap (is_file spot.file) found ∙ this_file spot.file)
+        (ap (is_file spot.file) (stands_aside d.names) ∙ this_file spot.file)
+
+-- Where a mail comes that is renamed, or is not.
+brought_comes : {A E : Type 0} (spot : SpotOf) (old new : Disk) (answer : Result A E) (to : Place) (path : List ℕ) →
+    found_at spot.claimed old.names ≡ Some spot.file →
+    place_in (after_rename spot.claimed path old).names spot ≡ moved to (place_in old.names spot) →
+    Brings spot.claimed path old answer new → Comes to (place_in old.names spot) answer (place_in new.names spot)
+brought_comes spot old new (Ok done) to path found place brings = ⊎_elim
+    (λ none. absurd (none-some spot.file (sym none ∙ found)))
+    (λ moved. ap (λ (d : Disk). place_in d.names spot) moved ∙ place) brings.done
+brought_comes spot old new (Err fault) to path found place brings = ⊎_elim
+    (λ same. inl (ap (λ (d : Disk). place_in d.names spot) same))
+    (λ moved. inr (ap (λ (d : Disk). place_in d.names spot) moved ∙ place)) brings.either
+
+-- If a call fails while the mail stays, it is not put aside.
+pub aside_fails : {A E : Type 0} {spot : SpotOf} {old new : DiskState} {answer : Result A E} → IsErr answer →
+    StaysThere (aside_paths spot) spot old new → PutsMailAside spot old answer new
+aside_fails {answer = Ok done} is stays = absurd (true≢false (sym is))
+aside_fails {answer = Err fault} is stays = record {
+  touches = stays.touches;
+  comes = λ h. inl (stays.place h);
+  survives = stays.survives;
+}
+
+-- A mail that is not found at its claimed path is not put aside.
+pub aside_unclaimed : {A E F : Type 0} {spot : SpotOf} {old new : DiskState} {stands : Bool} {value : A} →
+    stands ≡ false → Answers {E = E} (Tells spot.claimed spot.file) old (Ok stands) new →
+    PutsMailAside {E = F} spot old (Ok value) new
+aside_unclaimed {spot = spot} {old = old} is tells =
+    let stays = stays_tell (aside_paths spot) spot tells in record {
+      touches = stays.touches;
+      comes = λ h. stays.place h ∙ unclaimed_by Aside (is_file spot.file (found_at spot.aside old.now.names))
+          (is_file spot.file (found_at spot.waiting old.now.names)) (is_file spot.file (found_at spot.claimed old.now.names))
+          (sym (tells.done h).stands ∙ is);
+      survives = stays.survives;
+    }
+
+-- A mail that waits already is not put aside.
+pub aside_waits : {A E F : Type 0} {spot : SpotOf} {old looked new : DiskState} {look : Result Bool E} {stands : Bool}
+    {value : A} → stands ≡ true → Answers (Tells spot.claimed spot.file) old look looked →
+    Answers {E = E} (Tells spot.waiting spot.file) looked (Ok stands) new →
+    PutsMailAside {E = F} spot old (Ok value) new
+aside_waits {spot = spot} {old = old} {looked = looked} is first second =
+    let one = stays_tell (aside_paths spot) spot first in
+    let two = stays_tell (aside_paths spot) spot second in
+    let stays = stays_then one two in record {
+      touches = stays.touches;
+      comes = λ h. two.place (first.honest ∙ h)
+          ∙ waiting_by Aside (is_file spot.file (found_at spot.aside looked.now.names))
+          (is_file spot.file (found_at spot.waiting looked.now.names))
+          (is_file spot.file (found_at spot.claimed looked.now.names))
+          (sym (second.done (first.honest ∙ h)).stands ∙ is)
+          ∙ ap (moved Aside) (one.place h);
+      survives = stays.survives;
+    }
+
+-- A mail that is claimed, and does not wait, is put aside after its reason was written.
+module _ {A E F : Type 0} {spot : SpotOf} {old looked seen written new : DiskState} {answer : Result A F}
+    {claimed waits : Bool} (apart : AreApart spot) (is : claimed ≡ true) (not_so : waits ≡ false)
+    (first : Answers {E = E} (Tells spot.claimed spot.file) old (Ok claimed) looked)
+    (second : Answers {E = E} (Tells spot.waiting spot.file) looked (Ok waits) seen)
+    (writes : Touches (spot.reason ∷ []) seen written)
+    (brings : Answers (Brings spot.claimed spot.aside) written answer new) where
+  so_far : StaysThere (aside_paths spot) spot old written
+  so_far = stays_then (stays_tell (aside_paths spot) spot first)
+      (stays_then (stays_tell (aside_paths spot) spot second) (stays_reason spot apart seen written writes))
+
+  was_honest : old.is_honest ≡ true → written.is_honest ≡ true
+  was_honest h = so_far.touches.honest ∙ h
+
+  -- The file of the mail still stands at its claimed path.
+  still_claimed : old.is_honest ≡ true → found_at spot.claimed written.now.names ≡ Some spot.file
+  still_claimed h =
+      (writes.moments (second.honest ∙ first.honest ∙ h)).last.now spot.claimed (reason_spared spot apart).claimed
+      ∙ ap (λ (d : Disk). found_at spot.claimed d.names) ((second.done (first.honest ∙ h)).same ∙ (first.done h).same)
+      ∙ is_this spot.file (found_at spot.claimed old.now.names) (sym (first.done h).stands ∙ is)
+
+  -- The file of the mail still does not wait.
+  still_not_waiting : old.is_honest ≡ true → is_file spot.file (found_at spot.waiting written.now.names) ≡ false
+  still_not_waiting h =
+      ap (is_file spot.file)
+      ((writes.moments (second.honest ∙ first.honest ∙ h)).last.now spot.waiting (reason_spared spot apart).waiting
+      ∙ ap (λ (d : Disk). found_at spot.waiting d.names) (second.done (first.honest ∙ h)).same)
+      ∙ sym (second.done (first.honest ∙ h)).stands ∙ not_so
+
+  pub aside_done : PutsMailAside spot old answer new
+  aside_done = record {
+    touches = touches_then (aside_paths spot) old written new so_far.touches
+        (touches_more (spot.claimed ∷ spot.aside ∷ []) (aside_paths spot) (λ p none. none.1) written new
+        (brings_touches brings));
+    comes = λ h. subst (λ (p : Place). Comes Aside p answer (place_in new.now.names spot)) (so_far.place h)
+        (brought_comes spot written.now new.now answer Aside spot.aside (still_claimed h)
+        (aside_place spot apart written.now (still_claimed h) (still_not_waiting h)) (brings.done (was_honest h)));
+    survives = λ h outlasts. (survives_then spot old written new so_far.touches.honest so_far.survives
+        (survives_one (Brings spot.claimed spot.aside) spot written answer new brings
+        (λ k does before. ⊎_elim (λ same. subst (Outlasts spot) (sym same) before)
+        (λ moved. subst (Outlasts spot) (sym moved)
+        (outlasts_rename spot apart written.now (still_claimed h) before)) does.either))) h outlasts;
+  }

@@ -1,0 +1,454 @@
+-- The calls of a run, by the mail of which they take care.
+use Rattle.std.proofs.Common.{◌≡◌, ◌⊎◌, inl, inr, ⊎_elim, refl, sym, ◌∙◌, ap, subst, ℕ, zero, suc, ◌==◌, ◌<◌, true, false, not}
+use Rattle.std.proofs.Common.{◌&&◌}
+use Rattle.std.proofs.Common.{List, [], ◌∷◌, length, map, slice_get, Option, Some, None, option_map, Result, Ok, Err, OnOk, IsErr}
+use Rattle.std.proofs.Common.{arith}
+use Rattle.std.specs.Str.{bytes_eq}
+use Rattle.std.proofs.lemmas.Bool.{true≢false, and_parts, cases_eq, eqb-true, not-true}
+use Rattle.std.proofs.lemmas.Option.{none-some, slice_get-map, slice_get-get_or}
+use Rattle.std.proofs.lemmas.Slice.Eq.{bytes_eq-Decides}
+use Rattle.ill_disk.specs.Disk.{File, Name, Disk, bytes_of, content, found_at}
+use Rattle.ill_disk.specs.Calls.{DiskState}
+use Rattle.ill_disk.proofs.Memory.{value_or}
+use Rattle.ill_disk.proofs.Wholes.{found_made}
+use Rattle.ill_mail_disk.specs.Touches.{IsNoneOf, KeepsFiles, Touches}
+use Rattle.ill_mail_disk.specs.Keeping.{KeeperOf, PutsFile, kept_paths}
+use Rattle.ill_mail_disk.specs.Spots.{SpotOf, Place, Waiting, Gone, Aside, MayCome, Comes, RemovesMail, PutsMailAside}
+use Rattle.ill_mail_disk.specs.Spots.{GivesMailBack, Survives, aside_paths, moved, paths_of, place_in}
+use Rattle.ill_mail_disk.specs.Runs.{RunState, IsSpread, DoesAt, DoesNothing, MayComeAt, ComesAt, IsElseSame, MovesInRun}
+use Rattle.ill_mail_disk.specs.Runs.{GivesBackInRun, KeepsAsked, KeepsInRun, HasComeAlone, are_spread, bytes_in}
+use Rattle.ill_mail_disk.specs.Runs.{keeps_off, misses, place_of, spares}
+use Rattle.ill_mail_disk.proofs.Apart.{none_of}
+use Rattle.ill_mail_disk.proofs.GivingBack.{back_paths}
+use Rattle.ill_mail_disk.proofs.Placing.{IsSpared, place_stays, survives_touch}
+use Rattle.ill_mail_disk.proofs.Steps.{survives_none}
+
+-- ---- paths that differ
+
+-- No path spares each mail.
+spared_by_none : (spot : SpotOf) → IsSpared [] spot
+spared_by_none spot = record { claimed = tt; waiting = tt; aside = tt }
+
+-- A path that misses a mail spares it too.
+spared_by : (path : List ℕ) (paths : List (List ℕ)) (spot : SpotOf) → misses path spot ≡ true → IsSpared paths spot →
+    IsSpared (path ∷ paths) spot
+spared_by path paths spot is rest =
+    let none = none_of (paths_of spot) path is in record {
+      claimed = (λ same. none.0 (sym same), rest.claimed);
+      waiting = (λ same. none.1.0 (sym same), rest.waiting);
+      aside = (λ same. none.1.1.0 (sym same), rest.aside);
+    }
+
+-- The parts of a mail that spares another.
+spares_parts : (spot other : SpotOf) → spares spot other ≡ true →
+    (misses spot.reason other ≡ true) × (misses spot.claimed other ≡ true) × (misses spot.aside other ≡ true)
+spares_parts spot other is =
+    let first = and_parts (misses spot.reason other && misses spot.claimed other) (misses spot.aside other) is in
+    let second = and_parts (misses spot.reason other) (misses spot.claimed other) first.0 in (second.0, second.1, first.1)
+
+-- The parts of a mail that stays off the file of the messages that ask.
+off_parts : (keeper : KeeperOf) (spot : SpotOf) → keeps_off keeper spot ≡ true →
+    (misses keeper.path spot ≡ true) × (misses keeper.aside spot ≡ true) × (bytes_eq spot.reason keeper.path ≡ false)
+off_parts keeper spot is =
+    let first = and_parts (misses keeper.path spot && misses keeper.aside spot) (not (bytes_eq spot.reason keeper.path)) is in
+    let second = and_parts (misses keeper.path spot) (misses keeper.aside spot) first.0 in
+    (second.0, second.1, not-true (bytes_eq spot.reason keeper.path) first.1)
+
+-- Paths that were tested differ.
+differ_by : (p q : List ℕ) → bytes_eq p q ≡ false → p ≡ q → ⊥
+differ_by p q is same = true≢false (sym ((bytes_eq-Decides p q).1 same) ∙ is)
+
+-- A removed mail spares another.
+removed_spares : (spot other : SpotOf) → are_spread spot other ≡ true → IsSpared (spot.claimed ∷ []) other
+removed_spares spot other is =
+    let parts = spares_parts spot other (and_parts (spares spot other) (spares other spot) is).0 in
+    spared_by spot.claimed [] other parts.1 (spared_by_none other)
+
+-- A mail that is put aside spares another.
+aside_spares : (spot other : SpotOf) → are_spread spot other ≡ true → IsSpared (aside_paths spot) other
+aside_spares spot other is =
+    let parts = spares_parts spot other (and_parts (spares spot other) (spares other spot) is).0 in
+    spared_by spot.reason (spot.claimed ∷ spot.aside ∷ []) other parts.0
+    (spared_by spot.claimed (spot.aside ∷ []) other parts.1
+    (spared_by spot.aside [] other parts.2 (spared_by_none other)))
+
+-- A mail that is given back spares another that has come under another name.
+back_spares : (spot other : SpotOf) → are_spread spot other ≡ true → bytes_eq spot.waiting other.waiting ≡ false →
+    IsSpared (back_paths spot) other
+back_spares spot other is name =
+    let both = and_parts (spares spot other) (spares other spot) is in
+    let here = spares_parts spot other both.0 in
+    let there = spares_parts other spot both.1 in
+    let claimed = none_of (paths_of spot) other.claimed there.1 in
+    let aside = none_of (paths_of spot) other.aside there.2 in
+    spared_by spot.claimed (spot.waiting ∷ []) other here.1 (record {
+      claimed = (claimed.1.0, tt);
+      waiting = (differ_by spot.waiting other.waiting name, tt);
+      aside = (aside.1.0, tt);
+    })
+
+-- The file of the messages that ask spares a mail.
+kept_spares : (keeper : KeeperOf) (spot : SpotOf) → keeps_off keeper spot ≡ true → IsSpared (kept_paths keeper) spot
+kept_spares keeper spot is =
+    let parts = off_parts keeper spot is in
+    spared_by keeper.aside (keeper.path ∷ []) spot parts.1
+    (spared_by keeper.path [] spot parts.0 (spared_by_none spot))
+
+-- ---- content
+
+-- Each file that was made has its bytes, if all files are kept.
+kept_bytes : (old new : List File) (file : ℕ) → KeepsFiles old new → file < length old →
+    bytes_of new (Some file) ≡ bytes_of old (Some file)
+kept_bytes old new file kept made =
+    let is = slice_get-get_or old file (record { bytes = []; is_flushed = false }) made in
+    let now = kept file _ is in
+    ap (option_map (λ (f : File). f.bytes)) now.1 ∙ ap Some now.2.bytes ∙ sym (ap (option_map (λ (f : File). f.bytes)) is)
+
+-- A read of a path gives on a whole disk what it gave, if the path is not touched.
+found_bytes : (path : List ℕ) (d : Disk) (files : List File) (found : Option ℕ) →
+    ((file : ℕ) → found ≡ Some file → file < length d.files) → KeepsFiles d.files files →
+    bytes_of files found ≡ bytes_of d.files found
+found_bytes path d files None made kept = refl
+found_bytes path d files (Some file) made kept = kept_bytes d.files files file kept (made file refl)
+
+-- A read of a path gives what it gave, if the path is not touched.
+pub content_stays : (paths : List (List ℕ)) (path : List ℕ) (old new : DiskState) → IsNoneOf paths path →
+    Touches paths old new → old.is_honest ≡ true → content path new.now ≡ content path old.now
+content_stays paths path old new none touches h =
+    let last = (touches.moments h).last in
+    ap (bytes_of new.now.files) (last.now path none)
+    ∙ found_bytes path old.now new.now.files (found_at path old.now.names)
+    (λ file is. found_made old.now path file (touches.whole h) is) last.files
+
+-- ---- runs
+
+-- Returns the state of a run by that of its disk.
+abbrev pub state_at : KeeperOf → List (Option SpotOf) → DiskState → RunState
+state_at asked spots state = record {
+  places = map (place_of state.now.names) spots;
+  asked = bytes_in (content asked.path state.now);
+  is_honest = state.is_honest;
+}
+
+-- A mail that stays at its place in other names stays there in the list.
+same_at : (old new : List Name) (found : Option (Option SpotOf)) →
+    ((spot : SpotOf) → found ≡ Some (Some spot) → place_in new spot ≡ place_in old spot) →
+    option_map (place_of new) found ≡ option_map (place_of old) found
+same_at old new None stays = refl
+same_at old new (Some None) stays = refl
+same_at old new (Some (Some spot)) stays = ap Some (stays spot refl)
+
+-- The place in the list is that of the mail there.
+place_there : (names : List Name) (spots : List (Option SpotOf)) (mail : ℕ) (spot : SpotOf) →
+    slice_get spots mail ≡ Some (Some spot) → slice_get (map (place_of names) spots) mail ≡ Some (place_in names spot)
+place_there names spots mail spot is =
+    slice_get-map (place_of names) spots mail ∙ ap (option_map (place_of names)) is
+
+-- The mail comes to a place in the list.
+comes_there : {A E : Type 0} (to : Place) (before after : Place) (x y : Option Place) (answer : Result A E) →
+    x ≡ Some before → y ≡ Some after → Comes to before answer after → ComesAt to x answer y
+comes_there to before after x y (Ok done) is_x is_y comes =
+    is_y ∙ ap Some comes ∙ sym (ap (option_map (moved to)) is_x)
+comes_there to before after x y (Err fault) is_x is_y comes = ⊎_elim
+    (λ stays. inl (is_y ∙ ap Some stays ∙ sym is_x))
+    (λ moves. inr (is_y ∙ ap Some moves ∙ sym (ap (option_map (moved to)) is_x))) comes
+
+-- The mail may come to a place in the list.
+may_come_there : (to : Place) (before after : Place) (x y : Option Place) → x ≡ Some before → y ≡ Some after →
+    MayCome to before after → MayComeAt to x y
+may_come_there to before after x y is_x is_y may = ⊎_elim
+    (λ stays. inl (is_y ∙ ap Some stays ∙ sym is_x))
+    (λ moves. inr (is_y ∙ ap Some moves ∙ sym (ap (option_map (moved to)) is_x))) may
+
+-- Returns the mail that was found, or another if there is none.
+abbrev found_spot : Option (Option SpotOf) → SpotOf → SpotOf
+found_spot None other = other
+found_spot (Some None) other = other
+found_spot (Some (Some spot)) other = spot
+
+-- A mail of which the run takes no care does not move.
+unmoved : (to : Place) (names : List Name) (found : Option (Option SpotOf)) → ((spot : SpotOf) → found ≡ Some (Some spot) → ⊥) →
+    option_map (place_of names) found ≡ option_map (moved to) (option_map (place_of names) found)
+unmoved to names None none = refl
+unmoved to names (Some None) none = refl
+unmoved to names (Some (Some spot)) none = absurd (none spot refl)
+
+-- Places are equal in a list, if they are at each mail.
+same_map : (old new : List Name) (spots : List (Option SpotOf)) →
+    ((mail : ℕ) (spot : SpotOf) → slice_get spots mail ≡ Some (Some spot) → place_in new spot ≡ place_in old spot) →
+    map (place_of new) spots ≡ map (place_of old) spots
+same_map old new [] stays = refl
+same_map old new (None ∷ spots) stays =
+    ap (λ (l : List Place). Waiting ∷ l) (same_map old new spots (λ mail. stays (suc mail)))
+same_map old new (Some spot ∷ spots) stays =
+    ap (λ (p : Place). p ∷ map (place_of new) spots) (stays zero spot refl)
+    ∙ ap (λ (l : List Place). place_in old spot ∷ l) (same_map old new spots (λ mail. stays (suc mail)))
+
+-- What was put is kept.
+kept_as : {A E : Type 0} (bytes : List ℕ) (put : Option (List ℕ)) (answer : Result A E) → bytes_in put ≡ bytes →
+    (before after : Option (List ℕ)) → OnOk answer (after ≡ put) → (after ≡ before) ⊎ (after ≡ put) →
+    KeepsAsked bytes (bytes_in before) answer (bytes_in after)
+kept_as bytes put (Ok done) is before after on either = ap bytes_in on ∙ is
+kept_as bytes put (Err fault) is before after on either = ⊎_elim
+    (λ same. inl (ap bytes_in same)) (λ new. inr (ap bytes_in new ∙ is)) either
+
+-- A mail does not move if the call fails.
+fails_at : {A E : Type 0} (to : Place) (before after : Option Place) (answer : Result A E) → IsErr answer → after ≡ before →
+    ComesAt to before answer after
+fails_at to before after (Ok done) is same = absurd (true≢false (sym is))
+fails_at to before after (Err fault) is same = inl same
+
+-- A mail survives where nothing is done.
+pub same_survives : (spot : SpotOf) {a b : DiskState} → b ≡ a → Survives spot a b
+same_survives spot {a = a} same = subst (λ (s : DiskState). Survives spot a s) (sym same) (survives_none spot a)
+
+module _ (asked : KeeperOf) (spots : List (Option SpotOf)) (spread : IsSpread asked spots) (a b : DiskState) where
+  -- Paths spare each other mail.
+  abbrev SparesOthers : (ℕ → Type 0) → List (List ℕ) → Type 0
+  SparesOthers which paths =
+      (other : ℕ) (spot : SpotOf) → which other → slice_get spots other ≡ Some (Some spot) → IsSpared paths spot
+
+  -- Each mail that is spared stays at its place in the list.
+  spared_stay : (which : ℕ → Type 0) (paths : List (List ℕ)) → SparesOthers which paths → Touches paths a b →
+      a.is_honest ≡ true → (other : ℕ) → which other →
+      slice_get (state_at asked spots b).places other ≡ slice_get (state_at asked spots a).places other
+  spared_stay which paths spared touches h other ok =
+      slice_get-map (place_of b.now.names) spots other
+      ∙ same_at a.now.names b.now.names (slice_get spots other)
+      (λ spot is. place_stays paths spot a.now.names b.now.names (spared other spot ok is) (touches.moments h).last.now)
+      ∙ sym (slice_get-map (place_of a.now.names) spots other)
+
+  -- All but the mail `mail` stays.
+  else_stays : (mail : ℕ) (paths : List (List ℕ)) → SparesOthers (λ other. other ≡ mail → ⊥) paths →
+      IsNoneOf paths asked.path → Touches paths a b → a.is_honest ≡ true →
+      IsElseSame mail (state_at asked spots a) (state_at asked spots b)
+  else_stays mail paths spared off touches h = record {
+    others = λ other differ. spared_stay (λ o. o ≡ mail → ⊥) paths spared touches h other differ;
+    asked = ap bytes_in (content_stays paths asked.path a b off touches h);
+  }
+
+  -- Where nothing is done, all stays.
+  pub nothing_moves : {A E : Type 0} (to : Place) (mail : ℕ) (answer : Result A E) (value : A) → answer ≡ Ok value →
+      ((spot : SpotOf) → slice_get spots mail ≡ Some (Some spot) → ⊥) → b ≡ a →
+      MovesInRun to mail (state_at asked spots a) answer (state_at asked spots b)
+  nothing_moves {A = A} {E = E} to mail answer value is none same = record {
+    here = λ h. subst (λ (r : Result A E). ComesAt to (slice_get (state_at asked spots a).places mail) r
+        (slice_get (state_at asked spots b).places mail)) (sym is)
+        (subst (λ (s : DiskState). slice_get (state_at asked spots s).places mail
+        ≡ option_map (moved to) (slice_get (state_at asked spots a).places mail)) (sym same)
+        (slice_get-map (place_of a.now.names) spots mail ∙ unmoved to a.now.names (slice_get spots mail) none
+        ∙ sym (ap (option_map (moved to)) (slice_get-map (place_of a.now.names) spots mail))));
+    else_same = λ h. subst (λ (s : DiskState). IsElseSame mail (state_at asked spots a) (state_at asked spots s)) (sym same)
+        (record { others = λ other differ. refl; asked = refl });
+    honest = ap (λ (s : DiskState). s.is_honest) same;
+  }
+
+  -- A call that fails before it does anything moves nothing.
+  pub fails_to_move : {A E : Type 0} (to : Place) (mail : ℕ) (answer : Result A E) → IsErr answer → b ≡ a →
+      MovesInRun to mail (state_at asked spots a) answer (state_at asked spots b)
+  fails_to_move to mail answer is same = record {
+    here = λ h. fails_at to (slice_get (state_at asked spots a).places mail)
+        (slice_get (state_at asked spots b).places mail) answer is
+        (ap (λ (s : DiskState). slice_get (state_at asked spots s).places mail) same);
+    else_same = λ h. subst (λ (s : DiskState). IsElseSame mail (state_at asked spots a) (state_at asked spots s)) (sym same)
+        (record { others = λ other differ. refl; asked = refl });
+    honest = ap (λ (s : DiskState). s.is_honest) same;
+  }
+
+  -- A mail moves, and all else stays.
+  mail_moves : {A E : Type 0} (to : Place) (mail : ℕ) (spot : SpotOf) (paths : List (List ℕ)) (answer : Result A E) →
+      slice_get spots mail ≡ Some (Some spot) → SparesOthers (λ other. other ≡ mail → ⊥) paths →
+      IsNoneOf paths asked.path → Touches paths a b →
+      (a.is_honest ≡ true → Comes to (place_in a.now.names spot) answer (place_in b.now.names spot)) →
+      MovesInRun to mail (state_at asked spots a) answer (state_at asked spots b)
+  mail_moves to mail spot paths answer is spared off touches comes = record {
+    here = λ h. comes_there to (place_in a.now.names spot) (place_in b.now.names spot)
+        (slice_get (state_at asked spots a).places mail) (slice_get (state_at asked spots b).places mail) answer
+        (place_there a.now.names spots mail spot is) (place_there b.now.names spots mail spot is) (comes h);
+    else_same = λ h. else_stays mail paths spared off touches h;
+    honest = touches.honest;
+  }
+
+  -- Each mail that is spared survives.
+  spared_survive : (which : ℕ → Type 0) (paths : List (List ℕ)) → SparesOthers which paths → Touches paths a b →
+      (other : ℕ) (spot : SpotOf) → which other → slice_get spots other ≡ Some (Some spot) → Survives spot a b
+  spared_survive which paths spared touches other spot ok is =
+      survives_touch paths spot a b (spared other spot ok is) touches
+
+  -- Each mail survives, if one does and the others are spared.
+  all_survive : (mail : ℕ) (own : SpotOf) (paths : List (List ℕ)) → slice_get spots mail ≡ Some (Some own) →
+      SparesOthers (λ other. other ≡ mail → ⊥) paths → Touches paths a b → Survives own a b →
+      (other : ℕ) (spot : SpotOf) → slice_get spots other ≡ Some (Some spot) → Survives spot a b
+  all_survive mail own paths is spared touches survives other spot at = ⊎_elim
+      (λ same. subst (λ (s : SpotOf). Survives s a b)
+      (ap (λ (o : Option (Option SpotOf)). found_spot o own)
+      (sym is ∙ ap (slice_get spots) (sym same) ∙ at)) survives)
+      (λ differ. spared_survive (λ o. o ≡ mail → ⊥) paths spared touches other spot differ at)
+      (cases_eq other mail)
+
+  -- A mail of the run spares the others.
+  spread_spares : (paths : SpotOf → List (List ℕ)) →
+      ((spot other : SpotOf) → are_spread spot other ≡ true → IsSpared (paths spot) other) → (mail : ℕ) (spot : SpotOf) →
+      slice_get spots mail ≡ Some (Some spot) → SparesOthers (λ other. other ≡ mail → ⊥) (paths spot)
+  spread_spares paths spares mail spot is other second differ at =
+      spares spot second (spread.mails mail other spot second is at (λ same. differ (sym same)))
+
+  -- The parts of a mail that stays off the file of the messages that ask.
+  off : (mail : ℕ) (spot : SpotOf) → slice_get spots mail ≡ Some (Some spot) →
+      (misses asked.path spot ≡ true) × (misses asked.aside spot ≡ true) × (bytes_eq spot.reason asked.path ≡ false)
+  off mail spot is = off_parts asked spot (spread.asked mail spot is)
+
+  -- The three paths of a mail are not that of the messages that ask.
+  off_three : (mail : ℕ) (spot : SpotOf) → slice_get spots mail ≡ Some (Some spot) → IsNoneOf (paths_of spot) asked.path
+  off_three mail spot is = none_of (paths_of spot) asked.path (off mail spot is).0
+
+  -- ---- the calls
+
+  -- A mail is removed from a run.
+  pub removes_in_run : {E : Type 0} (mail : ℕ) (answer : Result (Unit {0}) E) (found : Option (Option SpotOf)) →
+      slice_get spots mail ≡ found → DoesAt (λ spot. RemovesMail spot a answer b) (DoesNothing a answer b) found →
+      MovesInRun Gone mail (state_at asked spots a) answer (state_at asked spots b)
+  removes_in_run mail answer None is does = nothing_moves Gone mail answer does.done.0 does.done.1
+      (λ spot at. none-some (Some spot) (sym is ∙ at)) does.same
+  removes_in_run mail answer (Some None) is does = nothing_moves Gone mail answer does.done.0 does.done.1
+      (λ spot at. none-some spot (ap (value_or None) (sym is ∙ at))) does.same
+  removes_in_run mail answer (Some (Some spot)) is does = mail_moves Gone mail spot (spot.claimed ∷ []) answer is
+      (spread_spares (λ s. s.claimed ∷ []) removed_spares mail spot is)
+      ((off_three mail spot is).0, tt) does.touches does.comes
+
+  -- Each other mail survives the removal.
+  pub others_survive : {E : Type 0} (mail : ℕ) (answer : Result (Unit {0}) E) (found : Option (Option SpotOf)) →
+      slice_get spots mail ≡ found → DoesAt (λ spot. RemovesMail spot a answer b) (DoesNothing a answer b) found →
+      (other : ℕ) (spot : SpotOf) → (other ≡ mail → ⊥) → slice_get spots other ≡ Some (Some spot) → Survives spot a b
+  others_survive mail answer None is does other spot differ at = same_survives spot does.same
+  others_survive mail answer (Some None) is does other spot differ at = same_survives spot does.same
+  others_survive mail answer (Some (Some own)) is does other spot differ at =
+      spared_survive (λ o. o ≡ mail → ⊥) (own.claimed ∷ [])
+      (spread_spares (λ s. s.claimed ∷ []) removed_spares mail own is) does.touches other spot differ at
+
+  -- A mail is put aside in a run.
+  pub aside_in_run : {E : Type 0} (mail : ℕ) (answer : Result (Unit {0}) E) (found : Option (Option SpotOf)) →
+      slice_get spots mail ≡ found → DoesAt (λ spot. PutsMailAside spot a answer b) (DoesNothing a answer b) found →
+      MovesInRun Aside mail (state_at asked spots a) answer (state_at asked spots b)
+  aside_in_run mail answer None is does = nothing_moves Aside mail answer does.done.0 does.done.1
+      (λ spot at. none-some (Some spot) (sym is ∙ at)) does.same
+  aside_in_run mail answer (Some None) is does = nothing_moves Aside mail answer does.done.0 does.done.1
+      (λ spot at. none-some spot (ap (value_or None) (sym is ∙ at))) does.same
+  aside_in_run mail answer (Some (Some spot)) is does = mail_moves Aside mail spot (aside_paths spot) answer is
+      (spread_spares aside_paths aside_spares mail spot is) (
+        differ_by spot.reason asked.path (off mail spot is).2,
+        ((off_three mail spot is).0, ((off_three mail spot is).1.1.0, tt)),
+      ) does.touches does.comes
+
+  -- Each mail survives when one is put aside.
+  pub aside_survive : {E : Type 0} (mail : ℕ) (answer : Result (Unit {0}) E) (found : Option (Option SpotOf)) →
+      slice_get spots mail ≡ found → DoesAt (λ spot. PutsMailAside spot a answer b) (DoesNothing a answer b) found →
+      (other : ℕ) (spot : SpotOf) → slice_get spots other ≡ Some (Some spot) → Survives spot a b
+  aside_survive mail answer None is does other spot at = same_survives spot does.same
+  aside_survive mail answer (Some None) is does other spot at = same_survives spot does.same
+  aside_survive mail answer (Some (Some own)) is does other spot at =
+      all_survive mail own (aside_paths own) is (spread_spares aside_paths aside_spares mail own is) does.touches
+      does.survives other spot at
+
+  -- A mail that is given back alone spares the others.
+  alone_spares : (mail : ℕ) (own : SpotOf) → slice_get spots mail ≡ Some (Some own) → HasComeAlone spots mail own.waiting →
+      SparesOthers (λ other. other ≡ mail → ⊥) (back_paths own)
+  alone_spares mail own is alone other second differ at =
+      back_spares own second (spread.mails mail other own second is at (λ same. differ (sym same)))
+      (alone other (Some second) differ at)
+
+  -- A mail that is given back, or is left.
+  abbrev pub GivesOrLeaves : ℕ → SpotOf → Type 0
+  GivesOrLeaves mail spot = (b ≡ a) ⊎ (HasComeAlone spots mail spot.waiting × GivesMailBack spot a b)
+
+  -- Where nothing is done, no mail is given back.
+  nothing_given : (mail : ℕ) → b ≡ a → GivesBackInRun mail (state_at asked spots a) (state_at asked spots b)
+  nothing_given mail same = record {
+    here = λ h. inl (ap (λ (s : DiskState). slice_get (state_at asked spots s).places mail) same);
+    else_same = λ h. subst (λ (s : DiskState). IsElseSame mail (state_at asked spots a) (state_at asked spots s)) (sym same)
+        (record { others = λ other differ. refl; asked = refl });
+    honest = ap (λ (s : DiskState). s.is_honest) same;
+  }
+
+  -- A mail is given back in a run.
+  mail_given : (mail : ℕ) (spot : SpotOf) → slice_get spots mail ≡ Some (Some spot) → GivesOrLeaves mail spot →
+      GivesBackInRun mail (state_at asked spots a) (state_at asked spots b)
+  mail_given mail spot is (inl same) = nothing_given mail same
+  mail_given mail spot is (inr given) = record {
+    here = λ h. may_come_there Waiting (place_in a.now.names spot) (place_in b.now.names spot)
+        (slice_get (state_at asked spots a).places mail) (slice_get (state_at asked spots b).places mail)
+        (place_there a.now.names spots mail spot is) (place_there b.now.names spots mail spot is) (given.1.comes h);
+    else_same = λ h. else_stays mail (back_paths spot) (alone_spares mail spot is given.0)
+        ((off_three mail spot is).0, ((off_three mail spot is).1.0, tt)) given.1.touches h;
+    honest = given.1.touches.honest;
+  }
+
+  -- A mail is given back in a run, if the run takes care of it.
+  pub given_in_run : {E : Type 0} (mail : ℕ) (answer : Result (Unit {0}) E) (found : Option (Option SpotOf)) →
+      slice_get spots mail ≡ found → DoesAt (GivesOrLeaves mail) (DoesNothing a answer b) found →
+      GivesBackInRun mail (state_at asked spots a) (state_at asked spots b)
+  given_in_run mail answer None is does = nothing_given mail does.same
+  given_in_run mail answer (Some None) is does = nothing_given mail does.same
+  given_in_run mail answer (Some (Some spot)) is does = mail_given mail spot is does
+
+  -- Each mail survives when one is given back, or is left.
+  given_survive_one : (mail : ℕ) (own : SpotOf) → slice_get spots mail ≡ Some (Some own) → GivesOrLeaves mail own →
+      (other : ℕ) (spot : SpotOf) → slice_get spots other ≡ Some (Some spot) → Survives spot a b
+  given_survive_one mail own is (inl same) other spot at = same_survives spot same
+  given_survive_one mail own is (inr given) other spot at =
+      all_survive mail own (back_paths own) is (alone_spares mail own is given.0) given.1.touches given.1.survives other
+      spot at
+
+  -- Each mail survives when one is given back.
+  pub given_survive : {E : Type 0} (mail : ℕ) (answer : Result (Unit {0}) E) (found : Option (Option SpotOf)) →
+      slice_get spots mail ≡ found → DoesAt (GivesOrLeaves mail) (DoesNothing a answer b) found →
+      (other : ℕ) (spot : SpotOf) → slice_get spots other ≡ Some (Some spot) → Survives spot a b
+  given_survive mail answer None is does other spot at = same_survives spot does.same
+  given_survive mail answer (Some None) is does other spot at = same_survives spot does.same
+  given_survive mail answer (Some (Some own)) is does other spot at = given_survive_one mail own is does other spot at
+
+  -- ---- messages that ask
+
+  -- The file of the messages that ask spares each mail.
+  asked_spares : SparesOthers (λ other. Unit {0}) (kept_paths asked)
+  asked_spares other spot ok at = kept_spares asked spot (spread.asked other spot at)
+
+  -- Each mail stays at its place while messages that ask are kept.
+  asked_places : Touches (kept_paths asked) a b → a.is_honest ≡ true →
+      (state_at asked spots b).places ≡ (state_at asked spots a).places
+  asked_places touches h = same_map a.now.names b.now.names spots
+      (λ mail spot at. place_stays (kept_paths asked) spot a.now.names b.now.names
+      (asked_spares mail spot tt at) (touches.moments h).last.now)
+
+  -- Messages that ask are kept in a run.
+  pub keeps_in_run : {E : Type 0} (bytes : List ℕ) (put : Option (List ℕ)) (answer : Result (Unit {0}) E) →
+      bytes_in put ≡ bytes → PutsFile asked put a answer b →
+      KeepsInRun bytes (state_at asked spots a) answer (state_at asked spots b)
+  keeps_in_run bytes put answer is puts = record {
+    here = λ h. kept_as bytes put answer is (content asked.path a.now) (content asked.path b.now) (puts.done h)
+        (puts.either h);
+    places = λ h. asked_places puts.touches h;
+    honest = puts.touches.honest;
+  }
+
+  -- Each mail survives while messages that ask are kept.
+  pub keeps_survive : Touches (kept_paths asked) a b → (other : ℕ) (spot : SpotOf) →
+      slice_get spots other ≡ Some (Some spot) → Survives spot a b
+  keeps_survive touches other spot at =
+      spared_survive (λ o. Unit {0}) (kept_paths asked) asked_spares touches other spot tt at
+
+-- ---- what the calls ask of lists
+
+-- A list of length 0 is empty.
+pub empty_is : (bytes : List ℕ) → (length bytes == 0) ≡ true → [] ≡ bytes
+empty_is [] is = refl
+empty_is (byte ∷ bytes) is = absurd (omega (arith, eqb-true (length (byte ∷ bytes)) 0 is))
+
+-- A mail that is given back in an equal list is given back in this one.
+pub given_at : {E : Type 0} (l m : List (Option SpotOf)) (a b : DiskState) (mail : ℕ) (found : Option (Option SpotOf))
+    (answer : Result (Unit {0}) E) → l ≡ m →
+    DoesAt (λ spot. (b ≡ a) ⊎ (HasComeAlone l mail spot.waiting × GivesMailBack spot a b)) (DoesNothing a answer b) found →
+    DoesAt (λ spot. (b ≡ a) ⊎ (HasComeAlone m mail spot.waiting × GivesMailBack spot a b)) (DoesNothing a answer b) found
+given_at l m a b mail found answer same does =
+    subst (λ (k : List (Option SpotOf)). DoesAt (λ spot. (b ≡ a) ⊎ (HasComeAlone k mail spot.waiting × GivesMailBack spot a b))
+    (DoesNothing a answer b) found) same does

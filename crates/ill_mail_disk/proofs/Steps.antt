@@ -1,0 +1,80 @@
+-- The steps from call to call: what they touch together, and that a mail survives each.
+use Rattle.std.proofs.Common.{◌≡◌, ⊎_elim, sym, ◌∙◌, subst, ℕ, true, List, Result, Ok, Err, OnOk}
+use Rattle.ill_disk.specs.Disk.{Disk}
+use Rattle.ill_disk.specs.Calls.{DiskState, Answers, Changes}
+use Rattle.ill_disk.proofs.Moments.{begins, goes_on, holds_too, joins}
+use Rattle.ill_mail_disk.specs.Touches.{IsNoneOf, TouchesOnly, Touches}
+use Rattle.ill_mail_disk.specs.Spots.{SpotOf, Outlasts, Survives}
+use Rattle.ill_mail_disk.proofs.Touching.{touch_self, touch_then, touch_more}
+
+-- ---- what calls touch
+
+-- What one call touches.
+pub one_touches : {A E : Type 0} (does : Disk → Result A E → Disk → Type 0) (paths : List (List ℕ)) (old : DiskState)
+    (answer : Result A E) (new : DiskState) → Answers does old answer new →
+    ((d e : Disk) → does d answer e → TouchesOnly paths d e) → Touches paths old new
+one_touches does paths old answer new answers touches = record {
+  whole = answers.whole;
+  moments = λ h. goes_on (begins (touch_self paths old.now)) (answers.past h) (touches old.now new.now (answers.done h));
+  honest = answers.honest;
+}
+
+-- What two calls touch together.
+pub touches_then : (paths : List (List ℕ)) (a b c : DiskState) → Touches paths a b → Touches paths b c → Touches paths a c
+touches_then paths a b c first second = record {
+  whole = first.whole;
+  moments = λ h. joins (first.moments h) (holds_too
+      (λ d touched. touch_then paths a.now b.now d (first.moments h).last touched) (second.moments (first.honest ∙ h)));
+  honest = second.honest ∙ first.honest;
+}
+
+-- What touches a few paths touches many.
+pub touches_more : (few many : List (List ℕ)) → ((p : List ℕ) → IsNoneOf many p → IsNoneOf few p) → (a b : DiskState) →
+    Touches few a b → Touches many a b
+touches_more few many fits a b touches = record {
+  whole = touches.whole;
+  moments = λ h. holds_too (λ d touched. touch_more few many fits a.now d touched) (touches.moments h);
+  honest = touches.honest;
+}
+
+-- A change touches what it touches when it is done.
+pub change_fits : {E : Type 0} (paths : List (List ℕ)) (change : Disk → Disk) →
+    ((d : Disk) → TouchesOnly paths d (change d)) → (answer : Result (Unit {0}) E) (d e : Disk) →
+    Changes change d answer e → TouchesOnly paths d e
+change_fits paths change touches (Ok done) d e is = subst (TouchesOnly paths d) (sym is) (touches d)
+change_fits paths change touches (Err fault) d e is = ⊎_elim
+    (λ same. subst (TouchesOnly paths d) (sym same) (touch_self paths d))
+    (λ changed. subst (TouchesOnly paths d) (sym changed) (touches d)) is
+
+-- A property of a disk with a change and without it holds after the call, done or failed.
+pub either_way : {E : Type 0} (P : Disk → Type 0) (change : Disk → Disk) (old new : Disk) (result : Result (Unit {0}) E) →
+    Changes change old result new → P old → P (change old) → P new
+either_way P change old new (Ok done) is without_it with_it = subst P (sym is) with_it
+either_way P change old new (Err fault) is without_it with_it =
+    ⊎_elim (λ same. subst P (sym same) without_it) (λ changed. subst P (sym changed) with_it) is
+
+-- A property of a disk with a change holds after the call that is done.
+pub done_gives : {E : Type 0} (P : Disk → Type 0) (change : Disk → Disk) (old new : Disk) (result : Result (Unit {0}) E) →
+    Changes change old result new → P (change old) → OnOk result (P new)
+done_gives P change old new (Ok done) is with_it = subst P (sym is) with_it
+done_gives P change old new (Err fault) is with_it = tt
+
+-- ---- a mail that survives
+
+-- A mail survives where nothing happens.
+pub survives_none : (spot : SpotOf) (a : DiskState) → Survives spot a a
+survives_none spot a h outlasts = begins outlasts
+
+-- A mail survives what it survives step by step.
+pub survives_then : (spot : SpotOf) (a b c : DiskState) → b.is_honest ≡ a.is_honest → Survives spot a b → Survives spot b c →
+    Survives spot a c
+survives_then spot a b c honest first second h outlasts =
+    let before = first h outlasts in joins before (second (honest ∙ h) before.last)
+
+-- A mail survives a call that keeps it in each crash.
+pub survives_one : {A E : Type 0} (does : Disk → Result A E → Disk → Type 0) (spot : SpotOf) (old : DiskState)
+    (answer : Result A E) (new : DiskState) → Answers does old answer new →
+    ((old.is_honest ≡ true) → does old.now answer new.now → Outlasts spot old.now → Outlasts spot new.now) →
+    Survives spot old new
+survives_one does spot old answer new answers keeps h outlasts =
+    goes_on (begins outlasts) (answers.past h) (keeps h (answers.done h) outlasts)

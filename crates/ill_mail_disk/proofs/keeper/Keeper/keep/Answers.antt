@@ -1,0 +1,23 @@
+use Rattle.ill_disk.specs.Calls.{Changes}
+use Rattle.ill_mail_disk.specs.MailCalls.{after_flush_name}
+use Rattle.ill_mail_disk.proofs.Calling.{at_path}
+use Rattle.ill_mail_disk.proofs.Kept.{look_leaves, name_leaves, leaves_then, puts_after, puts_before, puts_failed}
+use Rattle.ill_mail_disk.proofs.Kept.{puts_nothing}
+use Rattle.ill_mail_disk.proofs.keeper.Keeper.keep.Goals as goal
+
+pub returns-in_err-look_up : goal.returns-in_err-look_up
+returns-in_err-look_up g c = puts_nothing c.from_residual.ensures.0 (look_leaves c.look_up.ensures)
+
+pub returns-in_err-clear_aside : goal.returns-in_err-clear_aside
+returns-in_err-clear_aside g c = puts_nothing c.from_residual-in_err-clear_aside.ensures.0
+    (leaves_then (look_leaves c.look_up.ensures) c.clear_aside.ensures)
+
+pub returns-in-Ok : goal.returns-in-Ok
+returns-in-Ok g c = puts_before c.flush_name.result
+    (puts_after (leaves_then (look_leaves c.look_up.ensures) c.clear_aside.ensures) c.in-Ok.ensures)
+    (name_leaves (at_path (λ p. Changes (after_flush_name p)) c.path-in-Ok.ensures c.flush_name.ensures))
+
+pub returns-in-Err : goal.returns-in-Err
+returns-in-Err g c = puts_failed
+    (puts_after (leaves_then (look_leaves c.look_up.ensures) c.clear_aside.ensures) c.in-Err.ensures)
+    c.clear_aside-in-Err.ensures

@@ -1,0 +1,6 @@
+use Rattle.ill_mail_disk.proofs.Calling.{at_path}
+use Rattle.ill_mail_disk.specs.MailCalls.{Clears}
+use Rattle.ill_mail_disk.proofs.moves.clear_claimed.Goals as goal
+
+pub returns : goal.returns
+returns g c = at_path (λ p. Clears p) c.claimed.ensures c.clear.ensures

@@ -1,0 +1,5 @@
+use Rattle.ill_mail_disk.proofs.Calling.{tells_at}
+use Rattle.ill_mail_disk.proofs.moves.is_claimed.Goals as goal
+
+pub returns-clause-tells : goal.returns-clause-tells
+returns-clause-tells g c = tells_at c.claimed.ensures c.file.ensures.number c.stands_at.ensures

@@ -1,0 +1,12 @@
+use Rattle.std.proofs.Common.{[], ◌∷◌}
+use Rattle.ill_mail_disk.proofs.Calling.{finds_touches}
+use Rattle.ill_mail_disk.proofs.Steps.{touches_then}
+use Rattle.ill_mail_disk.proofs.moves.write_reason.Goals as goal
+
+pub returns-in-Ok-Some : goal.returns-in-Ok-Some
+returns-in-Ok-Some g c = finds_touches (c.args.path.now ∷ []) c.find.ensures
+
+pub returns-in_default : goal.returns-in_default
+returns-in_default g c =
+    touches_then (c.args.path.now ∷ []) (g.D.Disk.state c.args.disk.now) (g.D.Disk.state c.find.new.self)
+    (g.D.Disk.state c.write_anew.new.disk) (finds_touches (c.args.path.now ∷ []) c.find.ensures) c.write_anew.ensures

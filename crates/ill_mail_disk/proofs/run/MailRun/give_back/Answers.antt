@@ -1,0 +1,30 @@
+use Rattle.std.proofs.Common.{◌≡◌, sym, subst, ap, slice_get, Some, ℕ}
+use Rattle.ill_mail_disk.specs.Runs.{AnyMail, GivesBackInRun, run_state}
+use Rattle.ill_mail_disk.specs.Spots.{SpotOf, Survives}
+use Rattle.ill_mail_disk.proofs.Running.{given_at, given_in_run, given_survive, state_at}
+use Rattle.ill_mail_disk.proofs.run.MailRun.give_back.Goals as goal
+
+pub returns-clause-moves : goal.returns-clause-moves
+returns-clause-moves g c =
+    let moves = given_in_run c.self.inside.asked c.self.inside.spots.items c.self.invariant
+    (g.D.Disk.state c.self.inside.disk) (g.D.Disk.state c.give_back_at.new.disk) c.args.mail c.give_back_at.result
+    (slice_get c.deref.result.now c.args.mail)
+    (ap (λ l. slice_get l c.args.mail) (sym c.deref.ensures.value))
+    (given_at c.deref.result.now c.self.inside.spots.items (g.D.Disk.state c.self.inside.disk)
+    (g.D.Disk.state c.give_back_at.new.disk) c.args.mail (slice_get c.deref.result.now c.args.mail)
+    c.give_back_at.result c.deref.ensures.value c.give_back_at.ensures) in
+    subst (λ r. GivesBackInRun c.args.mail (run_state g.D.Disk.state r)
+    (state_at c.self.inside.asked c.self.inside.spots.items (g.D.Disk.state c.give_back_at.new.disk))) c.self.view_is moves
+
+pub returns-clause-survive : goal.returns-clause-survive
+returns-clause-survive g c =
+    let survive = given_survive c.self.inside.asked c.self.inside.spots.items c.self.invariant
+    (g.D.Disk.state c.self.inside.disk) (g.D.Disk.state c.give_back_at.new.disk) c.args.mail c.give_back_at.result
+    (slice_get c.deref.result.now c.args.mail)
+    (ap (λ l. slice_get l c.args.mail) (sym c.deref.ensures.value))
+    (given_at c.deref.result.now c.self.inside.spots.items (g.D.Disk.state c.self.inside.disk)
+    (g.D.Disk.state c.give_back_at.new.disk) c.args.mail (slice_get c.deref.result.now c.args.mail)
+    c.give_back_at.result c.deref.ensures.value c.give_back_at.ensures) in
+    subst (λ r. (other : ℕ) (spot : SpotOf) → AnyMail other → slice_get r.spots other ≡ Some (Some spot) →
+    Survives spot (g.D.Disk.state r.disk) (g.D.Disk.state c.give_back_at.new.disk)) c.self.view_is
+    (λ other spot any at. survive other spot at)

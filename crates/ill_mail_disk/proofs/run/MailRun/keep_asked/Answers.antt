@@ -1,0 +1,37 @@
+use Rattle.std.proofs.Common.{◌≡◌, refl, sym, ◌∙◌, subst, slice_get, Some, None, ℕ}
+use Rattle.ill_mail_disk.specs.Runs.{AnyMail, KeepsInRun, run_state}
+use Rattle.ill_mail_disk.specs.Spots.{SpotOf, Survives}
+use Rattle.ill_mail_disk.proofs.Running.{empty_is, keeps_in_run, keeps_survive, state_at}
+use Rattle.ill_mail_disk.proofs.run.MailRun.keep_asked.Goals as goal
+
+pub returns-then-is_empty-clause-keeps : goal.returns-then-is_empty-clause-keeps
+returns-then-is_empty-clause-keeps g c =
+    let keeps = keeps_in_run c.self.inside.asked c.self.inside.spots.items c.self.invariant
+    (g.D.Disk.state c.self.inside.disk) (g.D.Disk.state c.forget.new.disk) c.args.asked.now None c.forget.result
+    (empty_is c.args.asked.now (sym c.is_empty.ensures ∙ c.if-is_empty.true)) c.forget.ensures in
+    subst (λ r. KeepsInRun c.args.asked.now (run_state g.D.Disk.state r) c.forget.result
+    (state_at c.self.inside.asked c.self.inside.spots.items (g.D.Disk.state c.forget.new.disk))) c.self.view_is keeps
+
+pub returns-then-is_empty-clause-survive : goal.returns-then-is_empty-clause-survive
+returns-then-is_empty-clause-survive g c =
+    let survive = keeps_survive c.self.inside.asked c.self.inside.spots.items c.self.invariant
+    (g.D.Disk.state c.self.inside.disk) (g.D.Disk.state c.forget.new.disk) c.forget.ensures.touches in
+    subst (λ r. (other : ℕ) (spot : SpotOf) → AnyMail other → slice_get r.spots other ≡ Some (Some spot) →
+    Survives spot (g.D.Disk.state r.disk) (g.D.Disk.state c.forget.new.disk)) c.self.view_is
+    (λ other spot any at. survive other spot at)
+
+pub returns-clause-keeps : goal.returns-clause-keeps
+returns-clause-keeps g c =
+    let keeps = keeps_in_run c.self.inside.asked c.self.inside.spots.items c.self.invariant
+    (g.D.Disk.state c.self.inside.disk) (g.D.Disk.state c.keep.new.disk) c.args.asked.now (Some c.args.asked.now) c.keep.result
+    refl c.keep.ensures in
+    subst (λ r. KeepsInRun c.args.asked.now (run_state g.D.Disk.state r) c.keep.result
+    (state_at c.self.inside.asked c.self.inside.spots.items (g.D.Disk.state c.keep.new.disk))) c.self.view_is keeps
+
+pub returns-clause-survive : goal.returns-clause-survive
+returns-clause-survive g c =
+    let survive = keeps_survive c.self.inside.asked c.self.inside.spots.items c.self.invariant
+    (g.D.Disk.state c.self.inside.disk) (g.D.Disk.state c.keep.new.disk) c.keep.ensures.touches in
+    subst (λ r. (other : ℕ) (spot : SpotOf) → AnyMail other → slice_get r.spots other ≡ Some (Some spot) →
+    Survives spot (g.D.Disk.state r.disk) (g.D.Disk.state c.keep.new.disk)) c.self.view_is
+    (λ other spot any at. survive other spot at)

@@ -1,0 +1,23 @@
+use Rattle.std.proofs.Common.{◌≡◌, sym, subst, ap, slice_get, Some, ℕ}
+use Rattle.ill_mail_disk.specs.Runs.{MovesInRun, run_state}
+use Rattle.ill_mail_disk.specs.Spots.{SpotOf, Gone, Survives}
+use Rattle.ill_mail_disk.proofs.Running.{removes_in_run, others_survive, state_at}
+use Rattle.ill_mail_disk.proofs.run.MailRun.remove.Goals as goal
+
+pub returns-clause-moves : goal.returns-clause-moves
+returns-clause-moves g c =
+    let moves = removes_in_run c.self.inside.asked c.self.inside.spots.items c.self.invariant
+    (g.D.Disk.state c.self.inside.disk) (g.D.Disk.state c.remove_at.new.disk) c.args.mail c.remove_at.result
+    (slice_get c.deref.result.now c.args.mail)
+    (ap (λ l. slice_get l c.args.mail) (sym c.deref.ensures.value)) c.remove_at.ensures in
+    subst (λ r. MovesInRun Gone c.args.mail (run_state g.D.Disk.state r) c.remove_at.result
+    (state_at c.self.inside.asked c.self.inside.spots.items (g.D.Disk.state c.remove_at.new.disk))) c.self.view_is moves
+
+pub returns-clause-survive : goal.returns-clause-survive
+returns-clause-survive g c =
+    let survive = others_survive c.self.inside.asked c.self.inside.spots.items c.self.invariant
+    (g.D.Disk.state c.self.inside.disk) (g.D.Disk.state c.remove_at.new.disk) c.args.mail c.remove_at.result
+    (slice_get c.deref.result.now c.args.mail)
+    (ap (λ l. slice_get l c.args.mail) (sym c.deref.ensures.value)) c.remove_at.ensures in
+    subst (λ r. (other : ℕ) (spot : SpotOf) → (other ≡ c.args.mail → ⊥) → slice_get r.spots other ≡ Some (Some spot) →
+    Survives spot (g.D.Disk.state r.disk) (g.D.Disk.state c.remove_at.new.disk)) c.self.view_is survive

@@ -1,0 +1,33 @@
+-- These are calls on the mails of a run that no honest disk may show. Each case has its own fault. By the laws the
+-- definitions of `Spots` and `Runs` exclude them all.
+use Rattle.std.specs.Prelude.{◌≡◌, ◌≢◌, ℕ, List, true, slice_get, Some, Result, Ok}
+use Rattle.ill_disk.specs.Disk.{In, Disk, Crash, found_at}
+use Rattle.ill_disk.specs.Calls.{DiskState, IsMoment}
+use Rattle.ill_mail_disk.specs.Spots.{SpotOf, Place, Claimed, Outlasts, paths_of}
+use Rattle.ill_mail_disk.specs.Runs.{RunState}
+
+-- A loss of power at some moment between two states of an honest disk has left the file of a mail at none of its paths.
+pub data LosesMail (spot : SpotOf) (old new : DiskState) : Type 0 where
+  at_no_path : (moment after : Disk) → old.is_honest ≡ true → Outlasts spot old.now → IsMoment old new moment →
+      Crash moment after → ((path : List ℕ) → In (paths_of spot) path → found_at path after.names ≢ Some spot.file) →
+      LosesMail spot old new
+
+-- A call on the mail `mail`, to move it to the place `to`, cannot do this in a run with an honest disk. It moves another
+-- mail, moves a mail to a third place, or moves one that is not claimed. It changes the messages that ask. Or it is done,
+-- and the mail is still claimed.
+pub data IsBadMove {A E : Type 0} (to : Place) (mail : ℕ) (old : RunState) (answer : Result A E) (new : RunState) : Type 0
+  where
+    other_moves : (other : ℕ) (place : Place) → old.is_honest ≡ true → other ≢ mail →
+        slice_get old.places other ≡ Some place → slice_get new.places other ≢ Some place → IsBadMove to mail old answer new
+    third_place : (place : Place) → old.is_honest ≡ true → slice_get old.places mail ≡ Some Claimed →
+        slice_get new.places mail ≡ Some place → place ≢ Claimed → place ≢ to → IsBadMove to mail old answer new
+    unclaimed_moves : (place : Place) → old.is_honest ≡ true → slice_get old.places mail ≡ Some place → place ≢ Claimed →
+        slice_get new.places mail ≢ Some place → IsBadMove to mail old answer new
+    not_moved : (done : A) → old.is_honest ≡ true → answer ≡ Ok done → to ≢ Claimed →
+        slice_get old.places mail ≡ Some Claimed → slice_get new.places mail ≡ Some Claimed → IsBadMove to mail old answer new
+    other_asks : old.is_honest ≡ true → new.asked ≢ old.asked → IsBadMove to mail old answer new
+
+-- A mail cannot be given back so: over another file that came, or gone, or put aside.
+pub data IsBadGivingBack (spot : SpotOf) (old new : DiskState) : Type 0 where
+  over_another : (file : ℕ) → old.is_honest ≡ true → found_at spot.waiting old.now.names ≡ Some file →
+      found_at spot.waiting new.now.names ≢ Some file → IsBadGivingBack spot old new

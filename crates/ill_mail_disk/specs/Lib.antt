@@ -1,0 +1,6 @@
+pub mod MailCalls
+pub mod Touches
+pub mod Spots
+pub mod Keeping
+pub mod Runs
+pub mod BadMails

@@ -1,0 +1,107 @@
+-- A mail that a run has claimed: its paths, its file, and where that file is.
+use Rattle.std.specs.Prelude.{◌≡◌, ◌⊎◌, ℕ, Bool, true, not, ◌&&◌, if◌then◌else◌, List, [], ◌∷◌, bytes_eq, Some, Result, Ok, Err}
+use Rattle.ill_disk.specs.Disk.{In, Name, Disk, found_at}
+use Rattle.ill_disk.specs.Calls.{DiskState, Throughout}
+use Rattle.ill_mail_disk.specs.MailCalls.{is_file}
+use Rattle.ill_mail_disk.specs.Touches.{Touches}
+
+-- A mail has a path among the claimed mails, one in the folder from which it was claimed, and one aside. Beside that is
+-- the path of the reason. Its file is the one that was claimed.
+pub record SpotOf : Type 0 where
+  pub claimed : List ℕ
+  pub waiting : List ℕ
+  pub aside : List ℕ
+  pub reason : List ℕ
+  pub file : ℕ
+
+-- Returns the three paths at which the file of a mail may stand.
+abbrev pub paths_of : SpotOf → List (List ℕ)
+paths_of spot = spot.claimed ∷ spot.waiting ∷ spot.aside ∷ []
+
+-- Returns true if the path is none of these.
+abbrev pub is_none_of : List (List ℕ) → List ℕ → Bool
+is_none_of [] path = true
+is_none_of (other ∷ paths) path = not (bytes_eq other path) && is_none_of paths path
+
+-- Returns true if the four paths of a mail differ.
+abbrev pub are_apart : SpotOf → Bool
+are_apart spot = is_none_of (spot.waiting ∷ spot.aside ∷ spot.reason ∷ []) spot.claimed
+    && is_none_of (spot.aside ∷ spot.reason ∷ []) spot.waiting && is_none_of (spot.reason ∷ []) spot.aside
+
+-- The place of a mail.
+pub data Place : Type 0 where
+  Waiting : Place
+  Claimed : Place
+  Aside : Place
+  Gone : Place
+
+-- Returns the place of a mail by the paths at which its file stands.
+abbrev pub place_by : Bool → Bool → Bool → Place
+place_by aside waiting claimed = if aside then Aside else if waiting then Waiting else if claimed then Claimed else Gone
+
+-- Returns the place of a mail: where its file has a name. It is gone if its file has none of the three.
+abbrev pub place_in : List Name → SpotOf → Place
+place_in names spot = place_by (is_file spot.file (found_at spot.aside names))
+    (is_file spot.file (found_at spot.waiting names)) (is_file spot.file (found_at spot.claimed names))
+
+-- Each crash leaves the file of the mail at one of its paths.
+abbrev pub Outlasts : SpotOf → Disk → Type 0
+Outlasts spot d = (names : List Name) → In d.may_stand names → place_in names spot ≡ Gone → ⊥
+
+-- If each crash leaves the mail at first, each crash leaves it at each moment up to the state `new`.
+abbrev pub Survives : SpotOf → DiskState → DiskState → Type 0
+Survives spot old new = old.is_honest ≡ true → Outlasts spot old.now → Throughout (Outlasts spot) old new
+
+-- ---- moves
+
+-- Returns the place of a mail after it was to be moved to the place `to`. Only a claimed mail moves.
+abbrev pub moved : Place → Place → Place
+moved to Claimed = to
+moved to other = other
+
+-- A mail stays at its place `before`, or moves to `to`.
+abbrev pub MayCome : Place → Place → Place → Type 0
+MayCome to before after = (after ≡ before) ⊎ (after ≡ moved to before)
+
+-- A call moves a mail to the place `to`. If it failed, the mail moves there or stays.
+abbrev pub Comes : {A E : Type 0} → Place → Place → Result A E → Place → Type 0
+Comes to before (Ok done) after = after ≡ moved to before
+Comes to before (Err fault) after = MayCome to before after
+
+-- On an honest disk a mail stays at its place while these paths are touched, and so does what stands at its name in the
+-- folder. No crash loses it.
+pub record StaysThere (paths : List (List ℕ)) (spot : SpotOf) (old new : DiskState) : Type 0 where
+  pub touches : Touches paths old new
+  pub waiting : old.is_honest ≡ true → found_at spot.waiting new.now.names ≡ found_at spot.waiting old.now.names
+  pub place : old.is_honest ≡ true → place_in new.now.names spot ≡ place_in old.now.names spot
+  pub survives : Survives spot old new
+
+-- On an honest disk the file of a claimed mail was removed.
+pub record RemovesMail {A E : Type 0} (spot : SpotOf) (old : DiskState) (answer : Result A E) (new : DiskState) : Type 0
+  where
+    pub touches : Touches (spot.claimed ∷ []) old new
+    pub comes : old.is_honest ≡ true → Comes Gone (place_in old.now.names spot) answer (place_in new.now.names spot)
+
+-- Returns the paths that are touched when a mail is put aside.
+abbrev pub aside_paths : SpotOf → List (List ℕ)
+aside_paths spot = spot.reason ∷ spot.claimed ∷ spot.aside ∷ []
+
+-- On an honest disk a claimed mail was put aside. No crash loses it.
+pub record PutsMailAside {A E : Type 0} (spot : SpotOf) (old : DiskState) (answer : Result A E) (new : DiskState) : Type 0
+  where
+    pub touches : Touches (aside_paths spot) old new
+    pub comes : old.is_honest ≡ true → Comes Aside (place_in old.now.names spot) answer (place_in new.now.names spot)
+    pub survives : Survives spot old new
+
+-- On an honest disk a claimed mail was given back, or it stays. No crash loses it. What stands at its name in the folder
+-- stays there.
+pub record GivesMailBack (spot : SpotOf) (old new : DiskState) : Type 0 where
+  pub touches : Touches (spot.claimed ∷ spot.waiting ∷ []) old new
+  pub stays : old.is_honest ≡ true → (file : ℕ) → found_at spot.waiting old.now.names ≡ Some file →
+      found_at spot.waiting new.now.names ≡ Some file
+  pub comes : old.is_honest ≡ true → MayCome Waiting (place_in old.now.names spot) (place_in new.now.names spot)
+  pub survives : Survives spot old new
+
+-- On an honest disk the file of the mail stands at a path.
+abbrev pub HasFileAt : List ℕ → SpotOf → DiskState → Type 0
+HasFileAt path spot state = state.is_honest ≡ true → found_at path state.now.names ≡ Some spot.file

@@ -1,0 +1,167 @@
+//! The moves of a mail on a disk: it is removed, put aside or given back.
+
+ghost use Rattle.std.specs.Prelude.{◌≡◌, ◌⊎◌, [], ◌∷◌, Some, true};
+ghost use Rattle.ill_disk.specs.Disk.{found_at};
+ghost use Rattle.ill_disk.specs.Calls.{Answers};
+ghost use Rattle.ill_mail_disk.specs.MailCalls.{Brings, Clears, Tells};
+ghost use Rattle.ill_mail_disk.specs.Touches.{Touches};
+ghost use Rattle.ill_mail_disk.specs.Spots.{GivesMailBack, HasFileAt, PutsMailAside, RemovesMail, StaysThere, aside_paths, are_apart};
+
+use crate::mail_disk::MailDisk;
+use crate::spot::Spot;
+use ill_disk::DiskFault;
+
+/// Returns true if it is the file `file` that stands at `path`.
+fn stands_at<D: MailDisk>(disk: &mut D, path: &[u8], file: u128) -> Result<bool, DiskFault>
+    ensures { Answers (Tells path.now file) (D.state disk.old) result (D.state disk.new) }
+{
+    match disk.find(path)? {
+        Some(found) => Ok(found.file == file),
+        None => Ok(false),
+    }
+}
+
+/// Removes `path`, if a file stands there.
+pub(crate) fn clear<D: MailDisk>(disk: &mut D, path: &[u8]) -> Result<(), DiskFault>
+    ensures { Answers (Clears path.now) (D.state disk.old) result (D.state disk.new) }
+{
+    match disk.remove(path) {
+        Ok(()) => Ok(()),
+        Err(DiskFault::NotFound) => Ok(()),
+        Err(fault) => Err(fault),
+    }
+}
+
+/// Returns true if the file of a mail stands at its claimed path.
+fn is_claimed<D: MailDisk>(disk: &mut D, spot: &Spot) -> Result<bool, DiskFault>
+    ensures tells { Answers (Tells spot.now.claimed spot.now.file) (D.state disk.old) result (D.state disk.new) }
+    ensures apart { are_apart spot.now ≡ true }
+{
+    stands_at(disk, spot.claimed(), spot.file())
+}
+
+/// Removes the claimed path of a mail, if a file stands there.
+fn clear_claimed<D: MailDisk>(disk: &mut D, spot: &Spot) -> Result<(), DiskFault>
+    ensures { Answers (Clears spot.now.claimed) (D.state disk.old) result (D.state disk.new) }
+{
+    clear(disk, spot.claimed())
+}
+
+/// Removes the file of a claimed mail. If another file stands at its claimed path, nothing is done.
+pub fn remove_mail<D: MailDisk>(disk: &mut D, spot: &Spot) -> Result<(), DiskFault>
+    ensures { RemovesMail spot.now (D.state disk.old) result (D.state disk.new) }
+{
+    if !is_claimed(disk, spot)? {
+        return Ok(());
+    }
+    clear_claimed(disk, spot)
+}
+
+/// Puts a claimed mail aside, with the line `why` in the file of the reason. The reason is written and flushed first.
+///
+/// A mail that waits already stays there. If another file stands at its claimed path, nothing is done. A file that stands
+/// at its path aside is replaced.
+pub fn put_mail_aside<D: MailDisk>(disk: &mut D, spot: &Spot, why: &[u8]) -> Result<(), DiskFault>
+    ensures { PutsMailAside spot.now (D.state disk.old) result (D.state disk.new) }
+{
+    if !is_claimed(disk, spot)? {
+        return Ok(());
+    }
+    if is_waiting(disk, spot)? {
+        return Ok(());
+    }
+    write_reason(disk, spot.reason(), why)?;
+    bring(disk, spot.claimed(), spot.aside())
+}
+
+/// Returns true if the file of a mail stands in the folder from which it was claimed.
+fn is_waiting<D: MailDisk>(disk: &mut D, spot: &Spot) -> Result<bool, DiskFault>
+    ensures { Answers (Tells spot.now.waiting spot.now.file) (D.state disk.old) result (D.state disk.new) }
+{
+    stands_at(disk, spot.waiting(), spot.file())
+}
+
+/// Writes the line `why` at `path`. A file of its size there has that line already.
+fn write_reason<D: MailDisk>(disk: &mut D, path: &[u8], why: &[u8]) -> Result<(), DiskFault>
+    ensures { Touches (path.now ∷ []) (D.state disk.old) (D.state disk.new) }
+{
+    match disk.find(path) {
+        Ok(Some(found)) if found.size == why.len() as u64 => Ok(()),
+        _ => write_anew(disk, path, why),
+    }
+}
+
+/// Writes `line` to a new file at `path`, in place of what stands there, and flushes it.
+fn write_anew<D: MailDisk>(disk: &mut D, path: &[u8], line: &[u8]) -> Result<(), DiskFault>
+    ensures { Touches (path.now ∷ []) (D.state disk.old) (D.state disk.new) }
+{
+    clear(disk, path)?;
+    disk.create_new(path, line)?;
+    disk.flush(path)
+}
+
+/// Renames the file at `from` to `to`, if there is one.
+fn bring<D: MailDisk>(disk: &mut D, from: &[u8], to: &[u8]) -> Result<(), DiskFault>
+    ensures { Answers (Brings from.now to.now) (D.state disk.old) result (D.state disk.new) }
+{
+    match disk.rename(from, to) {
+        Ok(()) => Ok(()),
+        Err(DiskFault::NotFound) => Ok(()),
+        Err(fault) => Err(fault),
+    }
+}
+
+/// Gives a claimed mail back to the folder from which it was claimed. If a file stands at its name there, the mail stays
+/// claimed.
+///
+/// It gets its old name there beside the claimed one. That name is flushed before the claimed one is removed. Else a
+/// loss of power might leave the removal alone, and the mail would have no name. If the disk gives no second name, the
+/// mail is renamed.
+pub fn give_mail_back<D: MailDisk>(disk: &mut D, spot: &Spot) -> Result<(), DiskFault>
+    ensures { GivesMailBack spot.now (D.state disk.old) (D.state disk.new) }
+{
+    if !is_claimed(disk, spot)? {
+        return Ok(());
+    }
+    match disk.link(spot.claimed(), spot.waiting()) {
+        Ok(()) => end_giving(disk, spot),
+        Err(_) => {
+            give_back_alone(disk, spot);
+            Ok(())
+        }
+    }
+}
+
+/// Flushes the name of a mail in the folder from which it was claimed, and then removes its claimed one.
+fn end_giving<D: MailDisk>(disk: &mut D, spot: &Spot) -> Result<(), DiskFault>
+    requires { HasFileAt spot.now.waiting spot.now (D.state disk.old) }
+    ensures { StaysThere (spot.now.claimed ∷ spot.now.waiting ∷ []) spot.now (D.state disk.old) (D.state disk.new) }
+{
+    disk.flush_name(spot.waiting())?;
+    clear_claimed(disk, spot)
+}
+
+/// Gives back a mail that gets no second name. If a killed run has given it back already, its claimed name is removed. If
+/// its name is free in the folder from which it was claimed, it is renamed.
+fn give_back_alone<D: MailDisk>(disk: &mut D, spot: &Spot)
+    requires { HasFileAt spot.now.claimed spot.now (D.state disk.old) }
+    ensures { GivesMailBack spot.now (D.state disk.old) (D.state disk.new) }
+{
+    match disk.find(spot.waiting()) {
+        Ok(Some(found)) => end_if_given(disk, spot, found.file),
+        Ok(None) => {
+            let _ = bring(disk, spot.claimed(), spot.waiting());
+        }
+        Err(_) => {}
+    }
+}
+
+/// Removes the claimed name of a mail if its file is `file`, which stands in the folder from which it was claimed.
+fn end_if_given<D: MailDisk>(disk: &mut D, spot: &Spot, file: u128)
+    requires { (D.state disk.old).is_honest ≡ true → found_at spot.now.waiting (D.state disk.old).now.names ≡ Some file }
+    ensures { ((D.state disk.new) ≡ (D.state disk.old)) ⊎ StaysThere (spot.now.claimed ∷ spot.now.waiting ∷ []) spot.now (D.state disk.old) (D.state disk.new) }
+{
+    if file == spot.file() {
+        let _ = end_giving(disk, spot);
+    }
+}

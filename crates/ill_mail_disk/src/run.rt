@@ -1,0 +1,325 @@
+//! The mails of a run on a disk that may lose its power.
+
+ghost use Rattle.std.specs.Prelude.{◌≡◌, ◌⊎◌, true, slice_get, None, IfOk, IfSome, OnErr, OnOk, [], ◌∷◌, ◌++◌};
+ghost use Rattle.ill_disk.specs.Calls.{Answers};
+ghost use Rattle.ill_mail_disk.specs.Spots.{GivesMailBack, Gone, Aside, PutsMailAside, RemovesMail};
+ghost use Rattle.ill_mail_disk.specs.Runs as runs;
+ghost use Rattle.ill_mail_disk.specs.Runs.{AddsMail, AnyMail, DoesAt, DoesNothing, GivesBackInRun, HasComeAlone, IsSpread, KeepsInRun, LooksFor, MailsSurvive, MovesInRun, admitted, has_come_as, is_admitted, is_spread_from, is_spread_from_all, keeps_off, misses, run_state, spares};
+
+use crate::keeper::Keeper;
+use crate::mail_disk::MailDisk;
+use crate::moves::{give_mail_back, put_mail_aside, remove_mail};
+use crate::spot::{Paths, Spot};
+use ill_disk::DiskFault;
+use std::alloc::Global;
+use std::marker::Model;
+
+/// The mails of a run on a disk, and the messages that ask. A mail is known by its number in the run, from 0 on.
+///
+/// The place of a mail is where its file has a name on the disk. No call loses a mail, but `remove`: at each moment of a
+/// call and after each loss of power the file of a mail has its claimed name, its name in the folder from which it was
+/// claimed, or its name aside. The disk must be honest for that.
+#[derive(Drop)]
+pub struct MailRun<D: MailDisk> {
+    disk: D,
+    spots: Vec<Option<Spot>>,
+    asked: Keeper,
+    folder: Vec<u8>,
+}
+
+impl<D: MailDisk> Model for MailRun<D> {
+    ghost Value = { runs.MailRunOf D };
+
+    ghost view = { λ r. record { disk = r.disk; spots = r.spots.items; asked = r.asked; folder = r.folder.items } };
+
+    ghost invariant = { λ r. IsSpread r.asked r.spots.items };
+}
+
+impl<D: MailDisk> MailRun<D> {
+    /// Returns a run without mails. It keeps the messages that ask in `asked`, and puts mails aside into `folder`.
+    pub fn new(alloc: Global, disk: D, asked: Keeper, folder: Vec<u8>) -> MailRun<D>
+        ensures { result ≡ record { disk = disk; spots = []; asked = asked; folder = folder.items } }
+    {
+        MailRun {
+            disk,
+            spots: Vec::new(alloc),
+            asked,
+            folder,
+        }
+    }
+
+    /// Returns the disk, to look at.
+    pub fn disk(&self) -> &D
+        ensures disk { result.now ≡ self.now.disk }
+        ensures spread { IsSpread self.now.asked self.now.spots }
+    {
+        &self.disk
+    }
+
+    /// Adds the mail with these paths. If no file stands at its claimed path, or another mail or the messages that ask have
+    /// one of its paths, the run takes no care of it: it stays where it is, for the next run.
+    pub fn add(&mut self, alloc: Global, paths: Paths<'_>) -> Result<(), DiskFault>
+        ensures added { OnOk result (AddsMail D.state (λ file. record {
+          claimed = paths.entry.claimed.now;
+          waiting = paths.entry.waiting.now;
+          aside = paths.entry.aside.now;
+          reason = paths.entry.reason.now;
+          file = file;
+        }) self.old self.new) }
+        ensures failed { OnErr result (self.new.spots ≡ self.old.spots) }
+        ensures same { (D.state self.old.disk).is_honest ≡ true → (D.state self.new.disk).now ≡ (D.state self.old.disk).now }
+        ensures asked { self.new.asked ≡ self.old.asked }
+    {
+        let spot = spot_at(alloc, &mut self.disk, &self.asked, &self.spots, paths)?;
+        self.spots.push(spot)?;
+        Ok(())
+    }
+
+    /// Adds a mail that was not claimed. It stays where it is.
+    pub fn add_unclaimed(&mut self) -> Result<(), DiskFault>
+        ensures added { OnOk result (self.new ≡ record self.old { spots = self.old.spots ++ None ∷ [] }) }
+        ensures failed { OnErr result (self.new ≡ self.old) }
+    {
+        self.spots.push(None)?;
+        Ok(())
+    }
+
+    /// Removes the mail `mail`.
+    pub fn remove(&mut self, mail: usize) -> Result<(), DiskFault>
+        ensures moves { MovesInRun Gone mail (run_state D.state self.old) result (run_state D.state self.new) }
+        ensures survive { MailsSurvive D.state (λ other. other ≡ mail → ⊥) self.old self.new }
+        ensures mails { self.new.spots ≡ self.old.spots }
+    {
+        remove_at(&mut self.disk, &self.spots, mail)
+    }
+
+    /// Puts the mail `mail` aside for a person, with the line `why`.
+    pub fn put_aside(&mut self, mail: usize, why: &[u8]) -> Result<(), DiskFault>
+        ensures moves { MovesInRun Aside mail (run_state D.state self.old) result (run_state D.state self.new) }
+        ensures survive { MailsSurvive D.state AnyMail self.old self.new }
+        ensures mails { self.new.spots ≡ self.old.spots }
+    {
+        self.disk.make_folder(&self.folder)?;
+        put_aside_at(&mut self.disk, &self.spots, mail, why)
+    }
+
+    /// Gives the mail `mail` back to the folder from which it was claimed. If another mail of its name has come there, or is
+    /// in the run, it stays claimed.
+    pub fn give_back(&mut self, mail: usize) -> Result<(), DiskFault>
+        ensures moves { GivesBackInRun mail (run_state D.state self.old) (run_state D.state self.new) }
+        ensures survive { MailsSurvive D.state AnyMail self.old self.new }
+        ensures mails { self.new.spots ≡ self.old.spots }
+    {
+        give_back_at(&mut self.disk, &self.spots, mail)
+    }
+
+    /// Keeps `asked`, messages that ask. If there are none, no file is left.
+    pub fn keep_asked(&mut self, asked: &[u8]) -> Result<(), DiskFault>
+        ensures keeps { KeepsInRun asked.now (run_state D.state self.old) result (run_state D.state self.new) }
+        ensures survive { MailsSurvive D.state AnyMail self.old self.new }
+        ensures mails { self.new.spots ≡ self.old.spots }
+    {
+        if asked.is_empty() {
+            return self.asked.forget(&mut self.disk);
+        }
+        self.asked.keep(&mut self.disk, asked)
+    }
+
+    /// Removes the folder `path`, if it is empty.
+    pub fn remove_folder(&mut self, path: &[u8])
+        ensures state { run_state D.state self.new ≡ run_state D.state self.old }
+        ensures mails { self.new.spots ≡ self.old.spots }
+    {
+        let _ = self.disk.remove_folder(path);
+    }
+}
+
+/// Returns the mail with these paths, if its file stands at its claimed path, and a run with the mails `spots` takes care
+/// of it.
+fn spot_at<D: MailDisk>(
+    alloc: Global,
+    disk: &mut D,
+    asked: &Keeper,
+    spots: &[Option<Spot>],
+    paths: Paths<'_>,
+) -> Result<Option<Spot>, DiskFault>
+    ensures looks { Answers (LooksFor asked.now spots.now (λ file. record {
+      claimed = paths.entry.claimed.now;
+      waiting = paths.entry.waiting.now;
+      aside = paths.entry.aside.now;
+      reason = paths.entry.reason.now;
+      file = file;
+    })) (D.state disk.old) result (D.state disk.new) }
+    ensures admitted { IfOk result (λ found. IfSome found (λ spot. is_admitted asked.now spots.now spot ≡ true)) }
+{
+    match disk.find(paths.claimed)? {
+        Some(found) => admit(alloc, asked, spots, paths, found.file),
+        None => Ok(None),
+    }
+}
+
+/// Returns the mail with these paths and this file, if a run with the mails `spots` takes care of it.
+fn admit(
+    alloc: Global,
+    asked: &Keeper,
+    spots: &[Option<Spot>],
+    paths: Paths<'_>,
+    file: u128,
+) -> Result<Option<Spot>, DiskFault>
+    ensures found { IfOk result (λ found. found ≡ admitted asked.now spots.now (record {
+      claimed = paths.entry.claimed.now;
+      waiting = paths.entry.waiting.now;
+      aside = paths.entry.aside.now;
+      reason = paths.entry.reason.now;
+      file = file;
+    })) }
+    ensures admitted { IfOk result (λ found. IfSome found (λ spot. is_admitted asked.now spots.now spot ≡ true)) }
+{
+    let Some(spot) = Spot::at(alloc, paths, file)? else {
+        return Ok(None);
+    };
+    if is_admitted(asked, spots, &spot) {
+        Ok(Some(spot))
+    } else {
+        Ok(None)
+    }
+}
+
+/// Returns true if a mail takes no path of the messages that ask, or of `spots`.
+fn is_admitted(asked: &Keeper, spots: &[Option<Spot>], spot: &Spot) -> bool
+    ensures { result ≡ is_admitted asked.now spots.now spot.now }
+{
+    keeps_off(asked, spot) && is_spread_from_all(spot, spots)
+}
+
+/// Returns true if a mail takes no path of the messages that ask.
+fn keeps_off(asked: &Keeper, spot: &Spot) -> bool
+    ensures { result ≡ keeps_off asked.now spot.now }
+{
+    misses(asked.path(), spot) && misses(asked.aside(), spot) && spot.reason() != asked.path()
+}
+
+/// Returns true if `path` is none of those at which the file of a mail may stand.
+fn misses(path: &[u8], spot: &Spot) -> bool
+    ensures { result ≡ misses path.now spot.now }
+{
+    spot.claimed() != path && spot.waiting() != path && spot.aside() != path
+}
+
+/// Returns true if a mail takes no path of any of `spots`, and none of these takes one of it.
+fn is_spread_from_all(spot: &Spot, spots: &[Option<Spot>]) -> bool
+    ensures { result ≡ is_spread_from_all spot.now spots.now }
+{
+    for other in spots {
+        if !is_spread_from(spot, other) {
+            return false;
+        }
+    }
+    true
+}
+
+/// Returns true if neither a mail nor another takes a path of the other, if there is another.
+fn is_spread_from(spot: &Spot, other: &Option<Spot>) -> bool
+    ensures { result ≡ is_spread_from spot.now other.now }
+{
+    match other {
+        Some(other) => spares(spot, other) && spares(other, spot),
+        None => true,
+    }
+}
+
+/// Returns true if no path that a mail leaves or takes is one of another mail.
+fn spares(spot: &Spot, other: &Spot) -> bool
+    ensures { result ≡ spares spot.now other.now }
+{
+    misses(spot.reason(), other) && misses(spot.claimed(), other) && misses(spot.aside(), other)
+}
+
+/// Removes the mail `mail` of `spots`, if the run takes care of it.
+fn remove_at<D: MailDisk>(
+    disk: &mut D,
+    spots: &[Option<Spot>],
+    mail: usize,
+) -> Result<(), DiskFault>
+    ensures { DoesAt (λ spot. RemovesMail spot (D.state disk.old) result (D.state disk.new))
+        (DoesNothing (D.state disk.old) result (D.state disk.new)) (slice_get spots.now mail) }
+{
+    match spots.get(mail) {
+        Some(Some(spot)) => remove_mail(disk, spot),
+        Some(None) => Ok(()),
+        None => Ok(()),
+    }
+}
+
+/// Puts the mail `mail` of `spots` aside, if the run takes care of it.
+fn put_aside_at<D: MailDisk>(
+    disk: &mut D,
+    spots: &[Option<Spot>],
+    mail: usize,
+    why: &[u8],
+) -> Result<(), DiskFault>
+    ensures { DoesAt (λ spot. PutsMailAside spot (D.state disk.old) result (D.state disk.new))
+        (DoesNothing (D.state disk.old) result (D.state disk.new)) (slice_get spots.now mail) }
+{
+    match spots.get(mail) {
+        Some(Some(spot)) => put_mail_aside(disk, spot, why),
+        Some(None) => Ok(()),
+        None => Ok(()),
+    }
+}
+
+/// Gives the mail `mail` of `spots` back, if the run takes care of it, and no other mail of the run has come under its
+/// name.
+fn give_back_at<D: MailDisk>(
+    disk: &mut D,
+    spots: &[Option<Spot>],
+    mail: usize,
+) -> Result<(), DiskFault>
+    ensures { DoesAt (λ spot. (D.state disk.new ≡ D.state disk.old)
+        ⊎ (HasComeAlone spots.now mail spot.waiting × GivesMailBack spot (D.state disk.old) (D.state disk.new)))
+        (DoesNothing (D.state disk.old) result (D.state disk.new)) (slice_get spots.now mail) }
+{
+    match spots.get(mail) {
+        Some(Some(spot)) => give_back_if_alone(disk, spots, mail, spot),
+        Some(None) => Ok(()),
+        None => Ok(()),
+    }
+}
+
+/// Gives `spot`, the mail `mail` of `spots`, back, if no other mail of the run has come under its name.
+fn give_back_if_alone<D: MailDisk>(
+    disk: &mut D,
+    spots: &[Option<Spot>],
+    mail: usize,
+    spot: &Spot,
+) -> Result<(), DiskFault>
+    ensures { (D.state disk.new ≡ D.state disk.old)
+        ⊎ (HasComeAlone spots.now mail spot.now.waiting × GivesMailBack spot.now (D.state disk.old) (D.state disk.new)) }
+{
+    if !has_come_alone(spots, mail, spot.waiting()) {
+        return Ok(());
+    }
+    give_mail_back(disk, spot)
+}
+
+/// Returns true if each other mail of `spots` than `mail` has come under another name than `path`.
+fn has_come_alone(spots: &[Option<Spot>], mail: usize, path: &[u8]) -> bool
+    ensures { result ≡ true → HasComeAlone spots.now mail path.now }
+{
+    for other in 0..spots.len() {
+        if other != mail && has_come_as(path, &spots[other]) {
+            return false;
+        }
+    }
+    true
+}
+
+/// Returns true if a mail has come under the name `path`.
+fn has_come_as(path: &[u8], spot: &Option<Spot>) -> bool
+    ensures { result ≡ has_come_as path.now spot.now }
+{
+    match spot {
+        Some(spot) => path == spot.waiting(),
+        None => false,
+    }
+}

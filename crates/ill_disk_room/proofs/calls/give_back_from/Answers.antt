@@ -1,0 +1,7 @@
+use Rattle.ill_mail_disk.specs.Runs.{run_state}
+use Rattle.ill_disk_room.proofs.RoomOnDisk.{gives_in_room}
+use Rattle.ill_disk_room.proofs.calls.give_back_from.Goals as goal
+
+pub returns-clause-moves : goal.returns-clause-moves
+returns-clause-moves g c = gives_in_room (run_state g.D.Disk.state c.args.run.now)
+    (run_state g.D.Disk.state c.give_back.new.self) c.args.mail c.answer_of.result c.give_back.ensures.moves

@@ -1,0 +1,9 @@
+use Rattle.ill_mail_disk.specs.Spots.{Gone}
+use Rattle.ill_mail_disk.specs.Runs.{run_state}
+use Rattle.ill_disk_room.proofs.RoomOnDisk.{moves_in_room}
+use Rattle.ill_disk_room.proofs.calls.remove_from.Goals as goal
+
+pub returns-clause-moves : goal.returns-clause-moves
+returns-clause-moves g c = moves_in_room (run_state g.D.Disk.state c.args.run.now)
+    (run_state g.D.Disk.state c.remove.new.self) Gone c.args.mail c.remove.result c.answer_of.result c.answer_of.ensures.agree
+    c.remove.ensures.moves

@@ -1,0 +1,8 @@
+use Rattle.std.proofs.Common.{subst}
+use Rattle.ill_room.specs.Room.{Answers, GivesBack, is_honest_room}
+use Rattle.ill_disk_room.specs.DiskRooms.{room_state}
+use Rattle.ill_disk_room.proofs.disk_room.DiskRoomRoom.give_back.Goals as goal
+
+pub returns-clause-moves : goal.returns-clause-moves
+returns-clause-moves g c = subst (λ r. Answers is_honest_room (GivesBack c.args.mail) (room_state g.D.Disk.state r)
+    c.give_back_from.result (room_state g.D.Disk.state c.give_back_from.new.run)) c.self.view_is c.give_back_from.ensures.moves

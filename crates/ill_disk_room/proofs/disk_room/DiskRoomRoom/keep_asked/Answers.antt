@@ -1,0 +1,9 @@
+use Rattle.std.proofs.Common.{subst}
+use Rattle.ill_room.specs.Room.{Answers, Keeps, is_honest_room}
+use Rattle.ill_disk_room.specs.DiskRooms.{room_state}
+use Rattle.ill_disk_room.proofs.disk_room.DiskRoomRoom.keep_asked.Goals as goal
+
+pub returns-clause-keeps : goal.returns-clause-keeps
+returns-clause-keeps g c = subst (λ r. Answers is_honest_room (Keeps c.args.asked.now) (room_state g.D.Disk.state r)
+    c.keep_asked_in-kept.result (room_state g.D.Disk.state c.keep_asked_in-kept.new.run)) c.self.view_is
+    c.keep_asked_in-kept.ensures.keeps

@@ -1,0 +1,9 @@
+use Rattle.std.proofs.Common.{subst}
+use Rattle.ill_room.specs.Room.{Answers, Moves, is_honest_room}
+use Rattle.ill_room.specs.declared.room.Place.TheVariants as places
+use Rattle.ill_disk_room.specs.DiskRooms.{room_state}
+use Rattle.ill_disk_room.proofs.disk_room.DiskRoomRoom.remove.Goals as goal
+
+pub returns-clause-moves : goal.returns-clause-moves
+returns-clause-moves g c = subst (λ r. Answers is_honest_room (Moves places.Gone c.args.mail) (room_state g.D.Disk.state r)
+    c.remove_from.result (room_state g.D.Disk.state c.remove_from.new.run)) c.self.view_is c.remove_from.ensures.moves

@@ -1,0 +1,114 @@
+//! The calls of a room, by those of a run on a disk.
+
+ghost use Rattle.std.specs.Prelude.{◌≡◌, IfErr};
+ghost use Rattle.ill_room.specs.Room.{Answers, GivesBack, Keeps, Moves, is_honest_room};
+ghost use Rattle.ill_room.specs.declared.room.Place.TheVariants as places;
+ghost use Rattle.ill_mail_disk.specs.Runs.{AnyMail, MailsSurvive, run_state};
+ghost use Rattle.ill_disk_room.specs.DiskRooms.{Agree, room_state};
+ghost use Rattle.ill_text.specs.Fault.{IsFileFault};
+
+use ill_disk::DiskFault;
+use ill_mail_disk::{MailDisk, MailRun};
+use ill_night::verdict::{Unfit, push_unfit};
+use ill_text::fault::{STORE_FAILED, ToolFault};
+use std::alloc::Global;
+
+/// Returns the answer of a room for that of its run.
+fn answer_of(answer: Result<(), DiskFault>) -> Result<(), ToolFault>
+    ensures agree { Agree answer result }
+    ensures faults { IfErr result IsFileFault }
+{
+    match answer {
+        Ok(()) => Ok(()),
+        Err(DiskFault::OutOfMemory) => Err(ToolFault::OutOfMemory),
+        Err(DiskFault::Failed | DiskFault::NotFound | DiskFault::TooLarge) => Err(STORE_FAILED),
+    }
+}
+
+/// Removes the mail `mail` of a run.
+pub(crate) fn remove_from<D: MailDisk>(run: &mut MailRun<D>, mail: usize) -> Result<(), ToolFault>
+    ensures moves { Answers is_honest_room (Moves places.Gone mail) (room_state D.state run.old) result
+        (room_state D.state run.new) }
+    ensures faults { IfErr result IsFileFault }
+    ensures survive { MailsSurvive D.state (λ other. other ≡ mail → ⊥) run.old run.new }
+{
+    answer_of(run.remove(mail))
+}
+
+/// Puts the mail `mail` of a run aside, with the line `why`.
+fn put_aside_from<D: MailDisk>(
+    run: &mut MailRun<D>,
+    mail: usize,
+    why: &[u8],
+) -> Result<(), ToolFault>
+    ensures moves { Answers is_honest_room (Moves places.Aside mail) (room_state D.state run.old) result
+        (room_state D.state run.new) }
+    ensures faults { IfErr result IsFileFault }
+    ensures survive { MailsSurvive D.state AnyMail run.old run.new }
+{
+    answer_of(run.put_aside(mail, why))
+}
+
+/// Returns the line of the reason why a mail is put aside.
+fn reason_of(alloc: Global, unfit: Unfit) -> Result<Vec<u8>, ToolFault>
+    ensures { IfErr result IsFileFault }
+{
+    let mut why = Vec::new(alloc);
+    push_unfit(&mut why, unfit)?;
+    why.push(b'\n')?;
+    Ok(why)
+}
+
+/// Puts the mail `mail` of a run aside, with the reason `unfit`.
+#[tactic(auto, using(crate::proofs::RoomOnDisk::fails_in_room, crate::proofs::RoomOnDisk::all_survive))]
+pub(crate) fn put_unfit_aside<D: MailDisk>(
+    alloc: Global,
+    run: &mut MailRun<D>,
+    mail: usize,
+    unfit: Unfit,
+) -> Result<(), ToolFault>
+    ensures moves { Answers is_honest_room (Moves places.Aside mail) (room_state D.state run.old) result
+        (room_state D.state run.new) }
+    ensures faults { IfErr result IsFileFault }
+    ensures survive { MailsSurvive D.state AnyMail run.old run.new }
+{
+    match reason_of(alloc, unfit) {
+        Ok(why) => put_aside_from(run, mail, &why),
+        Err(fault) => Err(fault),
+    }
+}
+
+/// Gives the mail `mail` of a run back.
+pub(crate) fn give_back_from<D: MailDisk>(
+    run: &mut MailRun<D>,
+    mail: usize,
+) -> Result<(), ToolFault>
+    ensures moves { Answers is_honest_room (GivesBack mail) (room_state D.state run.old) result
+        (room_state D.state run.new) }
+    ensures faults { IfErr result IsFileFault }
+    ensures survive { MailsSurvive D.state AnyMail run.old run.new }
+{
+    answer_of(run.give_back(mail))
+}
+
+/// Keeps `asked`, messages that ask, in a run.
+pub(crate) fn keep_asked_in<D: MailDisk>(
+    run: &mut MailRun<D>,
+    asked: &[u8],
+) -> Result<(), ToolFault>
+    ensures keeps { Answers is_honest_room (Keeps asked.now) (room_state D.state run.old) result
+        (room_state D.state run.new) }
+    ensures faults { IfErr result IsFileFault }
+    ensures survive { MailsSurvive D.state AnyMail run.old run.new }
+{
+    answer_of(run.keep_asked(asked))
+}
+
+/// Removes those of `folders` that are empty.
+pub(crate) fn remove_folders<D: MailDisk>(run: &mut MailRun<D>, folders: &[Vec<u8>])
+    ensures { run_state D.state run.new ≡ run_state D.state run.old }
+{
+    for folder in folders {
+        run.remove_folder(folder);
+    }
+}

@@ -1,0 +1,142 @@
+//! A room on a disk.
+
+ghost use Rattle.std.specs.Prelude.{◌≡◌, IfErr};
+ghost use Rattle.ill_room.specs.Room.{Answers, GivesBack, Keeps, Moves, is_honest_room};
+ghost use Rattle.ill_room.specs.declared.room.Place.TheVariants as places;
+ghost use Rattle.ill_mail_disk.specs.Runs as runs;
+ghost use Rattle.ill_mail_disk.specs.Runs.{AnyMail, MailsSurvive};
+ghost use Rattle.ill_disk_room.specs.DiskRooms.{room_state};
+ghost use Rattle.ill_text.specs.Fault.{IsFileFault};
+
+use crate::calls::{give_back_from, keep_asked_in, put_unfit_aside, remove_folders, remove_from};
+use ill_mail_disk::{MailDisk, MailRun};
+use ill_night::person::tell_person;
+use ill_night::verdict::{Mail, Unfit, Verdict};
+use ill_room::room::Room;
+use ill_saved::Role;
+use ill_text::fault::ToolFault;
+use ill_text::warning::warn;
+use std::alloc::Global;
+use std::io::Write;
+use std::marker::Model;
+
+/// The text about the file of the messages that ask, after the path of the desk's file.
+const NOT_ASKED: &str = ".mail/asked cannot be read or written";
+
+/// The room of the mails of a run on a disk. The place of a mail is where its file has a name on the disk.
+///
+/// The room is as honest as its disk. No call loses a mail, whenever the power goes, but `remove` its own.
+#[derive(Drop)]
+pub struct DiskRoom<'a, D: MailDisk> {
+    alloc: Global,
+    run: MailRun<D>,
+    /// The path of the desk's file, for lines about faults.
+    file: &'a [u8],
+    /// The mails of the run, if a line is written about each that wants a person.
+    told: Option<&'a [Mail]>,
+    /// The folders of runs, which are removed if they are empty.
+    folders: &'a [Vec<u8>],
+}
+
+impl<'a, D: MailDisk> Model for DiskRoom<'a, D> {
+    ghost Value = { runs.MailRunOf D };
+
+    ghost view = { λ r. r.run };
+}
+
+impl<'a, D: MailDisk> DiskRoom<'a, D> {
+    /// Returns the room of the mails of `run`. Lines about faults name `file`. If there are mails `told`, it tells a person
+    /// of them. At its end it removes those of `folders` that are empty.
+    pub fn at(
+        alloc: Global,
+        run: MailRun<D>,
+        file: &'a [u8],
+        told: Option<&'a [Mail]>,
+        folders: &'a [Vec<u8>],
+    ) -> DiskRoom<'a, D>
+        ensures { result ≡ run }
+    {
+        DiskRoom {
+            alloc,
+            run,
+            file,
+            told,
+            folders,
+        }
+    }
+
+    /// Returns the run, to look at.
+    pub fn run(&self) -> &MailRun<D>
+        ensures { result.now ≡ self.now }
+    {
+        &self.run
+    }
+}
+
+/// Writes a line about the messages that ask at the desk in `file`, if a store has failed to keep them.
+fn warn_unless_kept<E: Write>(
+    alloc: Global,
+    file: &[u8],
+    kept: Result<(), ToolFault>,
+    errors: &mut E,
+) {
+    match kept {
+        Ok(()) | Err(ToolFault::OutOfMemory) => {}
+        Err(_) => warn(alloc, file, NOT_ASKED, errors),
+    }
+}
+
+/// Each call of a room is one of its run. All that `Room` asks holds on an honest disk.
+impl<'a, D: MailDisk> Room for DiskRoom<'a, D> {
+    ghost state = { λ room. room_state D.state room };
+
+    fn remove(&mut self, mail: usize) -> Result<(), ToolFault>
+        ensures moves { Answers is_honest_room (Moves places.Gone mail) (room_state D.state self.old) result
+            (room_state D.state self.new) }
+        ensures faults { IfErr result IsFileFault }
+        ensures survive { MailsSurvive D.state (λ other. other ≡ mail → ⊥) self.old self.new }
+    {
+        remove_from(&mut self.run, mail)
+    }
+
+    fn put_aside(&mut self, mail: usize, unfit: Unfit) -> Result<(), ToolFault>
+        ensures moves { Answers is_honest_room (Moves places.Aside mail) (room_state D.state self.old) result
+            (room_state D.state self.new) }
+        ensures faults { IfErr result IsFileFault }
+        ensures survive { MailsSurvive D.state AnyMail self.old self.new }
+    {
+        put_unfit_aside(self.alloc, &mut self.run, mail, unfit)
+    }
+
+    fn give_back(&mut self, mail: usize) -> Result<(), ToolFault>
+        ensures moves { Answers is_honest_room (GivesBack mail) (room_state D.state self.old) result
+            (room_state D.state self.new) }
+        ensures faults { IfErr result IsFileFault }
+        ensures survive { MailsSurvive D.state AnyMail self.old self.new }
+    {
+        give_back_from(&mut self.run, mail)
+    }
+
+    fn keep_asked<E: Write>(&mut self, asked: &[u8], errors: &mut E) -> Result<(), ToolFault>
+        ensures keeps { Answers is_honest_room (Keeps asked.now) (room_state D.state self.old) result
+            (room_state D.state self.new) }
+        ensures faults { IfErr result IsFileFault }
+        ensures survive { MailsSurvive D.state AnyMail self.old self.new }
+    {
+        let kept = keep_asked_in(&mut self.run, asked);
+        warn_unless_kept(self.alloc, self.file, kept, errors);
+        kept
+    }
+
+    fn tell_person<E: Write>(&self, role: Role, verdicts: &[Verdict], errors: &mut E) {
+        if let Some(mails) = self.told {
+            tell_person(self.alloc, role, mails, verdicts, errors);
+        }
+    }
+
+    fn clear(&mut self)
+        ensures { room_state D.state self.new ≡ room_state D.state self.old }
+    {
+        remove_folders(&mut self.run, self.folders);
+    }
+}

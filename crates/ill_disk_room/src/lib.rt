@@ -1,0 +1,7 @@
+//! The room of a desk's mail on a disk that may lose its power.
+#![tactic(auto)]
+
+mod calls;
+mod disk_room;
+
+pub use disk_room::DiskRoom;

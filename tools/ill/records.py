@@ -34,9 +34,14 @@ def repaired(data):
     return with_digest(data[:-DIGEST])
 
 
-def desk_record(role, sides):
-    """Returns the record of a desk, of version 2."""
-    parts = [b"ILL2", bytes([role]), len(sides).to_bytes(2, "big")]
-    for each in map(record, sides):
+def desk_of(role, records):
+    """Returns the record of a desk, of version 2, of the records of its sides."""
+    parts = [b"ILL2", bytes([role]), len(records).to_bytes(2, "big")]
+    for each in records:
         parts += [len(each).to_bytes(2, "big"), each]
     return with_digest(b"".join(parts))
+
+
+def desk_record(role, sides):
+    """Returns the record of a desk, of version 2."""
+    return desk_of(role, [record(side) for side in sides])

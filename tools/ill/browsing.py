@@ -257,7 +257,7 @@ def ten_at_once(clerk):
     """Sends the form of a page ten times at once."""
     clerk.asks("Web-4")
     script = "return [...new FormData(document.querySelector(arguments[0]))].map(it => it.join('='))"
-    fields = [it.split("=", 1) for it in clerk.browser.run(script, clerk.form("cancel"))]
+    fields = [tuple(it.split("=", 1)) for it in clerk.browser.run(script, clerk.form("cancel"))]
     with concurrent.futures.ThreadPoolExecutor(10) as pool:
         found = sorted(pool.map(lambda _: posts(clerk.site, fields), range(10)))
     REPORT.tell("ten equal forms at once, behind the server", differs("statuses", found, [303] + [409] * 9), clerk.console())
@@ -348,7 +348,8 @@ def strangers(clerk, servers):
     REPORT.tell("no login", differs("status", found, 401))
     fields = {"desk": house.desk("borrow"), "group": "G1", "transaction": "Web-5", "stamp": "x", "word": "cancel"}
     inputs = "".join(f"<input name={name} value='{value}'>" for name, value in fields.items())
-    page = f"<title>-</title><form method=post action='{clerk.site.url('borrow')}'>{inputs}<button>win</button></form>"
+    head = "<title>-</title><link rel=icon href='data:,'>"  # else a browser asks for an icon, which is not there
+    page = f"{head}<form method=post action='{clerk.site.url('borrow')}'>{inputs}<button>win</button></form>"
     harness.write(f"{servers.folder}/www/evil.html", page)
     neighbour = servers.lighttpd()
     for name, place in (("a page of nobody", "data:text/html," + urllib.parse.quote(page)),

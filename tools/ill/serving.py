@@ -16,6 +16,7 @@ server.modules = ("mod_auth", "mod_authn_file", "mod_cgi"{modules})
 server.document-root = "{folder}/www"
 server.port = {port}
 server.bind = "127.0.0.1"
+mimetype.assign = (".html" => "text/html")
 server.errorlog = "{folder}/lighttpd.log"
 server.breakagelog = "{folder}/breakage.log"
 auth.backend = "htpasswd"

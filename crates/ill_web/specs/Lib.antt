@@ -1,2 +1,6 @@
 pub mod Actions
+pub mod Acts
+pub mod Pages
+pub mod Replies
+pub mod Sent
 pub mod Troubles

@@ -48,6 +48,10 @@ failed (tools.Desk (Store fault)) =
 failed tools.OutOfMemory = tells statuses.Failed (codes "Memory ran out.")
 failed other = tells statuses.Failed (codes "The file of the desk is no desk: see ill verify.")
 
+-- Memory ran out.
+abbrev pub no_memory : Trouble
+no_memory = troubles.Desk tools.OutOfMemory
+
 -- Returns what is told when something is wrong.
 abbrev pub trouble_told : Trouble → Telling
 trouble_told (troubles.Refused fault) = refused fault

@@ -1,10 +1,19 @@
 //! One act of a form, at a desk in a file, under its lock.
 
-ghost use Rattle.std.specs.Prelude.{◌≡◌, map, option_map, Some, Ok, IfOk};
+ghost use Rattle.std.specs.Prelude.{◌≡◌, ◌⊎◌, ◌++◌, ℕ, List, codes, map, option_map, string_bytes, Option, Some, Result, Err, IfErr, IfOk};
+ghost use Rattle.ill_browser.specs.Wanted.{loan_asked};
 ghost use Rattle.ill_post.specs.Post.{AnswersPost, form_shown, state_of};
+ghost use Rattle.ill_post.specs.declared.answer.Posted.{Posted};
+ghost use Rattle.ill_saved.specs.declared.fault.DeskFault.{DeskFault};
 ghost use Rattle.ill_saved.specs.declared.side.Action.TheVariants.{Deed};
+ghost use Rattle.ill_text.specs.Fault.{IsOpenFault};
 ghost use Rattle.ill_words.specs.Words.{deed_of};
 ghost use Rattle.ill_web.specs.Actions.{action_of};
+ghost use Rattle.ill_web.specs.Acts.{ActsIf, ActsIn, AnswersSent, IsEarly, IsNotice, IsTurnLine, IsVerbLine, TellsAnswer, TellsPosted, TellsWhy, Turn, may_act, of_post, status_of, user_named};
+ghost use Rattle.ill_web.specs.Pages.{asked_at, said};
+ghost use Rattle.ill_web.specs.Replies.{ActsHere, house_shown};
+ghost use Rattle.ill_web.specs.Sent.{sent_form};
+ghost use Rattle.ill_web.specs.Troubles.{no_memory};
 
 use crate::serve::House;
 use crate::show::loan_reply;
@@ -18,7 +27,7 @@ use ill_files::shelf::{desk_name, is_named_on_shelf, is_shelf};
 use ill_list::link::Place;
 use ill_page::{Status, seen_reply};
 use ill_post::{Form, Posted, post};
-use ill_saved::{Action, Desk, LockFiles, Role, Store};
+use ill_saved::{Action, Desk, DeskFault, LockFiles, Role, Store};
 use ill_text::diary::{Stamp, diary_line, is_name};
 use ill_text::fault::ToolFault;
 use ill_values::{Day, OutOfMemory, TxnId};
@@ -31,7 +40,7 @@ use std::rt::Files;
 /// A form that was sent: its loan, the stamp that the loan had on the page, and the words of its fields.
 #[derive(Clone, Copy)]
 struct Sent<'a> {
-    txn: &'a TxnId,
+    place: &'a Place<'a>,
     stamp: &'a [u8],
     words: &'a [Vec<u8>],
 }
@@ -42,37 +51,62 @@ pub fn act<T: LockFiles>(
     loan: &LoanName,
     stamp: &[u8],
     words: &[Vec<u8>],
-) -> Result<Vec<u8>, Trouble> {
-    let file = house.file(&loan.desk)?;
-    if !house.user.is_empty() && !is_name(house.user) {
-        return Err(Trouble::NoName);
-    }
+) -> Result<Vec<u8>, Trouble>
+    ensures { (turn : Option Turn) × ActsHere (house_shown house.now)
+        (record { loan = loan_asked loan.now; stamp = stamp.now; words = map (λ word. word.items) words.now })
+        turn (said result) }
+{
+    let place = house.place(loan)?;
     let sent = Sent {
-        txn: &loan.txn,
+        place: &place,
         stamp,
         words,
     };
-    let mut locked = open_locked(house.rt, house.alloc, file)?;
-    refuse_other_group(house, file, locked.desk.role(), loan.txn.group())?;
-    let answered = answer(house, file, &mut locked.desk, &sent);
-    drop(locked);
-    match answered {
-        Ok(posted) => reply_to(house, file, &loan.txn, posted),
-        Err(trouble) => Err(trouble),
+    act_as(house, &sent)
+}
+
+/// Performs the act of a form, if a diary can name its user.
+fn act_as<T: LockFiles>(house: &House<'_, T>, sent: &Sent<'_>) -> Result<Vec<u8>, Trouble>
+    ensures { (turn : Option Turn) × ActsIf (may_act house.now.user.now) house.now.operator.now.today (sent_form sent.now) turn
+        (said result) }
+{
+    if may_act(house.user) {
+        take_turn(house, sent)
+    } else {
+        Err(Trouble::NoName)
     }
 }
 
-/// Refuses a loan of `group` if the desk in `file` is one of a shelf, and not that of the group.
+/// Returns true if a diary can name the user, or nobody is named.
+fn may_act(user: &str) -> bool
+    ensures { result ≡ may_act user.now }
+{
+    user.is_empty() || is_name(user)
+}
+
+/// Lets a form have its turn at its desk, under the lock of the desk's file.
+fn take_turn<T: LockFiles>(house: &House<'_, T>, sent: &Sent<'_>) -> Result<Vec<u8>, Trouble>
+    ensures { (turn : Option Turn) × ActsIn house.now.operator.now.today (sent_form sent.now) turn (said result) }
+{
+    let mut locked = open_locked(house.rt, house.alloc, sent.place.desk)?;
+    refuse_other_group(house, sent.place, locked.desk.role())?;
+    let answered = answer(house, &mut locked.desk, sent);
+    drop(locked);
+    tell(house, sent.place, answered)
+}
+
+/// Refuses a loan of another group if its desk is one of a shelf.
 fn refuse_other_group<T: Files>(
     house: &House<'_, T>,
-    file: &str,
+    place: &Place<'_>,
     role: Role,
-    group: &[u8],
-) -> Result<(), Trouble> {
-    let name = Path::new(file).file_name().unwrap_or(file);
+) -> Result<(), Trouble>
+    ensures { IfErr result IsEarly }
+{
+    let name = Path::new(place.desk).file_name().unwrap_or(place.desk);
     if is_named_on_shelf(house.alloc, name)?
-        && has_shelf(house, folder_of(file))?
-        && desk_name(house.alloc, role, group)?.as_str() != name
+        && has_shelf(house, folder_of(place.desk))?
+        && desk_name(house.alloc, role, place.txn.group())?.as_str() != name
     {
         return Err(Trouble::OtherGroup);
     }
@@ -80,31 +114,41 @@ fn refuse_other_group<T: Files>(
 }
 
 /// Returns true if there is a shelf in `folder`.
-fn has_shelf<T: Files>(house: &House<'_, T>, folder: &str) -> Result<bool, ToolFault> {
+fn has_shelf<T: Files>(house: &House<'_, T>, folder: &str) -> Result<bool, ToolFault>
+    ensures { IfErr result IsOpenFault }
+{
     Ok(is_shelf(house.rt, house.alloc, folder)?)
 }
 
-/// Answers the form `sent` at `desk`, in `file`.
+/// Answers the form `sent` at `desk`.
 fn answer<T: Files, S: Store>(
     house: &House<'_, T>,
-    file: &str,
     desk: &mut Desk<S>,
     sent: &Sent<'_>,
-) -> Result<Posted, Trouble> {
+) -> Result<Posted, Trouble>
+    ensures { AnswersSent house.now.operator.now.today (sent_form sent.now) (state_of S.state desk.old) result
+        (state_of S.state desk.new) }
+{
     let words = slices(house.alloc, sent.words)?;
     let action = action(house.alloc, desk.role(), house.operator.today, &words)?;
     let form = Form {
-        txn: sent.txn,
+        txn: sent.place.txn,
         stamp: sent.stamp,
         action,
     };
-    let line = line_of(house, &form, &words, desk.shown(sent.txn).issued);
-    perform(house, file, desk, &form, line)
+    let line = line_of(house, &form, &words, desk.shown(form.txn).issued);
+    perform(house, sent.place.desk, desk, &form, line)
 }
 
 /// Returns `words` as slices.
-fn slices(alloc: Global, words: &[Vec<u8>]) -> Result<Vec<&[u8]>, OutOfMemory> {
-    words.iter().map(|word| word.as_slice()).collect(alloc)
+fn slices(alloc: Global, words: &[Vec<u8>]) -> Result<Vec<&[u8]>, OutOfMemory>
+    ensures { IfOk result (λ slices. map (λ word. word.now) slices.items ≡ map (λ word. word.items) words.now) }
+{
+    let mut slices = Vec::new(alloc);
+    for word in words {
+        slices.push(word.as_slice())?;
+    }
+    Ok(slices)
 }
 
 /// Performs the action of `form` at `desk`, in `file`. If it is done, `line` is entered in the diary beside `file`.
@@ -115,39 +159,69 @@ fn perform<T: Files, S: Store>(
     form: &Form<'_>,
     line: Result<Vec<u8>, OutOfMemory>,
 ) -> Result<Posted, Trouble>
-    ensures { IfOk result (λ posted. AnswersPost (form_shown form.now) (state_of S.state desk.old) (Ok posted)
-        (state_of S.state desk.new)) }
+    ensures { (posted : Result Posted DeskFault)
+        × AnswersPost (form_shown form.now) (state_of S.state desk.old) posted (state_of S.state desk.new)
+        × (result ≡ of_post posted) }
 {
     let mut errors = sink();
     let mut entry = late_entry(house.rt, house.alloc, file, line, &mut errors);
-    match post(house.alloc, desk, form, &mut entry) {
+    of_post(post(house.alloc, desk, form, &mut entry))
+}
+
+/// Returns what came of a form, or the fault of its desk.
+fn of_post(posted: Result<Posted, DeskFault>) -> Result<Posted, Trouble>
+    ensures { result ≡ of_post posted }
+{
+    match posted {
         Ok(posted) => Ok(posted),
         Err(fault) => Err(Trouble::Desk(fault.into())),
     }
 }
 
+/// Returns the reply to a form at `place` that was answered so.
+fn tell<T: Files>(
+    house: &House<'_, T>,
+    place: &Place<'_>,
+    answered: Result<Posted, Trouble>,
+) -> Result<Vec<u8>, Trouble>
+    ensures { TellsAnswer house.now.operator.now.today (asked_at place.now) answered (said result) }
+{
+    match answered {
+        Ok(posted) => tell_posted(house, place, posted),
+        Err(trouble) => Err(trouble),
+    }
+}
+
 /// Returns the reply to a form of which `posted` came. One that was done leads to the page of its loan. Else the page of the
 /// loan is shown as it is now.
-fn reply_to<T: Files>(
+fn tell_posted<T: Files>(
     house: &House<'_, T>,
-    file: &str,
-    txn: &TxnId,
+    place: &Place<'_>,
     posted: Posted,
-) -> Result<Vec<u8>, Trouble> {
+) -> Result<Vec<u8>, Trouble>
+    ensures { TellsPosted house.now.operator.now.today (asked_at place.now) posted (said result) }
+{
     match posted {
-        Posted::Done => {
-            let place = Place { desk: file, txn };
-            Ok(seen_reply(house.alloc, &place)?)
-        }
-        posted => {
-            let notice = notice_of(house.alloc, posted)?;
-            let told = Told {
-                status: status_of(posted),
-                notice: notice.as_str(),
-            };
-            loan_reply(house, file, txn, told)
-        }
+        Posted::Done => Ok(seen_reply(house.alloc, place)?),
+        Posted::Refused(_) | Posted::NoAction | Posted::Changed => tell_why(house, place, posted),
     }
+}
+
+/// Returns the reply with the page of the loan at `place` as it is now, and why the form was not done.
+fn tell_why<T: Files>(
+    house: &House<'_, T>,
+    place: &Place<'_>,
+    posted: Posted,
+) -> Result<Vec<u8>, Trouble>
+    ensures { TellsWhy house.now.operator.now.today (asked_at place.now) posted (said result)
+        ⊎ (said result ≡ Err no_memory) }
+{
+    let notice = notice_of(house.alloc, posted)?;
+    let told = Told {
+        status: status_of(posted),
+        notice: notice.as_str(),
+    };
+    loan_reply(house, place, told)
 }
 
 /// Returns the line of a diary that names the action of a form, as the next message of its loan.
@@ -156,36 +230,57 @@ fn line_of<T>(
     form: &Form<'_>,
     words: &[&[u8]],
     issued: u8,
-) -> Result<Vec<u8>, OutOfMemory> {
-    let (Some(_), Some(verb)) = (&form.action, words.first()) else {
-        return Ok(Vec::new(house.alloc));
-    };
-    let Ok(verb) = str::from_utf8(verb) else {
-        return Ok(Vec::new(house.alloc));
-    };
-    diary_line(
-        house.alloc,
-        &stamp_of_user(house),
-        form.txn,
-        verb,
-        u32::from(issued) + 1,
-    )
-}
-
-/// Returns the day of the operator, and the name of the user, if there is one.
-fn stamp_of_user<'a, T>(house: &House<'a, T>) -> Stamp<'a> {
-    Stamp {
-        day: house.operator.today,
-        by: if house.user.is_empty() {
-            None
-        } else {
-            Some(house.user)
-        },
+) -> Result<Vec<u8>, OutOfMemory>
+    ensures { IfOk result (λ line. IsTurnLine form.now.action house.now.operator.now.today (user_named house.now.user.now)
+        form.now.txn.now (map (λ word. word.now) words.now) issued line.items) }
+{
+    match (&form.action, words.first()) {
+        (Some(_), Some(verb)) => verb_line(house, form.txn, verb, issued),
+        _ => Ok(Vec::new(house.alloc)),
     }
 }
 
+/// Returns the line of a diary that names an action by its verb, as the next message of the loan of `txn`.
+fn verb_line<T>(
+    house: &House<'_, T>,
+    txn: &TxnId,
+    verb: &[u8],
+    issued: u8,
+) -> Result<Vec<u8>, OutOfMemory>
+    ensures { IfOk result (λ line. IsVerbLine house.now.operator.now.today (user_named house.now.user.now)
+        txn.now verb.now issued line.items) }
+{
+    match str::from_utf8(verb) {
+        Ok(verb) => {
+            let stamp = stamp_of_user(house);
+            diary_line(house.alloc, &stamp, txn, verb, u32::from(issued) + 1)
+        }
+        Err(_) => Ok(Vec::new(house.alloc)),
+    }
+}
+
+/// Returns the day of the operator, and the name of the user, if there is one.
+fn stamp_of_user<'a, T>(house: &House<'a, T>) -> Stamp<'a>
+    ensures day { result.day ≡ house.now.operator.now.today }
+    ensures by { option_map (λ name. name.now) result.by ≡ user_named house.now.user.now }
+{
+    Stamp {
+        day: house.operator.today,
+        by: user_named(house.user),
+    }
+}
+
+/// Returns the name of the user, if there is one.
+fn user_named(user: &str) -> Option<&str>
+    ensures { option_map (λ name. name.now) result ≡ user_named user.now }
+{
+    if user.is_empty() { None } else { Some(user) }
+}
+
 /// Returns the status of the reply to a form that was not done.
-fn status_of(posted: Posted) -> Status {
+fn status_of(posted: Posted) -> Status
+    ensures { result ≡ status_of posted }
+{
     match posted {
         Posted::NoAction => Status::Bad,
         Posted::Refused(_) | Posted::Changed | Posted::Done => Status::Conflict,
@@ -193,12 +288,11 @@ fn status_of(posted: Posted) -> Status {
 }
 
 /// Returns the words for a form that was not done.
-fn notice_of(alloc: Global, posted: Posted) -> Result<String, OutOfMemory> {
+fn notice_of(alloc: Global, posted: Posted) -> Result<String, OutOfMemory>
+    ensures { IfOk result (λ notice. IsNotice posted (string_bytes notice)) }
+{
     match posted {
-        Posted::Refused(fault) => {
-            let fault = ToolFault::from(fault);
-            Ok(format!(in alloc; "Nothing was done: {fault}.")?)
-        }
+        Posted::Refused(fault) => refusal_notice(alloc, fault.into()),
         Posted::NoAction => String::from_str(
             alloc,
             "Nothing was done: a field of the form is missing or wrong.",
@@ -208,6 +302,18 @@ fn notice_of(alloc: Global, posted: Posted) -> Result<String, OutOfMemory> {
             "Nothing was done: the loan has changed since your page showed it. This is how it is now.",
         ),
     }
+}
+
+/// Returns the words for a form that was refused.
+fn refusal_notice(alloc: Global, fault: ToolFault) -> Result<String, OutOfMemory>
+    ensures { IfOk result (λ notice. (words : List ℕ)
+        × (string_bytes notice ≡ codes "Nothing was done: " ++ (words ++ codes "."))) }
+{
+    let words = format!(in alloc; "{fault}")?;
+    let mut notice = String::from_str(alloc, "Nothing was done: ")?;
+    notice.push_str(words.as_str())?;
+    notice.push_str(".")?;
+    Ok(notice)
 }
 
 /// Returns the action that `words` name for `role` on the day `today`. A title is one word with its spaces.

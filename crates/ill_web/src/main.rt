@@ -5,6 +5,7 @@
 #![tactic(auto)]
 
 mod act;
+mod laws;
 mod note;
 mod operator;
 mod serve;

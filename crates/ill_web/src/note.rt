@@ -1,5 +1,11 @@
 //! A note of staff on a loan, at a desk in a file.
 
+ghost use Rattle.std.specs.Prelude.{◌≡◌, map, Some, None};
+ghost use Rattle.ill_browser.specs.Wanted.{loan_asked};
+ghost use Rattle.ill_web.specs.Acts.{KeepsNote, Notes};
+ghost use Rattle.ill_web.specs.Pages.{AtDesk, asked_at, said};
+ghost use Rattle.ill_web.specs.Replies.{house_shown};
+
 use crate::serve::House;
 use crate::trouble::Trouble;
 use ill_browser::LoanName;
@@ -14,20 +20,43 @@ pub fn note_loan<T: LockFiles>(
     house: &House<'_, T>,
     loan: &LoanName,
     words: &str,
-) -> Result<Vec<u8>, Trouble> {
-    let file = house.file(&loan.desk)?;
-    if !is_note(words) {
-        return Err(Trouble::NoNote);
+) -> Result<Vec<u8>, Trouble>
+    ensures { AtDesk (house_shown house.now).files loan.now.desk.items (Notes (loan_asked loan.now) words.now) (said result) }
+{
+    let place = house.place(loan)?;
+    note_at(house, &place, words)
+}
+
+/// Keeps a note on the loan at `place`, if it is one.
+fn note_at<T: LockFiles>(
+    house: &House<'_, T>,
+    place: &Place<'_>,
+    words: &str,
+) -> Result<Vec<u8>, Trouble>
+    ensures { Notes (asked_at place.now) words.now (said result) }
+{
+    if is_note(words) {
+        keep(house, place, words)
+    } else {
+        Err(Trouble::NoNote)
     }
+}
+
+/// Keeps a note on the loan at `place`.
+fn keep<T: LockFiles>(
+    house: &House<'_, T>,
+    place: &Place<'_>,
+    words: &str,
+) -> Result<Vec<u8>, Trouble>
+    ensures { KeepsNote (asked_at place.now) words.now (said result) }
+{
     let words = [words];
     let view = NoteView {
-        txn: &loan.txn,
+        txn: place.txn,
         words: &words,
     };
-    note(&mut house.machine(), file, &view)?;
-    let place = Place {
-        desk: file,
-        txn: &loan.txn,
-    };
-    Ok(seen_reply(house.alloc, &place)?)
+    match note(&mut house.machine(), place.desk, &view) {
+        Ok(_) => Ok(seen_reply(house.alloc, place)?),
+        Err(fault) => Err(Trouble::Desk(fault)),
+    }
 }

@@ -1,6 +1,13 @@
 //! One request, from its texts to the reply.
 
-ghost use Rattle.std.specs.Prelude.{◌≡◌, IfOk};
+ghost use Rattle.std.specs.Prelude.{◌≡◌, Option, Some, None, bytes_eq, find, map, option_copied, option_map, string_bytes, IfOk, MatchResult};
+ghost use Rattle.ill_browser.specs.Visit.{visit_shown};
+ghost use Rattle.ill_browser.specs.Wanted.{asked_of, loan_asked};
+ghost use Rattle.ill_commands.specs.Streams.{streams_of};
+ghost use Rattle.ill_web.specs.declared.trouble.Trouble.TheVariants.{NoDesk};
+ghost use Rattle.ill_web.specs.Acts.{Turn};
+ghost use Rattle.ill_web.specs.Pages.{asked_at, file_named, said};
+ghost use Rattle.ill_web.specs.Replies.{AnswersAt, AnswersRequest, Sends, Serves, house_shown, reply_of, sent_of};
 ghost use Rattle.ill_web.specs.Troubles.{trouble_reply};
 
 use crate::act::act;
@@ -8,10 +15,12 @@ use crate::note::note_loan;
 use crate::operator::Operator;
 use crate::show::{show_desks, show_figures, show_loan, show_slip};
 use crate::trouble::Trouble;
-use ill_browser::{Rules, Visit, Wanted, read_wanted};
+use ill_browser::{LoanName, Rules, Visit, Wanted, read_wanted};
 use ill_files::folder::desk_paths;
-use ill_page::{Status, notice_page, page_reply};
+use ill_list::link::Place;
+use ill_page::{notice_page, page_reply};
 use ill_saved::LockFiles;
+use ill_text::output::write_and_flush;
 use ill_values::OutOfMemory;
 use std::alloc::Global;
 use std::io::{Read, Write};
@@ -50,19 +59,27 @@ pub fn serve<T: LockFiles, R: Read, W: Write>(
     request: Request<'_>,
     reader: &mut R,
     writer: &mut W,
-) -> u8 {
-    let reply = match answer(rt, alloc, request, reader) {
+) -> u8
+    ensures { Serves request.entry.operator.now (visit_shown request.entry.visit.now)
+        (streams_of (R.remaining reader.old) (W.contents writer.old)) result
+        (streams_of (R.remaining reader.new) (W.contents writer.new)) }
+{
+    let answered = answer(rt, alloc, request, reader);
+    let reply = reply_of(alloc, request.operator, answered);
+    send_reply(writer, reply)
+}
+
+/// Returns the reply that was found, or the reply if something is wrong.
+fn reply_of(
+    alloc: Global,
+    operator: &Operator<'_>,
+    answered: Result<Vec<u8>, Trouble>,
+) -> Result<Vec<u8>, OutOfMemory>
+    ensures { IfOk result (λ reply. reply.items ≡ reply_of operator.now.today (said answered)) }
+{
+    match answered {
         Ok(reply) => Ok(reply),
-        Err(trouble) => trouble_reply(alloc, request.operator, trouble),
-    };
-    let written = match reply {
-        Ok(reply) => writer.write_all(&reply),
-        Err(_) => writer.write_all(NO_MEMORY),
-    };
-    if written.is_ok() && writer.flush().is_ok() {
-        0
-    } else {
-        3
+        Err(trouble) => trouble_reply(alloc, operator, trouble),
     }
 }
 
@@ -79,13 +96,36 @@ fn trouble_reply(
     page_reply(alloc, told.status, &page)
 }
 
+/// Writes a reply, or that there was no memory for it. Returns the exit status.
+fn send_reply<W: Write>(writer: &mut W, reply: Result<Vec<u8>, OutOfMemory>) -> u8
+    ensures { Sends (sent_of reply) (W.contents writer.old) result (W.contents writer.new) }
+{
+    match reply {
+        Ok(reply) => send(writer, &reply),
+        Err(_) => send(writer, NO_MEMORY),
+    }
+}
+
+/// Writes `bytes`, and returns the exit status.
+fn send<W: Write>(writer: &mut W, bytes: &[u8]) -> u8
+    ensures { Sends bytes.now (W.contents writer.old) result (W.contents writer.new) }
+{
+    match write_and_flush(writer, bytes) {
+        Ok(()) => 0,
+        Err(_) => 3,
+    }
+}
+
 /// Returns the reply to a request.
 fn answer<T: LockFiles, R: Read>(
     rt: &T,
     alloc: Global,
     request: Request<'_>,
     reader: &mut R,
-) -> Result<Vec<u8>, Trouble> {
+) -> Result<Vec<u8>, Trouble>
+    ensures { (turn : Option Turn) × AnswersRequest request.entry.operator.now (visit_shown request.entry.visit.now)
+        (R.remaining reader.old) (R.remaining reader.new) turn (said result) }
+{
     let Request { operator, visit } = request;
     let rules = Rules {
         origin: operator.origin,
@@ -104,7 +144,9 @@ fn answer<T: LockFiles, R: Read>(
 }
 
 /// Returns the reply to a request that asks for `wanted`.
-fn reply_to<T: LockFiles>(house: &House<'_, T>, wanted: &Wanted) -> Result<Vec<u8>, Trouble> {
+fn reply_to<T: LockFiles>(house: &House<'_, T>, wanted: &Wanted) -> Result<Vec<u8>, Trouble>
+    ensures { (turn : Option Turn) × AnswersAt (house_shown house.now) (asked_of wanted.now) turn (said result) }
+{
     match wanted {
         Wanted::Desks { find } => show_desks(house, find.as_ref().map(|words| words.as_str())),
         Wanted::Loan(loan) => show_loan(house, loan),
@@ -116,15 +158,35 @@ fn reply_to<T: LockFiles>(house: &House<'_, T>, wanted: &Wanted) -> Result<Vec<u
 }
 
 impl<'a, T> House<'a, T> {
-    /// Returns the path of the desk with this text. The text is compared with the operator's, and opens no file.
-    pub fn file(&self, desk: &[u8]) -> Result<&'a str, Trouble>
-        ensures { IfOk result (λ file. file.now ≡ desk.now) }
+    /// Returns the loan at the path of its desk. The text for the desk is compared with the operator's paths, and opens no
+    /// file.
+    pub fn place<'b>(&'b self, loan: &'b LoanName) -> Result<Place<'b>, Trouble>
+        ensures { MatchResult result
+            (λ place. (file_named (house_shown self.now).files loan.now.desk.items ≡ Some loan.now.desk.items)
+            × (asked_at place ≡ loan_asked loan.now))
+            (λ trouble. (file_named (house_shown self.now).files loan.now.desk.items ≡ None) × (trouble ≡ NoDesk)) }
     {
-        for file in self.files {
-            if file.as_bytes() == desk {
-                return Ok(file.as_str());
-            }
+        match file_named(self.files, &loan.desk) {
+            Some(file) => Ok(Place {
+                desk: file.as_str(),
+                txn: &loan.txn,
+            }),
+            None => Err(Trouble::NoDesk),
         }
-        Err(Trouble::NoDesk)
     }
+}
+
+/// Returns the first of `files` with the text `desk`.
+fn file_named<'a>(files: &'a [String], desk: &[u8]) -> Option<&'a String>
+    ensures { option_map (λ file. string_bytes file) (option_copied result)
+        ≡ file_named (map (λ file. string_bytes file) files.now) desk.now }
+{
+    file_with(files, desk)
+}
+
+/// Returns the first of `files` with these bytes.
+fn file_with<'a>(files: &'a [String], bytes: &[u8]) -> Option<&'a String>
+    ensures { option_copied result ≡ find (λ file. bytes_eq (string_bytes file) bytes.now) files.now }
+{
+    files.iter().find(|file| file.as_bytes() == bytes)
 }

@@ -1,5 +1,13 @@
 //! The pages of the desks, of a loan, of a slip and of figures.
 
+ghost use Rattle.std.specs.Prelude.{◌≡◌, ◌++◌, ◌==◌, [], length, map, option_map, string_bytes, Some, IfOk, OnOk, MatchResult};
+ghost use Rattle.ill_browser.specs.Wanted.{loan_asked};
+ghost use Rattle.ill_show.specs.Since.{annex_of};
+ghost use Rattle.ill_page.specs.declared.reply.Status.TheVariants.{Good};
+ghost use Rattle.ill_web.specs.Pages.{AddsDesk, AddsDesks, AreLines, AtDesk, IsUnread, ShowsDesks, ShowsFigures, ShowsHeld, ShowsLoan, ShowsSlip, ShowsSpan, TellsNone, asked_at, said, sides_part, with_news};
+ghost use Rattle.ill_web.specs.Replies.{house_shown};
+ghost use Rattle.ill_web.specs.Troubles.{telling, tells};
+
 use crate::serve::House;
 use crate::told::Told;
 use crate::trouble::Trouble;
@@ -12,6 +20,7 @@ use ill_files::diary::diary_bytes;
 use ill_files::machine::Machine;
 use ill_files::notes::notes_bytes;
 use ill_files::open::open;
+use ill_list::link::Place;
 use ill_list::news::news_since;
 use ill_list::report::push_fault;
 use ill_page::{
@@ -19,17 +28,21 @@ use ill_page::{
     page_reply, push_desk_part,
 };
 use ill_post::stamp_of;
-use ill_saved::{Desk, DeskFault, Store};
+use ill_saved::{Desk, DeskFault, Sides, Store};
+use ill_show::annex::Annex;
 use ill_show::file_lines::FileLines;
 use ill_show::loan::{Beside, LoanForm, LoanView, run_desk_loan};
 use ill_text::fault::ToolFault;
-use ill_values::{Day, OutOfMemory, TxnId};
+use ill_values::{Day, OutOfMemory};
+use std::alloc::Global;
 use std::io::{Sink, sink};
 use std::rt::Files;
 
 impl<'a, T> House<'a, T> {
     /// Returns a machine that writes into memory, and no line about what could not be done.
-    pub fn machine(&self) -> Machine<'a, T, Vec<u8>, Sink> {
+    pub fn machine(&self) -> Machine<'a, T, Vec<u8>, Sink>
+        ensures { result.writer.items ≡ [] }
+    {
         Machine {
             rt: self.rt,
             alloc: self.alloc,
@@ -40,7 +53,10 @@ impl<'a, T> House<'a, T> {
 }
 
 /// Returns the reply with the page of all desks, or of their loans that have the words `find`.
-pub fn show_desks<T: Files>(house: &House<'_, T>, find: Option<&str>) -> Result<Vec<u8>, Trouble> {
+pub fn show_desks<T: Files>(house: &House<'_, T>, find: Option<&str>) -> Result<Vec<u8>, Trouble>
+    ensures { ShowsDesks house.now.operator.now.today (house_shown house.now).files
+        (option_map (λ words. words.now) find.entry) (said result) }
+{
     let mut page = begin_desks(house.alloc, house.operator.today, find)?;
     push_files(house, &mut page, find)?;
     end_desks(&mut page)?;
@@ -52,7 +68,10 @@ fn push_files<T: Files>(
     house: &House<'_, T>,
     page: &mut Vec<u8>,
     find: Option<&str>,
-) -> Result<(), OutOfMemory> {
+) -> Result<(), OutOfMemory>
+    ensures { OnOk result (AddsDesks house.now.operator.now.today (option_map (λ words. words.now) find.entry)
+        (house_shown house.now).files page.old.items page.new.items) }
+{
     let files = house.files;
     for place in 0..files.len() {
         push_file(house, page, files[place].as_str(), find)?;
@@ -66,20 +85,18 @@ fn push_file<T: Files>(
     page: &mut Vec<u8>,
     file: &str,
     find: Option<&str>,
-) -> Result<(), OutOfMemory> {
+) -> Result<(), OutOfMemory>
+    ensures { OnOk result (AddsDesk house.now.operator.now.today (option_map (λ words. words.now) find.entry) file.now
+        page.old.items page.new.items) }
+{
     match open_with_annex(house.rt, house.alloc, file, &mut sink()) {
-        Ok((desk, mut annex)) => {
-            let today = Some(house.operator.today);
-            let news = news_since(house.alloc, desk.sides(), &annex, today)?;
-            annex.news = news;
-            let shown = DeskShown {
-                today: house.operator.today,
-                find,
+        Ok((desk, annex)) => {
+            let opened = Opened {
                 file,
+                find,
                 sides: desk.sides(),
-                annex: &annex,
             };
-            let told = push_desk_part(page, &shown);
+            let told = push_opened(house, page, &opened, annex);
             drop(desk);
             told
         }
@@ -87,41 +104,88 @@ fn push_file<T: Files>(
     }
 }
 
-/// Returns the reply with the page of a loan.
-pub fn show_loan<T: Files>(house: &House<'_, T>, loan: &LoanName) -> Result<Vec<u8>, Trouble> {
-    let file = house.file(&loan.desk)?;
-    loan_reply(house, file, &loan.txn, Told::nothing())
+/// A desk that was opened: its file, the words that are sought, if there are any, and its sides.
+#[derive(Clone, Copy)]
+struct Opened<'a> {
+    file: &'a str,
+    find: Option<&'a str>,
+    sides: &'a Sides,
 }
 
-/// Returns the reply with the page of the loan `txn` of the desk in `file`, and what it tells beside.
+/// Appends the part of a desk with this annex. It tells what came today.
+fn push_opened<T>(
+    house: &House<'_, T>,
+    page: &mut Vec<u8>,
+    opened: &Opened<'_>,
+    annex: Annex,
+) -> Result<(), OutOfMemory>
+    ensures { OnOk result (page.new.items ≡ page.old.items ++ sides_part house.now.operator.now.today
+        (option_map (λ words. words.now) opened.now.find) opened.now.file.now opened.now.sides.now.role
+        opened.now.sides.now.sides
+        (with_news house.now.operator.now.today opened.now.sides.now.sides (annex_of annex))) }
+{
+    let told = with_news(house, opened.sides, annex)?;
+    let shown = DeskShown {
+        today: house.operator.today,
+        find: opened.find,
+        file: opened.file,
+        sides: opened.sides,
+        annex: &told,
+    };
+    push_desk_part(page, &shown)
+}
+
+/// Returns `annex` with the news of the day: what came today, by the diary.
+fn with_news<T>(house: &House<'_, T>, sides: &Sides, annex: Annex) -> Result<Annex, OutOfMemory>
+    ensures { IfOk result (λ told. annex_of told
+        ≡ with_news house.now.operator.now.today sides.now.sides (annex_of annex)) }
+{
+    let mut told = annex;
+    let news = news_since(house.alloc, sides, &told, Some(house.operator.today))?;
+    told.news = news;
+    Ok(told)
+}
+
+/// Returns the reply with the page of a loan.
+pub fn show_loan<T: Files>(house: &House<'_, T>, loan: &LoanName) -> Result<Vec<u8>, Trouble>
+    ensures { AtDesk (house_shown house.now).files loan.now.desk.items
+        (ShowsLoan house.now.operator.now.today (tells Good []) (loan_asked loan.now)) (said result) }
+{
+    let place = house.place(loan)?;
+    loan_reply(house, &place, Told::nothing())
+}
+
+/// Returns the reply with the page of the loan at `place`, and what it tells beside.
 pub fn loan_reply<T: Files>(
     house: &House<'_, T>,
-    file: &str,
-    txn: &TxnId,
+    place: &Place<'_>,
     told: Told<'_>,
-) -> Result<Vec<u8>, Trouble> {
-    let desk = open(house.rt, house.alloc, file)?;
-    let reply = reply_of(house, file, &desk, txn, told);
+) -> Result<Vec<u8>, Trouble>
+    ensures { ShowsLoan house.now.operator.now.today (telling told.entry) (asked_at place.now) (said result) }
+{
+    let desk = open(house.rt, house.alloc, place.desk)?;
+    let reply = reply_of(house, place, &desk, told);
     drop(desk);
     reply
 }
 
-/// Returns the reply with the page of the loan `txn` of `desk`, in `file`, and what it tells beside.
+/// Returns the reply with the page of the loan at `place`, whose desk is `desk`, and what it tells beside.
 fn reply_of<T: Files, S: Store>(
     house: &House<'_, T>,
-    file: &str,
+    place: &Place<'_>,
     desk: &Desk<S>,
-    txn: &TxnId,
     told: Told<'_>,
-) -> Result<Vec<u8>, Trouble> {
-    let Some(side) = desk.sides().get(txn) else {
+) -> Result<Vec<u8>, Trouble>
+    ensures { ShowsHeld house.now.operator.now.today (telling told.entry) (asked_at place.now) desk.now.live (said result) }
+{
+    let Some(side) = desk.sides().get(place.txn) else {
         return no_loan(house, told);
     };
     let stamp = stamp_of(house.alloc, Some(side))?;
-    let lines = lines_of(house, file, desk, txn)?;
+    let lines = lines_of(house, place, desk)?;
     let shown = LoanShown {
         today: house.operator.today,
-        desk: file,
+        desk: place.desk,
         side,
         stamp: stamp.as_str(),
         lines: &lines,
@@ -131,7 +195,9 @@ fn reply_of<T: Files, S: Store>(
 }
 
 /// Returns the reply about a loan that a desk does not hold: the notice, or that it has no such loan.
-fn no_loan<T>(house: &House<'_, T>, told: Told<'_>) -> Result<Vec<u8>, Trouble> {
+fn no_loan<T>(house: &House<'_, T>, told: Told<'_>) -> Result<Vec<u8>, Trouble>
+    ensures { TellsNone (length told.entry.notice.now == 0) house.now.operator.now.today (telling told.entry) (said result) }
+{
     if told.notice.is_empty() {
         return Err(Trouble::Desk(ToolFault::Desk(DeskFault::NoSuchTransaction)));
     }
@@ -142,46 +208,75 @@ fn no_loan<T>(house: &House<'_, T>, told: Told<'_>) -> Result<Vec<u8>, Trouble> 
 /// Returns the lines of all that is known of a loan, as `ill loan` writes them.
 fn lines_of<T: Files, S: Store>(
     house: &House<'_, T>,
-    file: &str,
+    place: &Place<'_>,
     desk: &Desk<S>,
-    txn: &TxnId,
-) -> Result<Vec<u8>, Trouble> {
-    let diary = diary_bytes(house.rt, house.alloc, file, &mut sink())?;
+) -> Result<Vec<u8>, Trouble>
+    ensures { MatchResult result (λ lines. AreLines place.now.txn.now desk.now.live lines.items) IsUnread }
+{
+    let diary = diary_bytes(house.rt, house.alloc, place.desk, &mut sink())?;
     let diary = FileLines::read(house.alloc, &diary)?;
-    let notes = notes_bytes(house.rt, house.alloc, file)?;
+    let notes = notes_bytes(house.rt, house.alloc, place.desk)?;
     let notes = FileLines::read(house.alloc, &notes)?;
-    let came = came_bytes(house.rt, house.alloc, file)?;
+    let came = came_bytes(house.rt, house.alloc, place.desk)?;
     let beside = Beside {
         notes: &notes,
         diary: &diary,
         came: &came,
     };
+    written_lines(house.alloc, desk, place, &beside)
+}
+
+/// Returns the lines of all that is known of a loan, by the files beside its desk.
+fn written_lines<S: Store>(
+    alloc: Global,
+    desk: &Desk<S>,
+    place: &Place<'_>,
+    beside: &Beside<'_>,
+) -> Result<Vec<u8>, Trouble>
+    ensures { MatchResult result (λ lines. AreLines place.now.txn.now desk.now.live lines.items) IsUnread }
+{
     let view = LoanView {
-        txn,
+        txn: place.txn,
         form: LoanForm::Lines,
     };
-    let mut lines = Vec::new(house.alloc);
-    run_desk_loan(house.alloc, desk, &view, &beside, &mut lines)?;
-    Ok(lines)
+    let mut lines = Vec::new(alloc);
+    match run_desk_loan(alloc, desk, &view, beside, &mut lines) {
+        Ok(()) => Ok(lines),
+        Err(_) => Err(Trouble::Desk(ToolFault::OutOfMemory)),
+    }
 }
 
 /// Returns the reply with the slip of a loan.
-pub fn show_slip<T: Files>(house: &House<'_, T>, loan: &LoanName) -> Result<Vec<u8>, Trouble> {
-    let file = house.file(&loan.desk)?;
+pub fn show_slip<T: Files>(house: &House<'_, T>, loan: &LoanName) -> Result<Vec<u8>, Trouble>
+    ensures { AtDesk (house_shown house.now).files loan.now.desk.items (ShowsSlip (loan_asked loan.now)) (said result) }
+{
+    let place = house.place(loan)?;
+    slip_reply(house, &place)
+}
+
+/// Returns the reply with the slip of the loan at `place`.
+fn slip_reply<T: Files>(house: &House<'_, T>, place: &Place<'_>) -> Result<Vec<u8>, Trouble>
+    ensures { ShowsSlip (asked_at place.now) (said result) }
+{
     let mut machine = house.machine();
-    slip(&mut machine, file, &loan.txn)?;
+    slip(&mut machine, place.desk, place.txn)?;
     Ok(page_reply(house.alloc, Status::Good, &machine.writer)?)
 }
 
 /// Returns the reply with the figures of all desks between two days. A desk that cannot be read has none.
-pub fn show_figures<T: Files>(
-    house: &House<'_, T>,
-    from: Day,
-    to: Day,
-) -> Result<Vec<u8>, Trouble> {
-    let Some(span) = Span::new(from, to) else {
-        return Err(Trouble::NoSpan);
-    };
+pub fn show_figures<T: Files>(house: &House<'_, T>, from: Day, to: Day) -> Result<Vec<u8>, Trouble>
+    ensures { ShowsFigures house.now.operator.now.today from to (said result) }
+{
+    match Span::new(from, to) {
+        Some(span) => show_span(house, span),
+        None => Err(Trouble::NoSpan),
+    }
+}
+
+/// Returns the reply with the figures of all desks in `span`.
+fn show_span<T: Files>(house: &House<'_, T>, span: Span) -> Result<Vec<u8>, Trouble>
+    ensures { ShowsSpan house.now.operator.now.today (Some span) (said result) }
+{
     let view = FiguresView {
         span,
         is_csv: false,

@@ -1,7 +1,8 @@
 //! Why a request gets no page of a loan, and what a reader is told then.
 
 ghost use Rattle.std.specs.Prelude.{◌≡◌};
-ghost use Rattle.ill_web.specs.Troubles.{failed, refused, telling, tells, trouble_told};
+ghost use Rattle.ill_web.specs.Troubles.{failed, no_memory, refused, telling, tells, trouble_told};
+ghost use Rattle.ill_web.specs.declared.trouble.Trouble.TheVariants as troubles;
 
 use crate::told::Told;
 use ill_browser::VisitFault;
@@ -30,20 +31,26 @@ pub enum Trouble {
 }
 
 impl From<VisitFault> for Trouble {
+    ghost from_gives = { λ fault trouble. trouble ≡ troubles.Refused fault };
+
     fn from(fault: VisitFault) -> Trouble {
         Trouble::Refused(fault)
     }
 }
 
 impl From<ToolFault> for Trouble {
+    ghost from_gives = { λ fault trouble. trouble ≡ troubles.Desk fault };
+
     fn from(fault: ToolFault) -> Trouble {
         Trouble::Desk(fault)
     }
 }
 
 impl From<OutOfMemory> for Trouble {
+    ghost from_gives = { λ _ trouble. trouble ≡ no_memory };
+
     fn from(_error: OutOfMemory) -> Trouble {
-        Trouble::Refused(VisitFault::OutOfMemory)
+        Trouble::Desk(ToolFault::OutOfMemory)
     }
 }
 

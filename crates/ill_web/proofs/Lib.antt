@@ -1,0 +1,3 @@
+pub mod DeskLemmas
+pub mod PlaceLemmas
+pub mod TurnLemmas

@@ -1,0 +1,10 @@
+-- Proves the contract of `file_named` (`src/serve.rt`).
+use Rattle.std.proofs.Common.{◌∙◌, ap, sym, option_map, string_bytes}
+use Rattle.std.specs.Prelude.{bytes_eq}
+use Rattle.ill_browser.proofs.FieldLemmas.{find_mapped}
+use Rattle.ill_web.proofs.serve.file_named.Goals as goal
+
+pub returns : goal.returns
+returns c =
+    ap (λ found. option_map (λ file. string_bytes file) found) c.file_with.ensures
+    ∙ sym (find_mapped (λ file. string_bytes file) (λ file. bytes_eq file c.args.desk.now) c.args.files.now)

@@ -1,0 +1,16 @@
+-- Proves the contract of `push_file` (`src/show.rt`).
+use Rattle.std.proofs.Common.{List, Ok, Err, refl}
+use Rattle.ill_saved.specs.declared.role.Role.{Role}
+use Rattle.ill_saved.specs.declared.side.Side.{Side}
+use Rattle.ill_show.specs.Since.{AnnexRead, annex_of}
+use Rattle.ill_web.proofs.DeskLemmas.{then_ok}
+use Rattle.ill_web.proofs.show.push_file.Goals as goal
+
+pub returns-in-Ok : goal.returns-in-Ok
+returns-in-Ok g c =
+    let read : Role × List Side × AnnexRead = (c.sides.result.now.role, c.sides.result.now.sides, annex_of c.in-Ok.annex) in
+    then_ok c.push_opened-told.result (λ e. ((c.args.file.now, Ok read), refl, e)) c.push_opened-told.ensures
+
+pub returns-in-Err : goal.returns-in-Err
+returns-in-Err g c =
+    then_ok c.push_fault.result (λ told. ((c.args.file.now, Err told.0), refl, told.1)) c.push_fault.ensures

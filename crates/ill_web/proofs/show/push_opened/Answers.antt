@@ -1,0 +1,16 @@
+-- Proves the contract of `push_opened` (`src/show.rt`), by the news that `with_news` has found.
+use Rattle.std.proofs.Common.{◌∙◌, ◌++◌, ap, option_map}
+use Rattle.ill_show.specs.Since.{AnnexRead}
+use Rattle.ill_web.specs.Pages.{sides_part}
+use Rattle.ill_web.proofs.DeskLemmas.{then_ok}
+use Rattle.ill_web.proofs.show.push_opened.Goals as goal
+
+pub returns : goal.returns
+returns g c =
+    let opened = c.args.opened.now in
+    let find = option_map (λ words. words.now) opened.find in
+    let sides = opened.sides.now in
+    then_ok c.push_desk_part.result
+    (λ e. e ∙ ap (λ (annex : AnnexRead). c.args.page.now.items
+    ++ sides_part c.args.house.now.operator.now.today find opened.file.now sides.role sides.sides annex)
+    c.in_ok-told.ensures) c.push_desk_part.ensures

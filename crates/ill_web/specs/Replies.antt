@@ -1,0 +1,126 @@
+-- What a request is answered: its reply, and the turn of its form at a desk, if it had one.
+use Rattle.std.specs.Prelude.{◌≡◌, ◌⊎◌, ℕ, List, [], map, take, string_bytes, Option, Some, None, Result, Ok, Err, Vec}
+use Rattle.std.specs.Io.KnownBytes.{Appends, Consumes}
+use Rattle.std.specs.declared.alloc.Global.{Global}
+use Rattle.ill_values.specs.Day.{Date}
+use Rattle.ill_browser.specs.declared.fault.VisitFault.{VisitFault}
+use Rattle.ill_browser.specs.declared.wanted.Wanted.{Wanted}
+use Rattle.ill_browser.specs.Visit.{RulesShown, VisitShown, body_size}
+use Rattle.ill_browser.specs.Wanted.{Answers, Asked, Desks, Loan, Slip, Figures, Act, Note, asked_of, wanted_of}
+use Rattle.ill_commands.specs.Streams.{Streams}
+use Rattle.ill_post.specs.declared.answer.Posted.{Posted}
+use Rattle.ill_post.specs.Post.{AnswersPost}
+use Rattle.ill_saved.specs.declared.fault.DeskFault.{DeskFault}
+use Rattle.ill_page.specs.declared.reply.Status.TheVariants.{Good}
+use Rattle.ill_web.specs.declared.operator.Operator.{Operator}
+use Rattle.ill_web.specs.declared.serve.House.{House}
+use Rattle.ill_web.specs.declared.serve.TheConstants.{NO_MEMORY}
+use Rattle.ill_web.specs.declared.trouble.Trouble.{Trouble}
+use Rattle.ill_web.specs.declared.trouble.Trouble.TheVariants as troubles
+use Rattle.ill_web.specs.Acts.{ActsIf, Notes, SentForm, Turn, form_of, may_act}
+use Rattle.ill_web.specs.Pages.{AtDesk, ShowsDesks, ShowsFigures, ShowsLoan, ShowsSlip, file_named}
+use Rattle.ill_web.specs.Troubles.{no_memory, tells, trouble_reply}
+
+-- What answers a request: the day, the user, and the paths of the desks.
+pub record HouseShown : Type 0 where
+  pub today : Date
+  pub user : List ℕ
+  pub files : List (List ℕ)
+
+-- Returns what a `House` of the code holds.
+abbrev pub house_shown : {T : Type 0} → House T → HouseShown
+house_shown house = record {
+  today = house.operator.now.today;
+  user = house.user.now;
+  files = map (λ file. string_bytes file) house.files.now;
+}
+
+-- Returns the rules of the operator for all requests.
+abbrev pub rules_of : Operator → RulesShown
+rules_of operator = record { origin = operator.origin.now; is_open = operator.is_open }
+
+-- ---- what is asked for
+
+-- The form acts, if its text for a desk names one. Else it has no turn.
+abbrev pub ActsHere : HouseShown → SentForm → Option Turn → Result (List ℕ) Trouble → Type 0
+ActsHere house sent turn result =
+    ((file_named house.files sent.loan.desk ≡ Some sent.loan.desk) × ActsIf (may_act house.user) house.today sent turn result)
+    ⊎ ((file_named house.files sent.loan.desk ≡ None) × (turn ≡ None) × (result ≡ Err troubles.NoDesk))
+
+-- What was asked for was answered. Only an act has a turn at a desk.
+abbrev pub AnswersAt : HouseShown → Asked → Option Turn → Result (List ℕ) Trouble → Type 0
+AnswersAt house (Desks find) turn result = (turn ≡ None) × ShowsDesks house.today house.files find result
+AnswersAt house (Loan loan) turn result =
+    (turn ≡ None) × AtDesk house.files loan.desk (ShowsLoan house.today (tells Good []) loan) result
+AnswersAt house (Slip loan) turn result = (turn ≡ None) × AtDesk house.files loan.desk (ShowsSlip loan) result
+AnswersAt house (Figures from to) turn result = (turn ≡ None) × ShowsFigures house.today from to result
+AnswersAt house (Act loan stamp words) turn result =
+    ActsHere house (record { loan = loan; stamp = stamp; words = words }) turn result
+AnswersAt house (Note loan note) turn result = (turn ≡ None) × AtDesk house.files loan.desk (Notes loan note) result
+
+-- ---- a request
+
+-- What was asked for was answered at the desks that the operator's paths have. Or the request was refused. Or memory ran out
+-- before the desks were found.
+abbrev pub Follows : Operator → (user : List ℕ) → Result Wanted VisitFault → Option Turn → Result (List ℕ) Trouble → Type 0
+Follows operator user (Err refusal) turn result = (turn ≡ None) × (result ≡ Err (troubles.Refused refusal))
+Follows operator user (Ok wanted) turn result =
+    ((turn ≡ None) × (result ≡ Err no_memory))
+    ⊎ ((files : List (List ℕ))
+    × AnswersAt (record { today = operator.today; user = user; files = files }) (asked_of wanted) turn result)
+
+-- The request was read, and answered. `left` has the bytes of the input before, and `rest` those after.
+abbrev pub AnswersRequest : Operator → VisitShown → (left rest : Option (List ℕ)) → Option Turn → Result (List ℕ) Trouble → Type 0
+AnswersRequest operator v left rest turn result =
+    (wanted : Result Wanted VisitFault)
+    × Answers (body_size (rules_of operator) v) (wanted_of (rules_of operator) v) left rest wanted
+    × Follows operator v.user wanted turn result
+
+-- ---- the reply
+
+-- Returns the reply that was found, or the reply if something is wrong.
+abbrev pub reply_of : Date → Result (List ℕ) Trouble → List ℕ
+reply_of today (Ok reply) = reply
+reply_of today (Err trouble) = trouble_reply today trouble
+
+-- Returns the bytes that are sent. If memory ran out for a reply, they say so.
+abbrev pub sent_of : {F : Type 0} → Result (Vec ℕ Global) F → List ℕ
+sent_of (Ok reply) = reply.items
+sent_of (Err fault) = NO_MEMORY.now
+
+-- The reply is that to `result`. Or memory ran out for it, and it says so.
+abbrev pub IsReply : Date → Result (List ℕ) Trouble → (reply : List ℕ) → Type 0
+IsReply today result reply = (reply ≡ reply_of today result) ⊎ (reply ≡ NO_MEMORY.now)
+
+-- The request has this reply, and its form had this turn at a desk.
+abbrev pub Replies : Operator → VisitShown → (left rest : Option (List ℕ)) → Option Turn → (reply : List ℕ) → Type 0
+Replies operator v left rest turn reply =
+    (result : Result (List ℕ) Trouble) × AnswersRequest operator v left rest turn result
+    × IsReply operator.today result reply
+
+-- The output grew by all of `reply`, and the exit status is 0. Or it grew by a prefix of it, and the status is 3.
+abbrev pub Sends : (reply : List ℕ) → (before : Option (List ℕ)) → (status : ℕ) → (after : Option (List ℕ)) → Type 0
+Sends reply before status after =
+    ((status ≡ 0) × Appends before after reply)
+    ⊎ ((status ≡ 3) × ((size : ℕ) × Appends before after (take size reply)))
+
+-- The request was read from the input, and its reply was sent to the output.
+abbrev pub Serves : Operator → VisitShown → Streams → (status : ℕ) → Streams → Type 0
+Serves operator v old status new =
+    (turn : Option Turn) × (reply : List ℕ) × Replies operator v old.unread new.unread turn reply
+    × Sends reply old.written status new.written
+
+-- ---- what a turn is
+
+-- The form in `body` has its turn at the desk that it names, and is answered there as `AnswersPost` says.
+abbrev pub IsTurnOf : Date → SentForm → Turn → Type 0
+IsTurnOf today sent turn =
+    (turn.file ≡ sent.loan.desk)
+    × ((posted : Result Posted DeskFault) × AnswersPost (form_of today turn.old.live.role sent) turn.old posted turn.new)
+
+-- The input began with a form that has this turn.
+abbrev pub TakesTurn : Operator → VisitShown → (left rest : Option (List ℕ)) → Turn → Type 0
+TakesTurn operator v left rest turn =
+    (body : List ℕ) × (sent : SentForm) × Consumes left rest body
+    × (wanted_of (rules_of operator) v body ≡ Ok (Act sent.loan sent.stamp sent.words))
+    × IsTurnOf operator.today sent turn

@@ -1,5 +1,6 @@
 //! What the operator says: the words of the script that runs the program.
 
+use ill_days::read_day;
 use ill_values::{Day, OutOfMemory};
 use std::alloc::Global;
 
@@ -61,7 +62,7 @@ impl<'a> Options<'a> {
                 self.take(rest)
             }
             ["--today", day, rest @ ..] => {
-                self.today = Some(Day::read(day.as_bytes()).ok()?);
+                self.today = Some(read_day(day.as_bytes()).ok()?);
                 self.take(rest)
             }
             rest => Some(rest),

@@ -1,1 +1,2 @@
 pub mod RoomOnDisk
+pub mod Keeping

@@ -1,9 +1,9 @@
 //! The calls of a room, by those of a run on a disk.
 
-ghost use Rattle.std.specs.Prelude.{◌≡◌, IfErr};
+ghost use Rattle.std.specs.Prelude.{◌≡◌, IfErr, OnOk};
 ghost use Rattle.ill_room.specs.Room.{Answers, GivesBack, Keeps, Moves, is_honest_room};
 ghost use Rattle.ill_room.specs.declared.room.Place.TheVariants as places;
-ghost use Rattle.ill_mail_disk.specs.Runs.{AnyMail, MailsSurvive, run_state};
+ghost use Rattle.ill_mail_disk.specs.Runs.{AnyMail, AreKept, MailsSurvive, run_state};
 ghost use Rattle.ill_disk_room.specs.DiskRooms.{Agree, room_state};
 ghost use Rattle.ill_text.specs.Fault.{IsFileFault};
 
@@ -25,12 +25,26 @@ fn answer_of(answer: Result<(), DiskFault>) -> Result<(), ToolFault>
     }
 }
 
+/// Flushes the claimed name of each mail of a run, so that no crash loses one.
+pub(crate) fn flush_claims_of<D: MailDisk>(run: &mut MailRun<D>) -> Result<(), ToolFault>
+    ensures kept { OnOk result (AreKept D.state run.new) }
+    ensures faults { IfErr result IsFileFault }
+    ensures mails { run.new.spots ≡ run.old.spots }
+    ensures honest { (D.state run.new.disk).is_honest ≡ (D.state run.old.disk).is_honest }
+{
+    match run.flush_claims() {
+        Ok(()) => Ok(()),
+        Err(fault) => answer_of(Err(fault)),
+    }
+}
+
 /// Removes the mail `mail` of a run.
 pub(crate) fn remove_from<D: MailDisk>(run: &mut MailRun<D>, mail: usize) -> Result<(), ToolFault>
     ensures moves { Answers is_honest_room (Moves places.Gone mail) (room_state D.state run.old) result
         (room_state D.state run.new) }
     ensures faults { IfErr result IsFileFault }
     ensures survive { MailsSurvive D.state (λ other. other ≡ mail → ⊥) run.old run.new }
+    ensures kept { AreKept D.state run.old → AreKept D.state run.new }
 {
     answer_of(run.remove(mail))
 }
@@ -45,6 +59,7 @@ fn put_aside_from<D: MailDisk>(
         (room_state D.state run.new) }
     ensures faults { IfErr result IsFileFault }
     ensures survive { MailsSurvive D.state AnyMail run.old run.new }
+    ensures kept { AreKept D.state run.old → AreKept D.state run.new }
 {
     answer_of(run.put_aside(mail, why))
 }
@@ -71,6 +86,7 @@ pub(crate) fn put_unfit_aside<D: MailDisk>(
         (room_state D.state run.new) }
     ensures faults { IfErr result IsFileFault }
     ensures survive { MailsSurvive D.state AnyMail run.old run.new }
+    ensures kept { AreKept D.state run.old → AreKept D.state run.new }
 {
     match reason_of(alloc, unfit) {
         Ok(why) => put_aside_from(run, mail, &why),
@@ -87,6 +103,7 @@ pub(crate) fn give_back_from<D: MailDisk>(
         (room_state D.state run.new) }
     ensures faults { IfErr result IsFileFault }
     ensures survive { MailsSurvive D.state AnyMail run.old run.new }
+    ensures kept { AreKept D.state run.old → AreKept D.state run.new }
 {
     answer_of(run.give_back(mail))
 }
@@ -100,13 +117,16 @@ pub(crate) fn keep_asked_in<D: MailDisk>(
         (room_state D.state run.new) }
     ensures faults { IfErr result IsFileFault }
     ensures survive { MailsSurvive D.state AnyMail run.old run.new }
+    ensures kept { AreKept D.state run.old → AreKept D.state run.new }
 {
     answer_of(run.keep_asked(asked))
 }
 
 /// Removes those of `folders` that are empty.
 pub(crate) fn remove_folders<D: MailDisk>(run: &mut MailRun<D>, folders: &[Vec<u8>])
-    ensures { run_state D.state run.new ≡ run_state D.state run.old }
+    ensures state { run_state D.state run.new ≡ run_state D.state run.old }
+    ensures disk { D.state run.new.disk ≡ D.state run.old.disk }
+    ensures mails { run.new.spots ≡ run.old.spots }
 {
     for folder in folders {
         run.remove_folder(folder);

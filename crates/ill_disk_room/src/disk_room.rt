@@ -1,14 +1,16 @@
 //! A room on a disk.
 
-ghost use Rattle.std.specs.Prelude.{◌≡◌, IfErr};
+ghost use Rattle.std.specs.Prelude.{◌≡◌, IfErr, IfOk};
 ghost use Rattle.ill_room.specs.Room.{Answers, GivesBack, Keeps, Moves, is_honest_room};
 ghost use Rattle.ill_room.specs.declared.room.Place.TheVariants as places;
 ghost use Rattle.ill_mail_disk.specs.Runs as runs;
-ghost use Rattle.ill_mail_disk.specs.Runs.{AnyMail, MailsSurvive};
+ghost use Rattle.ill_mail_disk.specs.Runs.{AnyMail, AreKept, MailsSurvive};
 ghost use Rattle.ill_disk_room.specs.DiskRooms.{room_state};
 ghost use Rattle.ill_text.specs.Fault.{IsFileFault};
 
-use crate::calls::{give_back_from, keep_asked_in, put_unfit_aside, remove_folders, remove_from};
+use crate::calls::{
+    flush_claims_of, give_back_from, keep_asked_in, put_unfit_aside, remove_folders, remove_from,
+};
 use ill_mail_disk::{MailDisk, MailRun};
 use ill_night::person::tell_person;
 use ill_night::verdict::{Mail, Unfit, Verdict};
@@ -25,7 +27,8 @@ const NOT_ASKED: &str = ".mail/asked cannot be read or written";
 
 /// The room of the mails of a run on a disk. The place of a mail is where its file has a name on the disk.
 ///
-/// The room is as honest as its disk. No call loses a mail, whenever the power goes, but `remove` its own.
+/// The room is as honest as its disk. Before and after each call each crash leaves each mail a name, unless it is gone.
+/// During a call no crash loses a mail, but the one that `remove` removes.
 #[derive(Drop)]
 pub struct DiskRoom<'a, D: MailDisk> {
     alloc: Global,
@@ -42,32 +45,43 @@ impl<'a, D: MailDisk> Model for DiskRoom<'a, D> {
     ghost Value = { runs.MailRunOf D };
 
     ghost view = { λ r. r.run };
+
+    ghost invariant = { λ r. AreKept D.state r.run };
 }
 
-impl<'a, D: MailDisk> DiskRoom<'a, D> {
-    /// Returns the room of the mails of `run`. Lines about faults name `file`. If there are mails `told`, it tells a person
-    /// of them. At its end it removes those of `folders` that are empty.
+impl<'a, D: MailDisk + Drop> DiskRoom<'a, D> {
+    /// Returns the room of the mails of `run`, after it has flushed the claimed name of each. Lines about faults name
+    /// `file`. If there are mails `told`, it tells a person of them. At its end it removes those of `folders` that are empty.
     pub fn at(
         alloc: Global,
         run: MailRun<D>,
         file: &'a [u8],
         told: Option<&'a [Mail]>,
         folders: &'a [Vec<u8>],
-    ) -> DiskRoom<'a, D>
-        ensures { result ≡ run }
+    ) -> Result<DiskRoom<'a, D>, ToolFault>
+        ensures mails { IfOk result (λ room. room.spots ≡ run.spots) }
+        ensures honest { IfOk result (λ room. (D.state room.disk).is_honest ≡ (D.state run.disk).is_honest) }
+        ensures faults { IfErr result IsFileFault }
     {
-        DiskRoom {
-            alloc,
-            run,
-            file,
-            told,
-            folders,
+        let mut run = run;
+        match flush_claims_of(&mut run) {
+            Ok(()) => Ok(DiskRoom {
+                alloc,
+                run,
+                file,
+                told,
+                folders,
+            }),
+            Err(fault) => Err(fault),
         }
     }
+}
 
+impl<'a, D: MailDisk> DiskRoom<'a, D> {
     /// Returns the run, to look at.
     pub fn run(&self) -> &MailRun<D>
-        ensures { result.now ≡ self.now }
+        ensures run { result.now ≡ self.now }
+        ensures kept { AreKept D.state self.now }
     {
         &self.run
     }

@@ -5,6 +5,8 @@ pub mod Apart
 pub mod Calling
 pub mod Removing
 pub mod Staying
+pub mod Removed
+pub mod Flushing
 pub mod PuttingAside
 pub mod GivingBack
 pub mod Kept

@@ -14,9 +14,9 @@ use Rattle.ill_disk.proofs.Wholes.{found_made}
 use Rattle.ill_mail_disk.specs.Touches.{IsNoneOf, KeepsFiles, Touches}
 use Rattle.ill_mail_disk.specs.Keeping.{KeeperOf, PutsFile, kept_paths}
 use Rattle.ill_mail_disk.specs.Spots.{SpotOf, Place, Waiting, Gone, Aside, MayCome, Comes, RemovesMail, PutsMailAside}
-use Rattle.ill_mail_disk.specs.Spots.{GivesMailBack, Survives, aside_paths, moved, paths_of, place_in}
+use Rattle.ill_mail_disk.specs.Spots.{GivesMailBack, StaysKept, Survives, aside_paths, moved, paths_of, place_in}
 use Rattle.ill_mail_disk.specs.Runs.{RunState, IsSpread, DoesAt, DoesNothing, MayComeAt, ComesAt, IsElseSame, MovesInRun}
-use Rattle.ill_mail_disk.specs.Runs.{GivesBackInRun, KeepsAsked, KeepsInRun, HasComeAlone, are_spread, bytes_in}
+use Rattle.ill_mail_disk.specs.Runs.{AllStayKept, GivesBackInRun, KeepsAsked, KeepsInRun, HasComeAlone, are_spread, bytes_in}
 use Rattle.ill_mail_disk.specs.Runs.{keeps_off, misses, place_of, spares}
 use Rattle.ill_mail_disk.proofs.Apart.{none_of}
 use Rattle.ill_mail_disk.proofs.GivingBack.{back_paths}
@@ -59,7 +59,7 @@ differ_by : (p q : List ℕ) → bytes_eq p q ≡ false → p ≡ q → ⊥
 differ_by p q is same = true≢false (sym ((bytes_eq-Decides p q).1 same) ∙ is)
 
 -- A removed mail spares another.
-removed_spares : (spot other : SpotOf) → are_spread spot other ≡ true → IsSpared (spot.claimed ∷ []) other
+pub removed_spares : (spot other : SpotOf) → are_spread spot other ≡ true → IsSpared (spot.claimed ∷ []) other
 removed_spares spot other is =
     let parts = spares_parts spot other (and_parts (spares spot other) (spares other spot) is).0 in
     spared_by spot.claimed [] other parts.1 (spared_by_none other)
@@ -161,7 +161,7 @@ may_come_there to before after x y is_x is_y may = ⊎_elim
     (λ moves. inr (is_y ∙ ap Some moves ∙ sym (ap (option_map (moved to)) is_x))) may
 
 -- Returns the mail that was found, or another if there is none.
-abbrev found_spot : Option (Option SpotOf) → SpotOf → SpotOf
+abbrev pub found_spot : Option (Option SpotOf) → SpotOf → SpotOf
 found_spot None other = other
 found_spot (Some None) other = other
 found_spot (Some (Some spot)) other = spot
@@ -197,6 +197,10 @@ fails_at : {A E : Type 0} (to : Place) (before after : Option Place) (answer : R
     ComesAt to before answer after
 fails_at to before after (Ok done) is same = absurd (true≢false (sym is))
 fails_at to before after (Err fault) is same = inl same
+
+-- A mail is kept where nothing is done.
+same_kept : (spot : SpotOf) {a b : DiskState} → b ≡ a → StaysKept spot a b
+same_kept spot {a = a} same = subst (λ (s : DiskState). StaysKept spot a s) (sym same) (λ h kept. kept)
 
 -- A mail survives where nothing is done.
 pub same_survives : (spot : SpotOf) {a b : DiskState} → b ≡ a → Survives spot a b
@@ -325,6 +329,26 @@ module _ (asked : KeeperOf) (spots : List (Option SpotOf)) (spread : IsSpread as
   others_survive mail answer (Some (Some own)) is does other spot differ at =
       spared_survive (λ o. o ≡ mail → ⊥) (own.claimed ∷ [])
       (spread_spares (λ s. s.claimed ∷ []) removed_spares mail own is) does.touches other spot differ at
+
+  -- A mail that is spared is kept.
+  spared_kept : (paths : List (List ℕ)) (spot : SpotOf) → IsSpared paths spot → Touches paths a b → StaysKept spot a b
+  spared_kept paths spot spared touches h kept = ⊎_elim
+      (λ gone. inl (place_stays paths spot a.now.names b.now.names spared (touches.moments h).last.now ∙ gone))
+      (λ outlasts. inr (survives_touch paths spot a b spared touches h outlasts).last) kept
+
+  -- Each mail that is kept before a removal is kept after it.
+  pub removal_keeps : {E : Type 0} (mail : ℕ) (answer : Result (Unit {0}) E) (found : Option (Option SpotOf)) →
+      slice_get spots mail ≡ found → DoesAt (λ spot. RemovesMail spot a answer b) (DoesNothing a answer b) found →
+      AllStayKept spots a b
+  removal_keeps mail answer None is does other spot at = same_kept spot does.same
+  removal_keeps mail answer (Some None) is does other spot at = same_kept spot does.same
+  removal_keeps mail answer (Some (Some own)) is does other spot at = ⊎_elim
+      (λ same. subst (λ (s : SpotOf). StaysKept s a b)
+      (ap (λ (o : Option (Option SpotOf)). found_spot o own)
+      (sym is ∙ ap (slice_get spots) (sym same) ∙ at)) does.kept)
+      (λ differ. spared_kept (own.claimed ∷ []) spot
+      (spread_spares (λ s. s.claimed ∷ []) removed_spares mail own is other spot differ at) does.touches)
+      (cases_eq other mail)
 
   -- A mail is put aside in a run.
   pub aside_in_run : {E : Type 0} (mail : ℕ) (answer : Result (Unit {0}) E) (found : Option (Option SpotOf)) →

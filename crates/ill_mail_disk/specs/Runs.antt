@@ -4,7 +4,8 @@ use Rattle.std.specs.Prelude.{slice_get, Option, Some, None, option_map, Result,
 use Rattle.ill_disk.specs.Disk.{Name, Disk, content, found_at}
 use Rattle.ill_disk.specs.Calls.{DiskState}
 use Rattle.ill_mail_disk.specs.Keeping.{KeeperOf}
-use Rattle.ill_mail_disk.specs.Spots.{SpotOf, Place, Waiting, Survives, are_apart, is_none_of, moved, paths_of, place_in}
+use Rattle.ill_mail_disk.specs.Spots.{SpotOf, Place, Waiting, IsKept, StaysKept, Survives, are_apart, is_none_of, moved, paths_of}
+use Rattle.ill_mail_disk.specs.Spots.{place_in}
 
 -- A run has its disk and its mails. A mail of which it takes no care is `None`. It has the file of the messages that ask,
 -- and the folder of the mails that are put aside.
@@ -67,10 +68,14 @@ abbrev pub is_spread_from_all : SpotOf → List (Option SpotOf) → Bool
 is_spread_from_all spot [] = true
 is_spread_from_all spot (other ∷ others) = is_spread_from spot other && is_spread_from_all spot others
 
+-- No mail of these takes a path of another.
+abbrev pub AreSpread : List (Option SpotOf) → Type 0
+AreSpread spots = (mail other : ℕ) (spot second : SpotOf) → slice_get spots mail ≡ Some (Some spot) →
+    slice_get spots other ≡ Some (Some second) → (mail ≡ other → ⊥) → are_spread spot second ≡ true
+
 -- No mail of a run takes a path of another, and none takes the file of the messages that ask.
 pub record IsSpread (keeper : KeeperOf) (spots : List (Option SpotOf)) : Type 0 where
-  pub mails : (mail other : ℕ) (spot second : SpotOf) → slice_get spots mail ≡ Some (Some spot) →
-      slice_get spots other ≡ Some (Some second) → (mail ≡ other → ⊥) → are_spread spot second ≡ true
+  pub mails : AreSpread spots
   pub asked : (mail : ℕ) (spot : SpotOf) → slice_get spots mail ≡ Some (Some spot) → keeps_off keeper spot ≡ true
 
 -- Returns true if the mail has come under this name.
@@ -169,6 +174,19 @@ pub record KeepsInRun {A E : Type 0} (asked : List ℕ) (old : RunState) (answer
 abbrev pub MailsSurvive : {D : Type 0} → (D → DiskState) → (ℕ → Type 0) → MailRunOf D → MailRunOf D → Type 0
 MailsSurvive state which old new = (mail : ℕ) (spot : SpotOf) → which mail → slice_get old.spots mail ≡ Some (Some spot) →
     Survives spot (state old.disk) (state new.disk)
+
+-- On an honest disk each mail of these is gone, or each crash leaves it.
+abbrev pub AllKept : List (Option SpotOf) → DiskState → Type 0
+AllKept spots state = state.is_honest ≡ true → (mail : ℕ) (spot : SpotOf) → slice_get spots mail ≡ Some (Some spot) →
+    IsKept spot state.now
+
+-- On an honest disk each mail of which a run takes care is gone, or each crash leaves it.
+abbrev pub AreKept : {D : Type 0} → (D → DiskState) → MailRunOf D → Type 0
+AreKept state run = AllKept run.spots (state run.disk)
+
+-- On an honest disk each mail of these that is kept at first is kept in the end.
+abbrev pub AllStayKept : List (Option SpotOf) → DiskState → DiskState → Type 0
+AllStayKept spots old new = (mail : ℕ) (spot : SpotOf) → slice_get spots mail ≡ Some (Some spot) → StaysKept spot old new
 
 -- Any mail.
 abbrev pub AnyMail : ℕ → Type 0

@@ -1,5 +1,6 @@
 -- A mail that a run has claimed: its paths, its file, and where that file is.
 use Rattle.std.specs.Prelude.{◌≡◌, ◌⊎◌, ℕ, Bool, true, not, ◌&&◌, if◌then◌else◌, List, [], ◌∷◌, bytes_eq, Some, Result, Ok, Err}
+use Rattle.std.specs.Prelude.{OnOk}
 use Rattle.ill_disk.specs.Disk.{In, Name, Disk, found_at}
 use Rattle.ill_disk.specs.Calls.{DiskState, Throughout}
 use Rattle.ill_mail_disk.specs.MailCalls.{is_file}
@@ -48,6 +49,14 @@ place_in names spot = place_by (is_file spot.file (found_at spot.aside names))
 abbrev pub Outlasts : SpotOf → Disk → Type 0
 Outlasts spot d = (names : List Name) → In d.may_stand names → place_in names spot ≡ Gone → ⊥
 
+-- The mail is gone, or each crash leaves it at one of its paths.
+abbrev pub IsKept : SpotOf → Disk → Type 0
+IsKept spot d = (place_in d.names spot ≡ Gone) ⊎ Outlasts spot d
+
+-- On an honest disk a mail that is kept at first is kept in the end.
+abbrev pub StaysKept : SpotOf → DiskState → DiskState → Type 0
+StaysKept spot old new = old.is_honest ≡ true → IsKept spot old.now → IsKept spot new.now
+
 -- If each crash leaves the mail at first, each crash leaves it at each moment up to the state `new`.
 abbrev pub Survives : SpotOf → DiskState → DiskState → Type 0
 Survives spot old new = old.is_honest ≡ true → Outlasts spot old.now → Throughout (Outlasts spot) old new
@@ -76,11 +85,12 @@ pub record StaysThere (paths : List (List ℕ)) (spot : SpotOf) (old new : DiskS
   pub place : old.is_honest ≡ true → place_in new.now.names spot ≡ place_in old.now.names spot
   pub survives : Survives spot old new
 
--- On an honest disk the file of a claimed mail was removed.
+-- On an honest disk the file of a claimed mail was removed. If it was not, no crash loses it.
 pub record RemovesMail {A E : Type 0} (spot : SpotOf) (old : DiskState) (answer : Result A E) (new : DiskState) : Type 0
   where
     pub touches : Touches (spot.claimed ∷ []) old new
     pub comes : old.is_honest ≡ true → Comes Gone (place_in old.now.names spot) answer (place_in new.now.names spot)
+    pub kept : StaysKept spot old new
 
 -- Returns the paths that are touched when a mail is put aside.
 abbrev pub aside_paths : SpotOf → List (List ℕ)
@@ -101,6 +111,12 @@ pub record GivesMailBack (spot : SpotOf) (old new : DiskState) : Type 0 where
       found_at spot.waiting new.now.names ≡ Some file
   pub comes : old.is_honest ≡ true → MayCome Waiting (place_in old.now.names spot) (place_in new.now.names spot)
   pub survives : Survives spot old new
+
+-- The claimed name of a mail was flushed. If that is done, each crash leaves the mail.
+pub record FlushesClaim {A E : Type 0} (spot : SpotOf) (old : DiskState) (answer : Result A E) (new : DiskState) : Type 0
+  where
+    pub touches : Touches (spot.claimed ∷ []) old new
+    pub lasts : OnOk answer (new.is_honest ≡ true → Outlasts spot new.now)
 
 -- On an honest disk the file of the mail stands at a path.
 abbrev pub HasFileAt : List ℕ → SpotOf → DiskState → Type 0

@@ -5,7 +5,7 @@ ghost use Rattle.ill_disk.specs.Disk.{found_at};
 ghost use Rattle.ill_disk.specs.Calls.{Answers};
 ghost use Rattle.ill_mail_disk.specs.MailCalls.{Brings, Clears, Tells};
 ghost use Rattle.ill_mail_disk.specs.Touches.{Touches};
-ghost use Rattle.ill_mail_disk.specs.Spots.{GivesMailBack, HasFileAt, PutsMailAside, RemovesMail, StaysThere, aside_paths, are_apart};
+ghost use Rattle.ill_mail_disk.specs.Spots.{FlushesClaim, GivesMailBack, HasFileAt, PutsMailAside, RemovesMail, StaysThere, aside_paths, are_apart};
 
 use crate::mail_disk::MailDisk;
 use crate::spot::Spot;
@@ -47,14 +47,38 @@ fn clear_claimed<D: MailDisk>(disk: &mut D, spot: &Spot) -> Result<(), DiskFault
     clear(disk, spot.claimed())
 }
 
-/// Removes the file of a claimed mail. If another file stands at its claimed path, nothing is done.
+/// Removes the file of a claimed mail. A mail that waits already, or stands aside, stays there with its claimed name. If
+/// another file stands at its claimed path, nothing is done.
 pub fn remove_mail<D: MailDisk>(disk: &mut D, spot: &Spot) -> Result<(), DiskFault>
     ensures { RemovesMail spot.now (D.state disk.old) result (D.state disk.new) }
 {
     if !is_claimed(disk, spot)? {
         return Ok(());
     }
+    if is_waiting(disk, spot)? {
+        return Ok(());
+    }
+    if is_aside(disk, spot)? {
+        return Ok(());
+    }
     clear_claimed(disk, spot)
+}
+
+/// Returns true if the file of a mail stands at its path aside.
+fn is_aside<D: MailDisk>(disk: &mut D, spot: &Spot) -> Result<bool, DiskFault>
+    ensures { Answers (Tells spot.now.aside spot.now.file) (D.state disk.old) result (D.state disk.new) }
+{
+    stands_at(disk, spot.aside(), spot.file())
+}
+
+/// Flushes the claimed name of a mail. Fails if its file does not stand there.
+pub(crate) fn flush_claim<D: MailDisk>(disk: &mut D, spot: &Spot) -> Result<(), DiskFault>
+    ensures { FlushesClaim spot.now (D.state disk.old) result (D.state disk.new) }
+{
+    if !is_claimed(disk, spot)? {
+        return Err(DiskFault::NotFound);
+    }
+    disk.flush_name(spot.claimed())
 }
 
 /// Puts a claimed mail aside, with the line `why` in the file of the reason. The reason is written and flushed first.

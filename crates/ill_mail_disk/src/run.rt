@@ -2,13 +2,13 @@
 
 ghost use Rattle.std.specs.Prelude.{◌≡◌, ◌⊎◌, true, slice_get, None, IfOk, IfSome, OnErr, OnOk, [], ◌∷◌, ◌++◌};
 ghost use Rattle.ill_disk.specs.Calls.{Answers};
-ghost use Rattle.ill_mail_disk.specs.Spots.{GivesMailBack, Gone, Aside, PutsMailAside, RemovesMail};
+ghost use Rattle.ill_mail_disk.specs.Spots.{FlushesClaim, GivesMailBack, Gone, Aside, PutsMailAside, RemovesMail};
 ghost use Rattle.ill_mail_disk.specs.Runs as runs;
-ghost use Rattle.ill_mail_disk.specs.Runs.{AddsMail, AnyMail, DoesAt, DoesNothing, GivesBackInRun, HasComeAlone, IsSpread, KeepsInRun, LooksFor, MailsSurvive, MovesInRun, admitted, has_come_as, is_admitted, is_spread_from, is_spread_from_all, keeps_off, misses, run_state, spares};
+ghost use Rattle.ill_mail_disk.specs.Runs.{AddsMail, AllKept, AllStayKept, AnyMail, AreKept, AreSpread, DoesAt, DoesNothing, GivesBackInRun, HasComeAlone, IsSpread, KeepsInRun, LooksFor, MailsSurvive, MovesInRun, admitted, has_come_as, is_admitted, is_spread_from, is_spread_from_all, keeps_off, misses, run_state, spares};
 
 use crate::keeper::Keeper;
 use crate::mail_disk::MailDisk;
-use crate::moves::{give_mail_back, put_mail_aside, remove_mail};
+use crate::moves::{flush_claim, give_mail_back, put_mail_aside, remove_mail};
 use crate::spot::{Paths, Spot};
 use ill_disk::DiskFault;
 use std::alloc::Global;
@@ -84,10 +84,21 @@ impl<D: MailDisk> MailRun<D> {
         Ok(())
     }
 
+    /// Flushes the claimed name of each mail. Each crash from then on leaves each mail. Fails if a mail does not stand there.
+    pub fn flush_claims(&mut self) -> Result<(), DiskFault>
+        ensures kept { OnOk result (AreKept D.state self.new) }
+        ensures honest { (D.state self.new.disk).is_honest ≡ (D.state self.old.disk).is_honest }
+        ensures mails { self.new.spots ≡ self.old.spots }
+        ensures asked { self.new.asked ≡ self.old.asked }
+    {
+        flush_each(&mut self.disk, &self.spots)
+    }
+
     /// Removes the mail `mail`.
     pub fn remove(&mut self, mail: usize) -> Result<(), DiskFault>
         ensures moves { MovesInRun Gone mail (run_state D.state self.old) result (run_state D.state self.new) }
         ensures survive { MailsSurvive D.state (λ other. other ≡ mail → ⊥) self.old self.new }
+        ensures kept { AllStayKept self.old.spots (D.state self.old.disk) (D.state self.new.disk) }
         ensures mails { self.new.spots ≡ self.old.spots }
     {
         remove_at(&mut self.disk, &self.spots, mail)
@@ -128,6 +139,7 @@ impl<D: MailDisk> MailRun<D> {
     /// Removes the folder `path`, if it is empty.
     pub fn remove_folder(&mut self, path: &[u8])
         ensures state { run_state D.state self.new ≡ run_state D.state self.old }
+        ensures disk { D.state self.new.disk ≡ D.state self.old.disk }
         ensures mails { self.new.spots ≡ self.old.spots }
     {
         let _ = self.disk.remove_folder(path);
@@ -233,6 +245,30 @@ fn spares(spot: &Spot, other: &Spot) -> bool
     ensures { result ≡ spares spot.now other.now }
 {
     misses(spot.reason(), other) && misses(spot.claimed(), other) && misses(spot.aside(), other)
+}
+
+/// Flushes the claimed name of each mail of `spots`.
+fn flush_each<D: MailDisk>(disk: &mut D, spots: &[Option<Spot>]) -> Result<(), DiskFault>
+    requires { AreSpread spots.now }
+    ensures kept { OnOk result (AllKept spots.now (D.state disk.new)) }
+    ensures honest { (D.state disk.new).is_honest ≡ (D.state disk.old).is_honest }
+{
+    for mail in 0..spots.len() {
+        flush_at(disk, spots, mail)?;
+    }
+    Ok(())
+}
+
+/// Flushes the claimed name of the mail `mail` of `spots`, if the run takes care of it.
+fn flush_at<D: MailDisk>(disk: &mut D, spots: &[Option<Spot>], mail: usize) -> Result<(), DiskFault>
+    ensures { DoesAt (λ spot. FlushesClaim spot (D.state disk.old) result (D.state disk.new))
+        (DoesNothing (D.state disk.old) result (D.state disk.new)) (slice_get spots.now mail) }
+{
+    match spots.get(mail) {
+        Some(Some(spot)) => flush_claim(disk, spot),
+        Some(None) => Ok(()),
+        None => Ok(()),
+    }
 }
 
 /// Removes the mail `mail` of `spots`, if the run takes care of it.

@@ -1,5 +1,6 @@
 use Rattle.ill_mail_disk.specs.Spots.{Aside}
 use Rattle.ill_mail_disk.specs.Runs.{run_state}
+use Rattle.ill_disk_room.proofs.Keeping.{moves_keep}
 use Rattle.ill_disk_room.proofs.RoomOnDisk.{moves_in_room}
 use Rattle.ill_disk_room.proofs.calls.put_aside_from.Goals as goal
 
@@ -7,3 +8,8 @@ pub returns-clause-moves : goal.returns-clause-moves
 returns-clause-moves g c = moves_in_room (run_state g.D.Disk.state c.args.run.now)
     (run_state g.D.Disk.state c.put_aside.new.self) Aside c.args.mail c.put_aside.result c.answer_of.result
     c.answer_of.ensures.agree c.put_aside.ensures.moves
+
+pub returns-clause-kept : goal.returns-clause-kept
+returns-clause-kept g c = moves_keep g.D.Disk.state c.args.run.now c.put_aside.new.self c.put_aside.ensures.mails Aside
+    c.args.mail c.put_aside.result
+    c.put_aside.ensures.moves c.put_aside.ensures.survive

@@ -6,3 +6,6 @@ use Rattle.ill_disk_room.proofs.disk_room.DiskRoomRoom.give_back.Goals as goal
 pub returns-clause-moves : goal.returns-clause-moves
 returns-clause-moves g c = subst (λ r. Answers is_honest_room (GivesBack c.args.mail) (room_state g.D.Disk.state r)
     c.give_back_from.result (room_state g.D.Disk.state c.give_back_from.new.run)) c.self.view_is c.give_back_from.ensures.moves
+
+pub invariant_of-self : goal.invariant_of-self
+invariant_of-self g c = c.give_back_from.ensures.kept c.self.invariant

@@ -7,3 +7,6 @@ pub returns-clause-keeps : goal.returns-clause-keeps
 returns-clause-keeps g c = subst (λ r. Answers is_honest_room (Keeps c.args.asked.now) (room_state g.D.Disk.state r)
     c.keep_asked_in-kept.result (room_state g.D.Disk.state c.keep_asked_in-kept.new.run)) c.self.view_is
     c.keep_asked_in-kept.ensures.keeps
+
+pub invariant_of-self : goal.invariant_of-self
+invariant_of-self g c = c.keep_asked_in-kept.ensures.kept c.self.invariant

@@ -7,3 +7,6 @@ use Rattle.ill_disk_room.proofs.disk_room.DiskRoomRoom.put_aside.Goals as goal
 pub returns-clause-moves : goal.returns-clause-moves
 returns-clause-moves g c = subst (λ r. Answers is_honest_room (Moves places.Aside c.args.mail) (room_state g.D.Disk.state r)
     c.put_unfit_aside.result (room_state g.D.Disk.state c.put_unfit_aside.new.run)) c.self.view_is c.put_unfit_aside.ensures.moves
+
+pub invariant_of-self : goal.invariant_of-self
+invariant_of-self g c = c.put_unfit_aside.ensures.kept c.self.invariant

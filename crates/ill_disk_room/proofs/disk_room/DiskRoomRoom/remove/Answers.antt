@@ -7,3 +7,6 @@ use Rattle.ill_disk_room.proofs.disk_room.DiskRoomRoom.remove.Goals as goal
 pub returns-clause-moves : goal.returns-clause-moves
 returns-clause-moves g c = subst (λ r. Answers is_honest_room (Moves places.Gone c.args.mail) (room_state g.D.Disk.state r)
     c.remove_from.result (room_state g.D.Disk.state c.remove_from.new.run)) c.self.view_is c.remove_from.ensures.moves
+
+pub invariant_of-self : goal.invariant_of-self
+invariant_of-self g c = c.remove_from.ensures.kept c.self.invariant

@@ -1,7 +1,7 @@
 use Rattle.std.proofs.Common.{◌≡◌, sym, subst, ap, slice_get, Some, ℕ}
-use Rattle.ill_mail_disk.specs.Runs.{MovesInRun, run_state}
+use Rattle.ill_mail_disk.specs.Runs.{AllStayKept, MovesInRun, run_state}
 use Rattle.ill_mail_disk.specs.Spots.{SpotOf, Gone, Survives}
-use Rattle.ill_mail_disk.proofs.Running.{removes_in_run, others_survive, state_at}
+use Rattle.ill_mail_disk.proofs.Running.{removal_keeps, removes_in_run, others_survive, state_at}
 use Rattle.ill_mail_disk.proofs.run.MailRun.remove.Goals as goal
 
 pub returns-clause-moves : goal.returns-clause-moves
@@ -21,3 +21,11 @@ returns-clause-survive g c =
     (ap (λ l. slice_get l c.args.mail) (sym c.deref.ensures.value)) c.remove_at.ensures in
     subst (λ r. (other : ℕ) (spot : SpotOf) → (other ≡ c.args.mail → ⊥) → slice_get r.spots other ≡ Some (Some spot) →
     Survives spot (g.D.Disk.state r.disk) (g.D.Disk.state c.remove_at.new.disk)) c.self.view_is survive
+
+pub returns-clause-kept : goal.returns-clause-kept
+returns-clause-kept g c =
+    let kept = removal_keeps c.self.inside.asked c.self.inside.spots.items c.self.invariant
+    (g.D.Disk.state c.self.inside.disk) (g.D.Disk.state c.remove_at.new.disk) c.args.mail c.remove_at.result
+    (slice_get c.deref.result.now c.args.mail)
+    (ap (λ l. slice_get l c.args.mail) (sym c.deref.ensures.value)) c.remove_at.ensures in
+    subst (λ r. AllStayKept r.spots (g.D.Disk.state r.disk) (g.D.Disk.state c.remove_at.new.disk)) c.self.view_is kept

@@ -1,0 +1,148 @@
+-- The claimed name of a mail is flushed.
+use Rattle.std.proofs.Common.{◌≡◌, ◌⊎◌, inl, inr, ⊎_elim, refl, sym, ◌∙◌, ap, subst, arith, ℕ, zero, suc, ◌<◌, ◌≤◌, Bool, true}
+use Rattle.std.proofs.Common.{false}
+use Rattle.std.proofs.Common.{List, [], ◌∷◌, length, slice_get, Option, Some, None, Result, Ok, Err, OnOk, IsErr}
+use Rattle.std.proofs.lemmas.Bool.{true≢false}
+use Rattle.std.proofs.lemmas.Option.{none-some}
+use Rattle.ill_disk.specs.Disk.{Name, Disk, found_at}
+use Rattle.ill_disk.specs.Calls.{DiskState, Answers, Changes}
+use Rattle.ill_disk.proofs.Crashes.{in_map}
+use Rattle.ill_disk.proofs.Memory.{value_or}
+use Rattle.ill_mail_disk.specs.MailCalls.{Tells, after_flush_name, is_file, with_found}
+use Rattle.ill_mail_disk.specs.Spots.{SpotOf, Gone, FlushesClaim, Outlasts, place_by, place_in}
+use Rattle.ill_mail_disk.specs.Runs.{AreSpread, DoesAt, DoesNothing}
+use Rattle.ill_mail_disk.proofs.Calling.{tells_touches}
+use Rattle.ill_mail_disk.proofs.Placing.{outlasts_touch}
+use Rattle.ill_mail_disk.proofs.PuttingAside.{is_gone, this_file}
+use Rattle.ill_mail_disk.proofs.Running.{found_spot, removed_spares}
+use Rattle.ill_mail_disk.proofs.Staying.{is_this}
+use Rattle.ill_mail_disk.proofs.Steps.{change_fits, one_touches, touches_then}
+use Rattle.ill_mail_disk.proofs.Touching.{flush_name_touches, found_settled}
+
+-- A mail that has its claimed name is not gone.
+not_gone_by : (aside waiting claimed : Bool) → claimed ≡ true → place_by aside waiting claimed ≡ Gone → ⊥
+not_gone_by aside waiting false is gone = true≢false (sym is)
+not_gone_by true waiting true is gone = true≢false (sym (ap is_gone gone))
+not_gone_by false true true is gone = true≢false (sym (ap is_gone gone))
+not_gone_by false false true is gone = true≢false (sym (ap is_gone gone))
+
+-- A mail whose file has its claimed name is not gone, in these names.
+claimed_not_gone : (spot : SpotOf) (names : List Name) → found_at spot.claimed names ≡ Some spot.file →
+    place_in names spot ≡ Gone → ⊥
+claimed_not_gone spot names found gone =
+    not_gone_by (is_file spot.file (found_at spot.aside names)) (is_file spot.file (found_at spot.waiting names))
+    (is_file spot.file (found_at spot.claimed names)) (ap (is_file spot.file) found ∙ this_file spot.file) gone
+
+-- No crash after the flush of its claimed name loses a mail.
+flushed_outlasts : (spot : SpotOf) (d : Disk) → found_at spot.claimed d.names ≡ Some spot.file →
+    Outlasts spot (after_flush_name spot.claimed d)
+flushed_outlasts spot d found names stands gone =
+    let from = in_map (with_found spot.claimed (found_at spot.claimed d.names)) d.may_stand names stands in
+    claimed_not_gone spot names (ap (found_at spot.claimed) from.2
+    ∙ found_settled spot.claimed (found_at spot.claimed d.names) from.0 ∙ found) gone
+
+-- If the flush is done, no crash loses the mail.
+lasts_if : {E : Type 0} (spot : SpotOf) (looked new : DiskState) (answer : Result (Unit {0}) E) →
+    Answers (Changes (after_flush_name spot.claimed)) looked answer new →
+    (looked.is_honest ≡ true → found_at spot.claimed looked.now.names ≡ Some spot.file) →
+    OnOk answer (new.is_honest ≡ true → Outlasts spot new.now)
+lasts_if spot looked new (Ok done) flushes found = λ h.
+    let was : looked.is_honest ≡ true = sym flushes.honest ∙ h in
+    subst (Outlasts spot) (sym (flushes.done was)) (flushed_outlasts spot looked.now (found was))
+lasts_if spot looked new (Err fault) flushes found = tt
+
+-- If a look at a mail fails, nothing is flushed.
+pub unseen_flushes : {A E F : Type 0} {spot : SpotOf} {old new : DiskState} {look : Result Bool F} {answer : Result A E} →
+    IsErr answer → Answers (Tells spot.claimed spot.file) old look new → FlushesClaim spot old answer new
+unseen_flushes {answer = Ok done} is tells = absurd (true≢false (sym is))
+unseen_flushes {spot = spot} {answer = Err fault} is tells =
+    record { touches = tells_touches (spot.claimed ∷ []) tells; lasts = tt }
+
+-- The claimed name of a mail that was found there is flushed.
+pub flushes_claimed : {E F : Type 0} {spot : SpotOf} {old looked new : DiskState} {stands : Bool}
+    {answer : Result (Unit {0}) E} → stands ≡ true → Answers {E = F} (Tells spot.claimed spot.file) old (Ok stands) looked →
+    Answers (Changes (after_flush_name spot.claimed)) looked answer new → FlushesClaim spot old answer new
+flushes_claimed {spot = spot} {old = old} {looked = looked} {new = new} {answer = answer} is tells flushes =
+    let paths : List (List ℕ) = spot.claimed ∷ [] in record {
+      touches = touches_then paths old looked new (tells_touches paths tells)
+          (one_touches (Changes (after_flush_name spot.claimed)) paths looked answer new flushes
+          (change_fits paths (after_flush_name spot.claimed) (flush_name_touches spot.claimed) answer));
+      lasts = lasts_if spot looked new answer flushes (λ h.
+          let was : old.is_honest ≡ true = sym tells.honest ∙ h in
+          ap (λ (d : Disk). found_at spot.claimed d.names) (tells.done was).same
+          ∙ is_this spot.file (found_at spot.claimed old.now.names) (sym (tells.done was).stands ∙ is));
+    }
+
+-- ---- the mails of a run
+
+-- Each crash leaves the first so many mails.
+pub record FlushedTo (spots : List (Option SpotOf)) (count : ℕ) (old new : DiskState) : Type 0 where
+  pub honest : new.is_honest ≡ old.is_honest
+  pub lasts : new.is_honest ≡ true → (mail : ℕ) (spot : SpotOf) → mail < count →
+      slice_get spots mail ≡ Some (Some spot) → Outlasts spot new.now
+
+-- At first none is flushed.
+pub none_flushed : (spots : List (Option SpotOf)) (state : DiskState) → FlushedTo spots 0 state state
+none_flushed spots state = record { honest = refl; lasts = λ h mail spot lt. absurd (omega (arith, lt)) }
+
+-- A number below the next one is this one, or below it.
+below_next : (k mail : ℕ) → mail < suc k → (mail ≡ k) ⊎ (mail < k)
+below_next zero zero lt = inl refl
+below_next zero (suc mail) lt = absurd (omega (arith, lt))
+below_next (suc k) zero lt = inr (omega (arith))
+below_next (suc k) (suc mail) lt =
+    ⊎_elim (λ same. inl (ap suc same)) (λ less. inr (omega (arith, less))) (below_next k mail (omega (arith, lt)))
+
+-- What a flush of one mail says of honesty.
+pub flush_honest : (E : Type 0) (b c : DiskState) (answer : Result (Unit {0}) E) (found : Option (Option SpotOf)) →
+    DoesAt (λ spot. FlushesClaim spot b answer c) (DoesNothing b answer c) found → c.is_honest ≡ b.is_honest
+flush_honest E b c answer None does = ap (λ (s : DiskState). s.is_honest) does.same
+flush_honest E b c answer (Some None) does = ap (λ (s : DiskState). s.is_honest) does.same
+flush_honest E b c answer (Some (Some spot)) does = does.touches.honest
+
+module _ (spots : List (Option SpotOf)) (spread : AreSpread spots) (k : ℕ) (a b c : DiskState) where
+  -- The mails before are still left after the flush of this one.
+  before_last : (E : Type 0) (found : Option (Option SpotOf)) → slice_get spots k ≡ found → (value : Unit {0}) →
+      FlushedTo spots k a b → DoesAt (λ spot. FlushesClaim {E = E} spot b (Ok value) c) (DoesNothing {E = E} b (Ok value) c) found
+      →
+      c.is_honest ≡ true → (mail : ℕ) (spot : SpotOf) → mail < k → slice_get spots mail ≡ Some (Some spot) →
+      Outlasts spot c.now
+  before_last E None is value before does h mail spot lt found = subst (λ (s : DiskState). Outlasts spot s.now) (sym does.same)
+      (before.lasts (ap (λ (s : DiskState). s.is_honest) (sym does.same) ∙ h) mail spot lt found)
+  before_last E (Some None) is value before does h mail spot lt found =
+      subst (λ (s : DiskState). Outlasts spot s.now) (sym does.same)
+      (before.lasts (ap (λ (s : DiskState). s.is_honest) (sym does.same) ∙ h) mail spot lt found)
+  before_last E (Some (Some own)) is value before does h mail spot lt found =
+      let was : b.is_honest ≡ true = sym does.touches.honest ∙ h in
+      let differ : k ≡ mail → ⊥ = λ same. omega (arith, lt, same) in
+      outlasts_touch (own.claimed ∷ []) spot b.now c.now
+      (removed_spares own spot (spread k mail own spot is found differ)) (does.touches.moments was).last
+      (before.lasts was mail spot lt found)
+
+  -- The mail itself is left after its flush.
+  own_last : (E : Type 0) (found : Option (Option SpotOf)) → slice_get spots k ≡ found → (value : Unit {0}) →
+      DoesAt (λ spot. FlushesClaim {E = E} spot b (Ok value) c) (DoesNothing {E = E} b (Ok value) c) found →
+      c.is_honest ≡ true → (spot : SpotOf) → slice_get spots k ≡ Some (Some spot) → Outlasts spot c.now
+  own_last E None is value does h spot found = absurd (none-some (Some spot) (sym is ∙ found))
+  own_last E (Some None) is value does h spot found = absurd (none-some spot (ap (value_or None) (sym is ∙ found)))
+  own_last E (Some (Some own)) is value does h spot found = subst (λ (s : SpotOf). Outlasts s c.now)
+      (ap (λ (o : Option (Option SpotOf)). found_spot o own) (sym is ∙ found)) (does.lasts h)
+
+  -- The mail after those that were flushed is flushed.
+  pub flushed_next : (E : Type 0) (next : ℕ) (value : Unit {0}) (found : Option (Option SpotOf)) →
+      slice_get spots k ≡ found → next ≤ suc k → FlushedTo spots k a b →
+      DoesAt (λ spot. FlushesClaim {E = E} spot b (Ok value) c) (DoesNothing {E = E} b (Ok value) c) found →
+      FlushedTo spots next a c
+  flushed_next E next value found is most before does = record {
+    honest = flush_honest E b c (Ok value) found does ∙ before.honest;
+    lasts = λ h mail spot lt at_mail. ⊎_elim
+        (λ same. own_last E found is value does h spot (ap (slice_get spots) (sym same) ∙ at_mail))
+        (λ less. before_last E found is value before does h mail spot less at_mail)
+        (below_next k mail (omega (arith, lt, most)));
+  }
+
+-- What is found in a list stands below its length.
+pub got_below : {A : Type 0} (xs : List A) (k : ℕ) (x : A) → slice_get xs k ≡ Some x → k < length xs
+got_below [] k x is = absurd (none-some x is)
+got_below (y ∷ xs) zero x is = omega (arith)
+got_below (y ∷ xs) (suc k) x is = omega (arith, got_below xs k x is)

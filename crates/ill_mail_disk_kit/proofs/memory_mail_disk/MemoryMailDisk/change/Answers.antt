@@ -1,0 +1,17 @@
+use Rattle.std.proofs.Common.{◌≡◌, rules, subst, sym}
+use Rattle.ill_disk.specs.Disk.{Disk, IsWhole, after_change}
+use Rattle.ill_disk.specs.MemoryDisk.{lists_of}
+use Rattle.ill_mail_disk_kit.specs.MemoryMails.{names_after}
+use Rattle.ill_mail_disk_kit.proofs.MemoryMails.{change_by_whole}
+use Rattle.ill_mail_disk_kit.proofs.memory_mail_disk.MemoryMailDisk.change.Goals as goal
+
+pub invariant_of-self : goal.invariant_of-self
+invariant_of-self c =
+    let whole : IsWhole c.args.self.now = search rules in
+    let after : Disk = record {
+      files = c.self.inside.files.items;
+      names = c.in_ok-names.names.items;
+      may_stand = lists_of c.in_ok-self-inside.field-0.items;
+    } in
+    let is : after ≡ after_change (names_after c.args.change) c.args.self.now = search rules in
+    subst IsWhole (sym is) (change_by_whole c.args.change c.args.self.now c.requires whole)

@@ -1,0 +1,16 @@
+use Rattle.std.proofs.Common.{◌≡◌, rules, subst, sym}
+use Rattle.ill_disk.specs.Disk.{Disk, IsWhole, after_create}
+use Rattle.ill_disk.specs.MemoryDisk.{lists_of}
+use Rattle.ill_disk.proofs.Wholes.{create_whole}
+use Rattle.ill_mail_disk_kit.proofs.memory_mail_disk.MemoryMailDiskDisk.create_new.Goals as goal
+
+pub invariant_of-self-2 : goal.invariant_of-self-2
+invariant_of-self-2 c =
+    let whole : IsWhole c.args.self.now = search rules in
+    let after : Disk = record {
+      files = c.push.new.self.items;
+      names = c.in_ok-names.names.items;
+      may_stand = lists_of c.in_ok-may_stand.may_stand.items;
+    } in
+    let is : after ≡ after_create c.args.path.now c.args.bytes.now c.args.self.now = search rules in
+    subst IsWhole (sym is) (create_whole c.args.path.now c.args.bytes.now c.args.self.now whole)

@@ -1,0 +1,17 @@
+use Rattle.std.proofs.Common.{◌≡◌, rules, subst, sym}
+use Rattle.ill_disk.specs.Disk.{Disk, IsWhole}
+use Rattle.ill_disk.specs.MemoryDisk.{lists_of}
+use Rattle.ill_mail_disk.specs.MailCalls.{after_flush_name}
+use Rattle.ill_mail_disk_kit.proofs.MemoryMails.{flush_name_whole}
+use Rattle.ill_mail_disk_kit.proofs.memory_mail_disk.MemoryMailDiskMailDisk.flush_name.Goals as goal
+
+pub invariant_of-self : goal.invariant_of-self
+invariant_of-self c =
+    let whole : IsWhole c.args.self.now = search rules in
+    let after : Disk = record {
+      files = c.self.inside.files.items;
+      names = c.in_ok-names.names.items;
+      may_stand = lists_of c.add_changed.new.all.items;
+    } in
+    let is : after ≡ after_flush_name c.args.path.now c.args.self.now = search rules in
+    subst IsWhole (sym is) (flush_name_whole c.args.path.now c.args.self.now whole)

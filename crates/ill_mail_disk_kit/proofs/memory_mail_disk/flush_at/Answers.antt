@@ -1,0 +1,9 @@
+use Rattle.ill_disk.proofs.Memory.{flush_sets, flush_past}
+use Rattle.ill_mail_disk_kit.proofs.memory_mail_disk.flush_at.Goals as goal
+
+pub returns-then-file-files : goal.returns-then-file-files
+returns-then-file-files c =
+    flush_sets c.args.files.now c.args.file c.index-files-file.result c.flush.new.self c.if-file-files.true c.flush.ensures
+
+pub returns-else-file-files : goal.returns-else-file-files
+returns-else-file-files c = flush_past c.args.files.now c.args.file c.if-file-files.false

@@ -1,0 +1,295 @@
+//! Tests of what each crash leaves of a mail, at each moment of a call on it.
+
+use crate::MemoryMailDisk;
+use ill_disk::{Disk, DiskFault};
+use ill_mail_disk::{Keeper, MailDisk, MailRun, Paths};
+use std::alloc::Global;
+use std::test::Fail;
+
+/// More calls than a test makes.
+const MANY: u32 = 1000;
+
+/// More calls than one call of a run makes.
+const MOST: u32 = 9;
+
+/// The bytes of the mail.
+const MAIL: &[u8] = b"mail";
+
+/// The paths of the mail.
+const PATHS: Paths<'static> = Paths {
+    claimed: b"claimed/1",
+    waiting: b"in/1",
+    aside: b"aside/1",
+    reason: b"aside/1.why",
+};
+
+/// The file of the messages that ask.
+const ASKED: &[u8] = b"asked";
+
+/// A call of a run on its mail.
+#[derive(Clone, Copy, PartialEq, Eq)]
+enum Call {
+    /// The mail is removed.
+    Remove,
+    /// The mail is put aside.
+    PutAside,
+    /// The mail is given back.
+    GiveBack,
+    /// Messages that ask are kept.
+    KeepAsked,
+}
+
+/// The calls that lose no mail.
+const KEEPING: [Call; 3] = [Call::PutAside, Call::GiveBack, Call::KeepAsked];
+
+/// Lets the mail wait on a new disk, whatever crash comes.
+fn bring_mail(disk: &mut MemoryMailDisk) -> Result<(), DiskFault> {
+    disk.create_new(PATHS.waiting, MAIL)?;
+    disk.flush(PATHS.waiting)?;
+    disk.create_new(ASKED, b"old")?;
+    disk.flush(ASKED)?;
+    disk.flush_names()
+}
+
+/// Returns a disk on which the mail was claimed. A crash may still leave it where it waited. Its first `calls` calls from
+/// then on do not fail.
+fn disk_with_claim(alloc: Global, calls: u32) -> Result<MemoryMailDisk, DiskFault> {
+    let mut disk = MemoryMailDisk::new(alloc, MANY)?;
+    bring_mail(&mut disk)?;
+    disk.rename(PATHS.waiting, PATHS.claimed)?;
+    disk.allow(calls);
+    Ok(disk)
+}
+
+/// Returns a run without mails on this disk.
+fn empty_run(alloc: Global, disk: MemoryMailDisk) -> Result<MailRun<MemoryMailDisk>, DiskFault> {
+    let asked = Keeper::at(alloc, ASKED)?;
+    Ok(MailRun::new(alloc, disk, asked, Vec::new(alloc)))
+}
+
+/// Returns a run over the mail on this disk.
+fn run_on(alloc: Global, disk: MemoryMailDisk) -> Result<MailRun<MemoryMailDisk>, DiskFault> {
+    let mut run = empty_run(alloc, disk)?;
+    run.add(alloc, PATHS)?;
+    Ok(run)
+}
+
+/// Performs a call, and returns true if it is done.
+fn is_done(run: &mut MailRun<MemoryMailDisk>, call: Call) -> bool {
+    match call {
+        Call::Remove => run.remove(0).is_ok(),
+        Call::PutAside => run.put_aside(0, b"why\n").is_ok(),
+        Call::GiveBack => run.give_back(0).is_ok(),
+        Call::KeepAsked => run.keep_asked(b"new").is_ok(),
+    }
+}
+
+/// Returns true if a file of these bytes stands at `path`.
+fn has(
+    alloc: Global,
+    disk: &mut MemoryMailDisk,
+    path: &[u8],
+    bytes: &[u8],
+) -> Result<bool, DiskFault> {
+    match disk.read(alloc, path, 100) {
+        Ok(Some(found)) => Ok(found.as_slice() == bytes),
+        Ok(None) => Ok(false),
+        Err(fault) => Err(fault),
+    }
+}
+
+/// What is asked of each disk that a crash leaves.
+#[derive(Clone, Copy)]
+enum Question {
+    /// Is true if the mail stands at one of its three paths.
+    HasMail,
+    /// Is true if it stands at none.
+    IsGone,
+    /// Is true if the messages that ask are those before or those after, whole.
+    HasAsked,
+    /// Is true if the mail waits or stands aside.
+    IsSettled,
+    /// Is true if the mail stands at its claimed path.
+    IsClaimed,
+}
+
+/// Returns true if a file of these bytes stands at one of two paths.
+fn has_either(
+    alloc: Global,
+    disk: &mut MemoryMailDisk,
+    paths: [&[u8]; 2],
+    bytes: &[u8],
+) -> Result<bool, DiskFault> {
+    Ok(has(alloc, disk, paths[0], bytes)? || has(alloc, disk, paths[1], bytes)?)
+}
+
+/// Returns true if the mail stands at one of its three paths.
+fn has_mail(alloc: Global, disk: &mut MemoryMailDisk) -> Result<bool, DiskFault> {
+    Ok(
+        has(alloc, disk, PATHS.claimed, MAIL)?
+            || has_either(alloc, disk, [PATHS.waiting, PATHS.aside], MAIL)?,
+    )
+}
+
+/// Returns the answer to a question about a disk.
+fn answer(alloc: Global, disk: &mut MemoryMailDisk, question: Question) -> Result<bool, DiskFault> {
+    match question {
+        Question::HasMail => has_mail(alloc, disk),
+        Question::IsGone => Ok(!has_mail(alloc, disk)?),
+        Question::HasAsked => {
+            Ok(has(alloc, disk, ASKED, b"old")? || has(alloc, disk, ASKED, b"new")?)
+        }
+        Question::IsSettled => has_either(alloc, disk, [PATHS.waiting, PATHS.aside], MAIL),
+        Question::IsClaimed => has(alloc, disk, PATHS.claimed, MAIL),
+    }
+}
+
+/// Returns the answer about the disk that a crash leaves with the list of names `which`.
+fn answer_after(
+    alloc: Global,
+    disk: &MemoryMailDisk,
+    which: usize,
+    question: Question,
+) -> Result<bool, DiskFault> {
+    let mut after = disk.after_crash(which, MANY)?;
+    answer(alloc, &mut after, question)
+}
+
+/// Returns true if the answer is true of each disk that a crash leaves.
+fn is_so_after_each(
+    alloc: Global,
+    disk: &MemoryMailDisk,
+    question: Question,
+) -> Result<bool, DiskFault> {
+    for which in 0..disk.count_lists() {
+        if !answer_after(alloc, disk, which, question)? {
+            return Ok(false);
+        }
+    }
+    Ok(true)
+}
+
+/// Returns the answer about the disk as it is now.
+fn answer_now(alloc: Global, disk: &MemoryMailDisk, question: Question) -> Result<bool, DiskFault> {
+    answer_after(alloc, disk, disk.count_lists().saturating_sub(1), question)
+}
+
+/// Returns true if the answer is true after each crash, when the first `calls` calls of a call on the mail have passed.
+fn is_so_at(alloc: Global, call: Call, calls: u32, question: Question) -> Result<bool, DiskFault> {
+    let mut run = run_on(alloc, disk_with_claim(alloc, calls.saturating_add(1))?)?;
+    let _ = is_done(&mut run, call);
+    is_so_after_each(alloc, run.disk(), question)
+}
+
+/// Returns true if a call is done, all of whose calls pass, and the answer is true then.
+fn is_so_when_done(alloc: Global, call: Call, question: Question) -> Result<bool, DiskFault> {
+    let mut run = run_on(alloc, disk_with_claim(alloc, MOST)?)?;
+    Ok(is_done(&mut run, call) && answer_now(alloc, run.disk(), question)?)
+}
+
+/// Returns true if a run after a crash settles the mail.
+fn settles_next(alloc: Global, disk: &MemoryMailDisk, which: usize) -> Result<bool, DiskFault> {
+    let mut run = run_on(alloc, disk.after_crash(which, MANY)?)?;
+    Ok(is_done(&mut run, Call::GiveBack) && answer_now(alloc, run.disk(), Question::IsSettled)?)
+}
+
+/// Returns true if a run after each crash settles the mail, when the first `calls` calls of a call on it have passed.
+fn settles_after(alloc: Global, call: Call, calls: u32) -> Result<bool, DiskFault> {
+    let mut run = run_on(alloc, disk_with_claim(alloc, calls.saturating_add(1))?)?;
+    let _ = is_done(&mut run, call);
+    for which in 0..run.disk().count_lists() {
+        if !settles_next(alloc, run.disk(), which)? {
+            return Ok(false);
+        }
+    }
+    Ok(true)
+}
+
+/// Gives the mail back without a flush of its name.
+fn give_back_unflushed(disk: &mut MemoryMailDisk) -> Result<(), DiskFault> {
+    disk.flush_names()?;
+    disk.link(PATHS.claimed, PATHS.waiting)?;
+    disk.remove(PATHS.claimed)
+}
+
+/// Returns true if no crash loses a mail that was given back without a flush.
+fn is_left_unflushed(alloc: Global) -> Result<bool, DiskFault> {
+    let mut disk = disk_with_claim(alloc, MANY)?;
+    give_back_unflushed(&mut disk)?;
+    is_so_after_each(alloc, &disk, Question::HasMail)
+}
+
+/// Returns true if a mail stays claimed when another mail has come under its name.
+fn stays_beside_another(alloc: Global) -> Result<bool, DiskFault> {
+    let mut disk = disk_with_claim(alloc, MANY)?;
+    disk.create_new(PATHS.waiting, b"other")?;
+    let mut run = run_on(alloc, disk)?;
+    Ok(is_done(&mut run, Call::GiveBack) && answer_now(alloc, run.disk(), Question::IsClaimed)?)
+}
+
+#[test]
+fn no_crash_loses_a_mail_at_any_moment(rt: HostRuntime) -> Result<(), Fail> {
+    for call in KEEPING {
+        for calls in 0..MOST {
+            assert!(rt;
+                is_so_at(rt.alloc(), call, calls, Question::HasMail)?,
+                "a moment"
+            );
+        }
+    }
+    Ok(())
+}
+
+#[test]
+fn the_next_run_settles_what_each_crash_leaves(rt: HostRuntime) -> Result<(), Fail> {
+    for call in KEEPING {
+        for calls in 0..MOST {
+            assert!(rt; settles_after(rt.alloc(), call, calls)?, "a moment");
+        }
+    }
+    Ok(())
+}
+
+#[test]
+fn what_asks_is_old_or_new_after_each_crash(rt: HostRuntime) -> Result<(), Fail> {
+    for calls in 0..MOST {
+        assert!(rt;
+            is_so_at(rt.alloc(), Call::KeepAsked, calls, Question::HasAsked)?,
+            "a moment"
+        );
+    }
+    Ok(())
+}
+
+#[test]
+fn a_call_is_done_if_all_calls_of_the_disk_pass(rt: HostRuntime) -> Result<(), Fail> {
+    assert!(rt;
+        is_so_when_done(rt.alloc(), Call::PutAside, Question::IsSettled)?,
+        "put aside"
+    );
+    assert!(rt;
+        is_so_when_done(rt.alloc(), Call::GiveBack, Question::IsSettled)?,
+        "given back"
+    );
+    assert!(rt;
+        is_so_when_done(rt.alloc(), Call::KeepAsked, Question::IsClaimed)?,
+        "kept"
+    );
+    assert!(rt;
+        !is_so_when_done(rt.alloc(), Call::Remove, Question::HasMail)?,
+        "removed"
+    );
+    Ok(())
+}
+
+#[test]
+fn a_mail_that_came_meanwhile_stays(rt: HostRuntime) -> Result<(), Fail> {
+    assert!(rt; stays_beside_another(rt.alloc())?, "another mail");
+    Ok(())
+}
+
+#[test]
+fn a_removal_before_the_flush_may_lose_a_mail(rt: HostRuntime) -> Result<(), Fail> {
+    assert!(rt; !is_left_unflushed(rt.alloc())?, "without a flush");
+    Ok(())
+}

@@ -538,6 +538,7 @@ class Stage:
                 REPORT.skip(part.__name__.replace("_", " "), f"{', '.join(lacks)} not installed")
                 continue
             attempt(part)
+            self.driver.end_browsers()
 
     def end(self):
         """Ends browsers and servers."""

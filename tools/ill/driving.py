@@ -31,7 +31,7 @@ class Driver:
     """A running chromedriver, which begins browsers."""
 
     def __init__(self, folder, port):
-        self.folder, self.port, self.begun = folder, port, 0
+        self.folder, self.port, self.begun, self.browsers = folder, port, 0, []
         self.log = open(os.path.join(folder, "driver.log"), "wb")
         self.process = subprocess.Popen(["chromedriver", f"--port={port}"], stdout=self.log, stderr=self.log)
 
@@ -59,10 +59,17 @@ class Driver:
         wanted = {"browserName": "chrome", "acceptInsecureCerts": True,
                   "goog:chromeOptions": {"args": words, "binary": chromium()}, "goog:loggingPrefs": {"browser": "ALL"}}
         value = self.call("POST", "/session", {"capabilities": {"alwaysMatch": wanted}})
-        return Browser(self, value["sessionId"])
+        self.browsers.append(Browser(self, value["sessionId"]))
+        return self.browsers[-1]
+
+    def end_browsers(self):
+        """Ends all browsers that were begun. They would outlive the driver."""
+        while self.browsers:
+            self.browsers.pop().end()
 
     def end(self):
-        """Ends the driver."""
+        """Ends the driver and its browsers."""
+        self.end_browsers()
         self.process.terminate()
         self.process.wait()
         self.log.close()

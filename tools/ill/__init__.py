@@ -10,5 +10,6 @@ The others are parts of one script. `texts` compares texts with sources for tool
 bodies for tools/strength. `desks` has the parts of tools/desks; `pages`, `slips`, `objects`, `damaged` and `manual` are
 parts of tools/check-program. The nights of tools/crash are `nights`, and `bodies` has the wrong bodies that
 tools/exchange tries. `mail_server` has the servers of tools/mail-server.
-`browsing` has the parts of tools/browser, `driving` the browser that it drives, and `serving` its web servers.
+`browsing` has the parts of tools/browser, `driving` the browser that it drives, and `serving` its web servers. `month` is
+its month, and `libraries` are those whose staff play it.
 """

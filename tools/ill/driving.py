@@ -147,6 +147,14 @@ class Browser:
             self.call("POST", f"/element/{element}/clear", {})
             self.type(element, text)
 
+    def type_day(self, element, day):
+        """Types a day, as `2025-03-15`, into a date field, in the order of the browser's language."""
+        parts = dict(zip(("year", "month", "day"), day.split("-")))
+        order = self.run("return new Intl.DateTimeFormat(navigator.language).formatToParts(0).map(it => it.type)")
+        self.type(element, "".join(parts[name] for name in order if name in parts))
+        found = self.call("GET", f"/element/{element}/property/value")
+        harness.expect(found == day, f"{day} was typed, and the field has {found}")
+
     def leave(self, act):
         """Performs what loads another page, and waits until it is there."""
         old = self.one("html")

@@ -453,9 +453,10 @@ class Disk:
         os.makedirs(folder, exist_ok=True)
 
     def settle(self):
-        """Lets all that was written be on the disk."""
+        """Lets all that was written be on the disk. A run that goes on beside may forget a name first."""
         for name in os.listdir(self.folder):
-            remove(os.path.join(self.folder, name))
+            with contextlib.suppress(FileNotFoundError):
+                remove(os.path.join(self.folder, name))
 
     def lose(self, kinds):
         """The power goes: of what was not flushed these kinds are lost, in their order."""

@@ -8,11 +8,11 @@ function __ill_typed
     if test "$words[2]" = --explain
         set -e words[2]
     end
+    if test "$words[2]" = shelf; and test "$words[3]" = --explain
+        set -e words[3]
+    end
     if test "$words[2]" = shelf; and test (count $words) -gt 2
         set -e words[2]
-        if test "$words[2]" = --explain; and test (count $words) -gt 2
-            set -e words[2]
-        end
         set words[2] shelf-$words[2]
     end
     string join \n -- $words

@@ -97,13 +97,16 @@ class Books:
         return {spelled(side.txn, apdu): (side.txn, apdu) for side in self.sides.values() for apdu in side.issued}
 
     def lines(self, txn):
-        """Returns the lines of a loan, as its page has them."""
+        """Returns the lines of a loan, as its page has them. A message that came again stands there once, and the last line
+        of the diary that names it counts."""
         side = self.sides[txn]
-        came = [["", f"apdu {it['apdu']}", f"group {txn[0]}", f"transaction {txn[1]}", f"number {it['number']}",
-                 *field_lines(it), "came yes"] for it in side.came]
+        came = {it["number"]: ["", f"apdu {it['apdu']}", f"group {txn[0]}", f"transaction {txn[1]}",
+                               f"number {it['number']}", *field_lines(it), "came yes"] for it in side.came}
         own = f" {txn[0]} {txn[1]} "
-        history = [line.replace(own, " ") for line in self.diary.decode().splitlines() if own in line]
-        return [*loan_lines(side, self.notes.get(txn)), *(line for lines in came for line in lines), "",
+        lines = [line.split(own) for line in self.diary.decode().splitlines() if own in line]
+        last = {what: at for at, (_, what) in enumerate(lines)}
+        history = [" ".join(line) for at, line in enumerate(lines) if last[line[1]] == at]
+        return [*loan_lines(side, self.notes.get(txn)), *(line for lines in came.values() for line in lines), "",
                 *(f"history {line}" for line in history)]
 
 

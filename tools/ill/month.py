@@ -276,7 +276,7 @@ class Month:
         staff.fill("input[name=to]", last)
         staff.click(staff.browser.one("form:has([name=from]) button"))
         library.draw("figures", once="figures")
-        found = staff.browser.run(KNOWN).splitlines()[1:]
+        found = staff.browser.run(KNOWN).splitlines()
         wanted = Figures(list(books.sides.values()), books.days, (FIRST.strftime("%Y%m%d"), last.replace("-", ""))).lines()
         REPORT.tell(f"{staff.user}: the figures", None if found == wanted else f"{found} in place of {wanted}")
 

@@ -74,7 +74,7 @@ def functions_of(folder):
 
 def module_of(file):
     """Returns the path of the module that a source is."""
-    return [word for word in file[len("src/"):-len(".rt")].split("/") if word != "lib"]
+    return [word for word in file[len("src/"):-len(".rt")].split("/") if word not in ("lib", "main")]
 
 
 def functions_in(text, file, types):
@@ -208,10 +208,15 @@ def below(crate):
     return found
 
 
+def root_of(crate):
+    """Returns the source at the root of this crate, a library or a program."""
+    return next(it for it in ("src/lib.rt", "src/main.rt") if os.path.exists(f"{full('crates', crate)}/{it}"))
+
+
 def words_of(crate):
     """Returns the words of a check of this crate, over the built libraries below it."""
     own, crates = libraries()[crate], libraries()
-    words = ["--crate-name", crate, "src/lib.rt", "-L", f"dependency={kit()}/rlibs"]
+    words = ["--crate-name", crate, root_of(crate), "-L", f"dependency={kit()}/rlibs"]
     for name in ["std", *(name for name in own if name not in crates)]:
         words += ["--extern", f"{name}={kit()}/rlibs/{name}.rlib"]
     for name in below(crate):
@@ -254,7 +259,7 @@ class Trial:
 
     def copy(self, folder, beside):
         """Copies the crate: without the bodies that no edit is about, and with wrong bodies beside the right ones."""
-        for part in PARTS:
+        for part in filter(lambda part: os.path.isdir(f"{self.source}/{part}"), PARTS):
             shutil.copytree(f"{self.source}/{part}", f"{folder}/{part}")
         for it in sorted(self.functions.values(), key=lambda it: -it.begin):
             text = read(f"{folder}/{it.file}")
@@ -266,9 +271,10 @@ class Trial:
             write(f"{folder}/{it.file}", "\n\n".join([text[:it.begin] + body, *wrong]) + text[it.end:])
 
     def take_as_axiom(self, folder, it):
-        """Takes the theorem of a function as an axiom."""
+        """Takes the theorem of a function as an axiom. One that called itself has its measure in a folder with a +."""
         proof, path = f"{folder}/{proof_of(it.path)}", it.path.replace("::", ".")
-        shutil.rmtree(proof, ignore_errors=True)
+        for left in (proof, f"{os.path.dirname(proof)}/+{it.path.rpartition('::')[2]}"):
+            shutil.rmtree(left, ignore_errors=True)
         write(f"{proof}/Proof.antt", AXIOM.format(crate=self.crate, path=path, name=path.rpartition(".")[2]))
 
     def wrong(self, folder, path, edit):

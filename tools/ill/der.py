@@ -31,7 +31,7 @@ def integer(tag, number):
     return element(tag, bytes([number] if number < 128 else [0, number]))
 
 
-def spell(tag, transaction, number, *fields, group=b"G1"):
+def encode(tag, transaction, number, *fields, group=b"G1"):
     """Returns a message of a loan, with these further fields."""
     identity = element(0xA1, element(0x81, group) + element(0x82, transaction))
     return element(tag, element(0x80, b"\1") + identity + integer(0x82, number) + b"".join(fields))
@@ -39,7 +39,7 @@ def spell(tag, transaction, number, *fields, group=b"G1"):
 
 def request(transaction, *fields, item=b"Maps"):
     """Returns an ILL-Request. The fields stand before the item."""
-    return spell(0x61, transaction, 1, *fields, element(0x86, item))
+    return encode(0x61, transaction, 1, *fields, element(0x86, item))
 
 
 REQUESTER, RESPONDER = 0, 1  # the senders of letters
@@ -53,15 +53,15 @@ def sealed(key, sender, text):
 
 def cancel(transaction):
     """Returns a Cancel, which follows the request."""
-    return spell(0x66, transaction, 2)
+    return encode(0x66, transaction, 2)
 
 
 def shipped(transaction, number=1):
     """Returns a Shipped, due on 15 March 2025."""
-    return spell(0x63, transaction, number, element(0x85, b"20250315"))
+    return encode(0x63, transaction, number, element(0x85, b"20250315"))
 
 
-def spelled(txn, apdu):
+def encoded(txn, apdu):
     """Returns the bytes of a message of the model."""
     fields = []
     if "answers" in apdu:
@@ -75,7 +75,7 @@ def spelled(txn, apdu):
     if "item" in apdu:
         fields.append(element(0x86, apdu["item"].encode()))
     group, transaction = (part.encode() for part in txn)
-    return spell(TYPES[apdu["apdu"]], transaction, apdu["number"], *fields, group=group)
+    return encode(TYPES[apdu["apdu"]], transaction, apdu["number"], *fields, group=group)
 
 
 # ---- The reader

@@ -9,7 +9,7 @@ import urllib.parse
 
 from ill import harness
 from ill.counting import diary_line
-from ill.der import parts_of, spelled
+from ill.der import parts_of, encoded
 from ill.desks.reads import field_lines, loan_lines
 from ill.model import ROLES, Side
 from ill.morning import Loan, Morning
@@ -94,7 +94,7 @@ class Books:
 
     def known(self):
         """Returns each message that was issued, by its bytes."""
-        return {spelled(side.txn, apdu): (side.txn, apdu) for side in self.sides.values() for apdu in side.issued}
+        return {encoded(side.txn, apdu): (side.txn, apdu) for side in self.sides.values() for apdu in side.issued}
 
     def lines(self, txn):
         """Returns the lines of a loan, as its page has them. A message that came again stands there once, and the last line

@@ -24,7 +24,7 @@ import subprocess
 import sys
 
 from ill import harness
-from ill.der import element, messages_of, request, shipped, spell
+from ill.der import element, messages_of, request, shipped, encode
 from ill.harness import LOSSES, Wrong, expect, read, write
 
 KILLS = ("before", "after", "half")
@@ -418,7 +418,7 @@ class ShelfNight(Night):
             expect(self.files()["s/.unsorted.mail/asked"] == of_group(b"B", UNFILLED), "a retired group is not answered")
 
 
-UNFILLED = spell(0x64, b"T1", 1, element(0x84, b"\3"))
+UNFILLED = encode(0x64, b"T1", 1, element(0x84, b"\3"))
 
 
 def of_group(group, message):
@@ -433,7 +433,7 @@ def shelf_of_responder(program, shim, folder, *words):
     alone begins a loan at each desk, so their order says nothing of the records."""
     mails = {"s/.unsorted.mail/in/0000000001/a": (of_group(b"A", request(b"T2")), "taken", "s/A.responder"),
              "s/B.responder.mail/in/0000000001/b": (of_group(b"B", request(b"T2")), "taken", "s/B.responder"),
-             "in/1": (of_group(b"A", spell(0x66, b"T1", 2)), "taken", "s/A.responder"),
+             "in/1": (of_group(b"A", encode(0x66, b"T1", 2)), "taken", "s/A.responder"),
              "in/2": (of_group(b"N", request(b"T1")), "taken", "s/N.responder"),
              "in/3": (b"junk", "short at 4", "s/.shelf"), "in/4": (of_group(b"R", request(b"T1")), "gone", ""),
              "in/5": (of_group(b"X", shipped(b"T1")), "wrong-role", "s/.shelf"),
@@ -501,7 +501,7 @@ def shelf_that_begins(program, shim, folder, *words):
 def requester(program, shim, folder, *words):
     """A night of a requester: three messages are taken, of which a killed run has claimed one, and two mails are put aside;
     one is of a loan that the desk has not yet."""
-    conditional = spell(0x64, b"T1", 1, element(0x84, b"\1"))
+    conditional = encode(0x64, b"T1", 1, element(0x84, b"\1"))
     mails = {"a": (shipped(b"T3"), "taken"), "1": (conditional, "taken"), "2": (shipped(b"T2"), "taken"),
              "3": (b"junk", "short at 4"), "4": (request(b"T1"), "wrong-role"), "5": (shipped(b"T9"), "left")}
     night = Night(program, shim, folder, words, mails, {"a": 1})

@@ -1,7 +1,7 @@
 """The record of a desk, written as docs/FORMATS.md says."""
 import hashlib
 
-from ill.der import spelled
+from ill.der import encoded
 from ill.model import REQUESTER
 
 DIGEST = 32  # the bytes at the end of a record of version 2
@@ -20,8 +20,8 @@ def record(side):
         parts += bytes([side.held or 0, side.checked_in]) + (side.due or "0" * 8).encode()
     else:
         parts += bytes([side.accepted or 0, side.cancelled or 0, side.renewed or 0, side.received])
-        parts += b"\1" + spelled(txn, side.request) if side.request else b"\0"
-    return parts + bytes([len(side.issued)]) + b"".join(spelled(txn, apdu) for apdu in side.issued)
+        parts += b"\1" + encoded(txn, side.request) if side.request else b"\0"
+    return parts + bytes([len(side.issued)]) + b"".join(encoded(txn, apdu) for apdu in side.issued)
 
 
 def with_digest(parts):

@@ -5,7 +5,7 @@ A side of the model tells which messages it has taken. So nothing here asks a re
 import functools
 import re
 
-from ill.der import spelled
+from ill.der import encoded
 from ill.model import RESPONDER
 from ill.screen import shown
 from ill.texts import news
@@ -52,7 +52,7 @@ def is_own(side, apdu):
 
 def came_bytes(sides):
     """Returns the bytes of all that came to these sides."""
-    return b"".join(spelled(side.txn, apdu) for side in sides for apdu in side.came)
+    return b"".join(encoded(side.txn, apdu) for side in sides for apdu in side.came)
 
 
 class Since:

@@ -16,7 +16,7 @@ use Rattle.ill_commands.specs.AtFile.{RunsVisit}
 -- No bytes have no messages.
 nothing_in : AreIn [] []
 unfolding apdu_at outer_at header_at
-nothing_in = (Ok [], ([], record { spelled = tt; parts = refl }, (refl, refl)))
+nothing_in = (Ok [], ([], record { encoded = tt; parts = refl }, (refl, refl)))
 
 -- If the answer is that the writer failed, a visit may have written a prefix of no bytes.
 pub nothing_written : (visit : Visit) (form : Form) (is_headed is_first : Bool) (path : List ℕ) (written : Option (List ℕ))

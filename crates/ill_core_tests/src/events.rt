@@ -63,12 +63,12 @@ impl Event {
     }
 }
 
-/// Returns the delivery of the message that `word` spells.
+/// Returns the delivery of the message that `word` encodes.
 fn delivery(alloc: Global, word: &str) -> Option<Event> {
     Some(Event::Delivery(message(alloc, word, None)?))
 }
 
-/// Returns the wish that issues the message that `word` spells.
+/// Returns the wish that issues the message that `word` encodes.
 fn wish(alloc: Global, word: &str) -> Option<Event> {
     Some(Event::Wish(match body_of(alloc, word)? {
         Body::IllRequest { expiry, item } => Wish::Request { expiry, item },
@@ -81,7 +81,7 @@ fn wish(alloc: Global, word: &str) -> Option<Event> {
     }))
 }
 
-/// Returns the deed that issues the message that `word` spells, on the day `today`.
+/// Returns the deed that issues the message that `word` encodes, on the day `today`.
 fn deed(alloc: Global, today: Option<Day>, word: &str) -> Option<Event> {
     let deed = match body_of(alloc, word)? {
         Body::IllAnswer { result } => Deed::Answer(result),

@@ -1,15 +1,15 @@
-//! Reads messages, as the input spells them.
+//! Reads messages, as the input encodes them.
 
 use ill_test_kit::octet_in;
 use ill_values::{AnswerResult, Apdu, Body, Day, Item, Number, TxnId};
 use std::alloc::Global;
 
-/// Returns the number that `text` spells, or `None`.
+/// Returns the number that `text` encodes, or `None`.
 pub fn number(text: &str) -> Option<Number> {
     Number::new(octet_in(text)?)
 }
 
-/// Returns the day that `text` spells, or `None`.
+/// Returns the day that `text` encodes, or `None`.
 pub fn day(text: &str) -> Option<Day> {
     Day::read(text.as_bytes()).ok()
 }
@@ -19,7 +19,7 @@ pub fn next_number(count: usize) -> Option<Number> {
     Number::new(u8::try_from(count.saturating_add(1)).ok()?)
 }
 
-/// Returns the message that `word` spells. If `word` has no number, the message has the number `place`.
+/// Returns the message that `word` encodes. If `word` has no number, the message has the number `place`.
 pub fn message(alloc: Global, word: &str, place: Option<Number>) -> Option<Apdu> {
     let (digits, word) = word.split_once(':').unwrap_or(("", word));
     let (word, id) = word.split_once('@').unwrap_or((word, "G1/T1"));
@@ -30,7 +30,7 @@ pub fn message(alloc: Global, word: &str, place: Option<Number>) -> Option<Apdu>
     Some(Apdu { txn, number, body })
 }
 
-/// Returns the body that `word` spells: a letter, the number that it answers, and a date after a hyphen.
+/// Returns the body that `word` encodes: a letter, the number that it answers, and a date after a hyphen.
 pub fn body_of(alloc: Global, word: &str) -> Option<Body> {
     let (word, date) = word.split_once('-').unwrap_or((word, ""));
     let mut letters = word.chars();

@@ -223,7 +223,7 @@ impl Record {
         self.set_request(alloc, "1:q");
     }
 
-    /// Adds the parts and messages that `words` spell.
+    /// Adds the parts and messages that `words` encode.
     pub fn add(&mut self, alloc: Global, words: &str) {
         for word in words.split_whitespace() {
             match word.split_once('=') {
@@ -252,7 +252,7 @@ impl Record {
         }
     }
 
-    /// Sets the request to the message that `word` spells.
+    /// Sets the request to the message that `word` encodes.
     fn set_request(&mut self, alloc: Global, word: &str) {
         self.request.clear();
         if let Some(apdu) = message(alloc, word, None) {
@@ -260,7 +260,7 @@ impl Record {
         }
     }
 
-    /// Adds the message that `word` spells, or obeys `word` if it spells none.
+    /// Adds the message that `word` encodes, or obeys `word` if it encodes none.
     fn push(&mut self, alloc: Global, word: &str) {
         match message(alloc, word, next_number(self.messages.len())) {
             Some(apdu) => {

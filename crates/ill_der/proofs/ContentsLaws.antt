@@ -24,7 +24,7 @@ use Rattle.ill_der.proofs.Formats.{IsContents}
 
 -- The laws of `ill_values` that the proofs use: a date is read only from its text, and texts have these sizes.
 pub record Values : Type 0 where
-  pub day_spelled : (d : Date) → IsDate d → read_date (date_text d) ≡ Ok d
+  pub day_encoded : (d : Date) → IsDate d → read_date (date_text d) ≡ Ok d
   pub day_read : (text : List ℕ) (d : Date) → read_date text ≡ Ok d → IsDate d × (text ≡ date_text d)
   pub qualifier_size : (text : List ℕ) → IsQualifier text → (1 ≤ length text) × (length text ≤ 64)
   pub item_size : (text : List ℕ) → IsItem text → (1 ≤ length text) × (length text ≤ 200)
@@ -157,7 +157,7 @@ date_takes values bytes d fits e = let is = values.day_read bytes d (day_found (
 pub date_is : Values → IsContents IsDate 8 date
 date_is values = record {
   takes = date_takes values;
-  again = λ d p. rw (values.day_spelled d p) refl;
+  again = λ d p. rw (values.day_encoded d p) refl;
   bound = λ d p. omega arith;
 }
 
@@ -197,21 +197,21 @@ result_is = record { takes = result_takes; again = result_again; bound = λ v p.
 -- ---- yes and no
 
 -- If `yes_no_from` reads `v` from `bytes`, they are the one octet of `v`.
-yes_no_takes : (bytes : List ℕ) (v : Bool) → IsBytes bytes → yes_no_from bytes ≡ Some v → (bytes ≡ yes_no.spell v) × IsYesOrNo v
+yes_no_takes : (bytes : List ℕ) (v : Bool) → IsBytes bytes → yes_no_from bytes ≡ Some v → (bytes ≡ yes_no.encode v) × IsYesOrNo v
 yes_no_takes [] v fits e = absurd cc
 yes_no_takes (octet ∷ []) v fits e =
     elim (chosen (eqb octet 0) (Some false) (cond (eqb octet 0xFF) (Some true) None) (Some v) e) [
-      | inl h ↦ subst (λ (x : Bool). (octet ∷ [] ≡ yes_no.spell x) × IsYesOrNo x) (same_Some false v h.1)
+      | inl h ↦ subst (λ (x : Bool). (octet ∷ [] ≡ yes_no.encode x) × IsYesOrNo x) (same_Some false v h.1)
           (ap (λ (x : ℕ). x ∷ []) (eqb-true octet 0 h.0), tt)
       | inr h ↦
           let is = cond_some (eqb octet 0xFF) true v h.1 in
-          subst (λ (x : Bool). (octet ∷ [] ≡ yes_no.spell x) × IsYesOrNo x) is.1
+          subst (λ (x : Bool). (octet ∷ [] ≡ yes_no.encode x) × IsYesOrNo x) is.1
           (ap (λ (x : ℕ). x ∷ []) (eqb-true octet 0xFF is.0), tt)
     ]
 yes_no_takes (octet ∷ more ∷ rest) v fits e = absurd cc
 
 -- `yes_no_from` reads yes and no from their octets.
-yes_no_again : (v : Bool) → IsYesOrNo v → yes_no_from (yes_no.spell v) ≡ Some v
+yes_no_again : (v : Bool) → IsYesOrNo v → yes_no_from (yes_no.encode v) ≡ Some v
 yes_no_again true p = refl
 yes_no_again false p = refl
 

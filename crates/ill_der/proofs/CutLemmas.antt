@@ -5,7 +5,7 @@ use Rattle.std.proofs.lemmas.List.{append-nil}
 use Rattle.ill_values.specs.declared.apdu.Apdu.{Apdu}
 use Rattle.ill_der.specs.declared.fault.DerFault.{DerFault}
 use Rattle.ill_der.specs.declared.fault.DerFault.TheVariants.{Short}
-use Rattle.ill_der.specs.ShortForm.{spelling, header_at, outer_at, apdu_at}
+use Rattle.ill_der.specs.ShortForm.{encoding, header_at, outer_at, apdu_at}
 use Rattle.ill_der.specs.Stream.{IsUnfinished, IfShort}
 use Rattle.ill_der.specs.Feed.{Begins, FeedState, Leaves, Feeds, FeedsAll}
 use Rattle.ill_der.proofs.Chains.{no_value, ok_is, fault_is}
@@ -55,7 +55,7 @@ is_fed (Err fault) piece apdus new feeds = subst IsFeed (sym feeds.1) tt
 
 -- If `old` is closed or holds unfinished bytes, a push of no bytes gives no APDU and keeps it.
 no_push : (old : FeedState) → IsFeed old → Feeds old [] [] old
-no_push (Ok held) is = (held, record { spelled = tt; parts = append-nil held }, (refl, is))
+no_push (Ok held) is = (held, record { encoded = tt; parts = append-nil held }, (refl, is))
 no_push (Err fault) is = (refl, refl)
 
 -- If `pieces` are pushed into `old` one after another, one push of all their bytes gives equal APDUs and an equal feed.
@@ -78,17 +78,17 @@ has_fault rest (Err fault) leaves = (fault, leaves.0)
 
 -- If `bytes` is `apdu`, `apdus` and then `rest`, `apdu_at` reads `apdu` and leaves the encodings of `apdus` and `rest`.
 first_again : AgainLaw → (bytes rest : List ℕ) (apdu : Apdu) (apdus : List Apdu) → Begins bytes (apdu ∷ apdus) rest
-    → apdu_at bytes ≡ Ok (apdu, flat_map spelling apdus ++ rest)
+    → apdu_at bytes ≡ Ok (apdu, flat_map encoding apdus ++ rest)
 first_again again bytes rest apdu apdus begins =
-    ap apdu_at (begins.parts ∙ append_assoc (spelling apdu) (flat_map spelling apdus) rest)
-    ∙ again apdu (flat_map spelling apdus ++ rest) begins.spelled.0
+    ap apdu_at (begins.parts ∙ append_assoc (encoding apdu) (flat_map encoding apdus) rest)
+    ∙ again apdu (flat_map encoding apdus ++ rest) begins.encoded.0
 
 -- If all of `bytes` is a rest that leaves a feed, `bytes` begins with no APDU.
 no_first : AgainLaw → (bytes rest after : List ℕ) (new : FeedState) (apdu : Apdu) (apdus : List Apdu) → Begins bytes [] rest
     → Leaves rest new → Begins bytes (apdu ∷ apdus) after → ⊥
 no_first again bytes rest after new apdu apdus none leaves some =
     let fault = has_fault rest new leaves in
-    no_value fault.0 (apdu, flat_map spelling apdus ++ after)
+    no_value fault.0 (apdu, flat_map encoding apdus ++ after)
     (sym (first_again again bytes after apdu apdus some) ∙ ap apdu_at none.parts ∙ fault.1)
 
 -- If `rest` leaves the feed `a` and leaves the feed `b`, `a` equals `b`.
@@ -111,15 +111,15 @@ one_cut again [] (apdu ∷ apdus) bytes rest after a b x leaves y other =
 one_cut again (apdu ∷ apdus) [] bytes rest after a b x leaves y other =
     absurd (no_first again bytes after rest b apdu apdus y other x)
 one_cut again (apdu ∷ apdus) (one ∷ ones) bytes rest after a b x leaves y other =
-    let tail = flat_map spelling apdus ++ rest in
-    let last = flat_map spelling ones ++ after in
+    let tail = flat_map encoding apdus ++ rest in
+    let last = flat_map encoding ones ++ after in
     let same = ok_is (apdu, tail) (one, last)
     (sym (first_again again bytes rest apdu apdus x) ∙ first_again again bytes after one ones y) in
     let head : apdu ≡ one = ap (λ (r : Apdu × List ℕ). r.0) same in
     let tails : tail ≡ last = ap (λ (r : Apdu × List ℕ). r.1) same in
     let later =
-    one_cut again apdus ones tail rest after a b (record { spelled = x.spelled.1; parts = refl }) leaves
-    (record { spelled = y.spelled.1; parts = tails }) other in
+    one_cut again apdus ones tail rest after a b (record { encoded = x.encoded.1; parts = refl }) leaves
+    (record { encoded = y.encoded.1; parts = tails }) other in
     (ap (λ (e : Apdu). e ∷ apdus) head ∙ ap (λ (es : List Apdu). one ∷ es) later.0, later.1)
 
 -- The empty list of bytes is unfinished: it is less than an APDU.

@@ -75,7 +75,7 @@ element_takes identifier left inside rest fits e =
     (Tag left.at) (inside, rest) e in
     let fits1 = IsBytes-drop 1 left.bytes fits in
     let found = contents_found (length_of later) (cursor_at (left.at + 1) later) inside rest refl begins.1 in
-    let spelled = length_takes later found.n found.octets fits1 found.form in
+    let encoded = length_takes later found.n found.octets fits1 found.form in
     let taken = drop found.octets later in
     let size : length inside.bytes ≡ found.n =
     ap length (sym found.inside-is)
@@ -85,7 +85,7 @@ element_takes identifier left inside rest fits e =
     ∙ ap (λ (x : List ℕ). inside.bytes ++ x) (drop-drop found.n found.octets later ∙ found.rest-is) in
     record {
       parts = assembled identifier found.n found.octets left.bytes later inside.bytes rest.bytes
-          (begins_true identifier left.bytes begins.0) spelled.0 split size;
+          (begins_true identifier left.bytes begins.0) encoded.0 split size;
       inside_fits = subst IsBytes found.inside-is (IsBytes-take found.n taken (IsBytes-drop found.octets later fits1));
       rest_fits = subst IsBytes found.rest-is (IsBytes-drop (found.octets + found.n) later fits1);
     }

@@ -12,7 +12,7 @@ use Rattle.ill_values.specs.Apdu.{IsApdu}
 use Rattle.ill_der.specs.declared.fault.DerFault.{DerFault}
 use Rattle.ill_der.specs.declared.fault.DerFault.TheVariants.{Short, Tag, Length, Field, OutOfMemory}
 use Rattle.ill_der.specs.Laws.{IsBytes, BeginsWithOne}
-use Rattle.ill_der.specs.ShortForm.{spelling, header_at, outer_at, apdu_at}
+use Rattle.ill_der.specs.ShortForm.{encoding, header_at, outer_at, apdu_at}
 use Rattle.ill_der.specs.Stream.{IsUnfinished, IfShort}
 use Rattle.ill_der.specs.Feed.{Begins, FeedState, Leaves, HasApdu, fault_of}
 use Rattle.ill_der.specs.Handling.{Handles, Handled, FailsIn, FailsAt, HandlesEach}
@@ -30,7 +30,7 @@ all_join (apdu ∷ prefix) more all others = (all.0, all_join prefix more all.1 
 
 -- `bytes` is the encodings of no APDUs followed by the rest `bytes`.
 pub begins_none : (bytes : List ℕ) → Begins bytes [] bytes
-begins_none bytes = record { spelled = tt; parts = refl }
+begins_none bytes = record { encoded = tt; parts = refl }
 
 -- If `apdu_at` reads `apdu` from `bytes` and leaves `rest`, `bytes` is the encoding of `apdu` followed by `rest`.
 pub begins_one : ((bytes : List ℕ) → IsBytes bytes → BeginsWithOne bytes (apdu_at bytes))
@@ -39,27 +39,27 @@ pub begins_one : ((bytes : List ℕ) → IsBytes bytes → BeginsWithOne bytes (
 begins_one law bytes apdu rest fits e =
     let is = subst (BeginsWithOne bytes) e (law bytes fits) in
     let one = is.0 in
-    record { spelled = (one.0, tt); parts = one.1 ∙ ap (λ (x : List ℕ). x ++ rest) (sym (append-nil (spelling apdu))) }
+    record { encoded = (one.0, tt); parts = one.1 ∙ ap (λ (x : List ℕ). x ++ rest) (sym (append-nil (encoding apdu))) }
 
 -- Let `bytes` be the APDUs `prefix` followed by `middle`, and `middle` the APDUs `more` followed by `rest`.
 -- Then `bytes` is the APDUs `prefix ++ more` followed by `rest`.
 pub begins_join : (bytes middle rest : List ℕ) (prefix more : List Apdu) → Begins bytes prefix middle
     → Begins middle more rest → Begins bytes (prefix ++ more) rest
 begins_join bytes middle rest prefix more first second =
-    let text = flat_map spelling prefix in
+    let text = flat_map encoding prefix in
     record {
-      spelled = all_join prefix more first.spelled second.spelled;
+      encoded = all_join prefix more first.encoded second.encoded;
       parts =
-          first.parts ∙ ap (λ (x : List ℕ). text ++ x) second.parts ∙ sym (append_assoc text (flat_map spelling more) rest)
-          ∙ ap (λ (x : List ℕ). x ++ rest) (sym (flat_map-append spelling prefix more));
+          first.parts ∙ ap (λ (x : List ℕ). text ++ x) second.parts ∙ sym (append_assoc text (flat_map encoding more) rest)
+          ∙ ap (λ (x : List ℕ). x ++ rest) (sym (flat_map-append encoding prefix more));
     }
 
 -- If `bytes` is `apdus` followed by `rest`, `bytes ++ more` is `apdus` followed by `rest ++ more`.
 pub begins_more : (bytes rest more : List ℕ) (apdus : List Apdu) → Begins bytes apdus rest
     → Begins (bytes ++ more) apdus (rest ++ more)
 begins_more bytes rest more apdus is = record {
-  spelled = is.spelled;
-  parts = ap (λ (x : List ℕ). x ++ more) is.parts ∙ append_assoc (flat_map spelling apdus) rest more;
+  encoded = is.encoded;
+  parts = ap (λ (x : List ℕ). x ++ more) is.parts ∙ append_assoc (flat_map encoding apdus) rest more;
 }
 
 -- If `bytes` begins with one or more APDUs, it begins with the first of them.
@@ -67,14 +67,14 @@ begins_first : (bytes : List ℕ) (apdus : List Apdu) (apdu : Apdu) (rest : List
     → Begins bytes (apdus ++ apdu ∷ []) rest → (first : Apdu) × (later : List ℕ) × Begins bytes (first ∷ []) later
 begins_first bytes [] apdu rest begins = (apdu, rest, begins)
 begins_first bytes (first ∷ apdus) apdu rest begins =
-    let later = flat_map spelling (apdus ++ apdu ∷ []) ++ rest in (
+    let later = flat_map encoding (apdus ++ apdu ∷ []) ++ rest in (
       first,
       later,
       record {
-        spelled = (begins.spelled.0, tt);
+        encoded = (begins.encoded.0, tt);
         parts =
-            begins.parts ∙ append_assoc (spelling first) (flat_map spelling (apdus ++ apdu ∷ [])) rest
-            ∙ ap (λ (x : List ℕ). x ++ later) (sym (append-nil (spelling first)));
+            begins.parts ∙ append_assoc (encoding first) (flat_map encoding (apdus ++ apdu ∷ [])) rest
+            ∙ ap (λ (x : List ℕ). x ++ later) (sym (append-nil (encoding first)));
       },
     )
 
@@ -255,7 +255,7 @@ whole_piece k held piece prefix parts =
 
 -- The law of reading again: `apdu_at` reads each APDU in range from its encoding, whatever follows.
 abbrev pub AgainLaw : Type 0
-AgainLaw = (apdu : Apdu) (rest : List ℕ) → IsApdu apdu → apdu_at (spelling apdu ++ rest) ≡ Ok (apdu, rest)
+AgainLaw = (apdu : Apdu) (rest : List ℕ) → IsApdu apdu → apdu_at (encoding apdu ++ rest) ≡ Ok (apdu, rest)
 
 -- If `prefix` begins with an APDU and with the unfinished `held`, the APDU has more bytes than `held`.
 pub ends_after : AgainLaw → (held more prefix : List ℕ) (size : ℕ) (apdu : Apdu) → IsUnfinished held
@@ -265,17 +265,17 @@ ends_after again held more prefix size apdu unfinished parts within begins =
     elim (cases_lt (length held) size) [
       | inl lt ↦ lt
       | inr le ↦
-          let text = spelling apdu in
-          let spelled : prefix ≡ text ++ drop size prefix =
+          let text = encoding apdu in
+          let encoded : prefix ≡ text ++ drop size prefix =
           begins.parts ∙ ap (λ (x : List ℕ). x ++ drop size prefix) (append-nil text) in
           let long : length text ≡ size =
-          omega (arith, within, ap length spelled, length-append text (drop size prefix), length-drop size prefix) in
-          let at_prefix : take size prefix ≡ text = ap (take size) spelled ∙ take_at text (drop size prefix) size long in
+          omega (arith, within, ap length encoded, length-append text (drop size prefix), length-drop size prefix) in
+          let at_prefix : take size prefix ≡ text = ap (take size) encoded ∙ take_at text (drop size prefix) size long in
           let in_held : take size held ≡ text = sym (take-append-le size held more le) ∙ ap (take size) (sym parts) ∙ at_prefix in
           let is : held ≡ text ++ drop size held =
           sym (take-append-drop size held) ∙ ap (λ (x : List ℕ). x ++ drop size held) in_held in
           absurd (no_value (Short (length held)) (apdu, drop size held)
-          (sym (again apdu (drop size held) begins.spelled.0) ∙ ap apdu_at (sym is) ∙ unfinished))
+          (sym (again apdu (drop size held) begins.encoded.0) ∙ ap apdu_at (sym is) ∙ unfinished))
     ]
 
 -- If `prefix` is `held` followed by a prefix of `piece`, and begins with `apdu`, `held ++ piece` begins with `apdu`.

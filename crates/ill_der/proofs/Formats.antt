@@ -17,19 +17,19 @@ use Rattle.ill_der.proofs.Elements.{ended_is}
 
 -- `kind` reads exactly the encodings of values that satisfy `P`, and these have at most `most` octets.
 pub record IsContents {V : Type 0} (P : V → Type 0) (most : ℕ) (kind : Contents V) : Type 0 where
-  pub takes : (bytes : List ℕ) (v : V) → IsBytes bytes → kind.read bytes ≡ Some v → (bytes ≡ kind.spell v) × P v
-  pub again : (v : V) → P v → kind.read (kind.spell v) ≡ Some v
-  pub bound : (v : V) → P v → length (kind.spell v) ≤ most
+  pub takes : (bytes : List ℕ) (v : V) → IsBytes bytes → kind.read bytes ≡ Some v → (bytes ≡ kind.encode v) × P v
+  pub again : (v : V) → P v → kind.read (kind.encode v) ≡ Some v
+  pub bound : (v : V) → P v → length (kind.encode v) ≤ most
 
 -- ---- fields
 
 -- `bytes` is the encoding of `v` followed by `rest`, `v` satisfies `P`, and `rest` are octets.
 abbrev pub Takes : {E V : Type 0} → Codec E V → (V → Type 0) → List ℕ → V → List ℕ → Type 0
-Takes f P bytes v rest = (bytes ≡ f.spell v ++ rest) × P v × IsBytes rest
+Takes f P bytes v rest = (bytes ≡ f.encode v ++ rest) × P v × IsBytes rest
 
 -- `f` reads `v` from its encoding at the offset `at`, and leaves the bytes `more` after it.
 abbrev pub ReadsAgain : {E V : Type 0} → Codec E V → V → ℕ → List ℕ → Type 0
-ReadsAgain f v at more = (after : ℕ) × (f.read (cursor_at at (f.spell v ++ more)) ≡ Ok (v, cursor_at after more))
+ReadsAgain f v at more = (after : ℕ) × (f.read (cursor_at at (f.encode v ++ more)) ≡ Ok (v, cursor_at after more))
 
 -- `f` reads only encodings of values that satisfy `P`. It reads each of them if the bytes after it satisfy `Follows`.
 pub record IsCodec {E V : Type 0} (P : V → Type 0) (Follows : List ℕ → Type 0) (f : Codec E V) : Type 0 where
@@ -40,7 +40,7 @@ pub record IsCodec {E V : Type 0} (P : V → Type 0) (Follows : List ℕ → Typ
 -- `f` obeys `IsCodec`. An encoding has at most `most` bytes, and each fault of reading is Tag, Length or Field.
 pub record IsFormat {V : Type 0} (P : V → Type 0) (Follows : List ℕ → Type 0) (most : ℕ) (f : Format V) : Type 0 where
   pub codec : IsCodec P Follows f
-  pub bound : (v : V) → P v → length (f.spell v) ≤ most
+  pub bound : (v : V) → P v → length (f.encode v) ≤ most
   pub faults : (left : Cursor) (d : DerFault) → f.read left ≡ Err d → IsInside d
 
 -- `more` is any bytes.
@@ -72,7 +72,7 @@ required_takes {V} P most kind identifier is left v rest fits e =
     let taken = element_takes identifier left part.value.0 part.value.1 fits part.given in
     let value = is.takes part.value.0.bytes found.value taken.inside_fits
     (value_found (kind.read part.value.0.bytes) part.value.0.at found.value found.given) in
-    let parts : left.bytes ≡ element identifier (kind.spell found.value) ++ part.value.1.bytes =
+    let parts : left.bytes ≡ element identifier (kind.encode found.value) ++ part.value.1.bytes =
     taken.parts ∙ ap (λ (x : List ℕ). element identifier x ++ part.value.1.bytes) value.0 in
     subst (λ (x : V × Cursor). Takes (required identifier kind) P left.bytes x.0 x.1.bytes) both (parts, value.1, taken.rest_fits)
 
@@ -81,7 +81,7 @@ required_again : {V : Type 0} (P : V → Type 0) (most : ℕ) (kind : Contents V
     → IsContents P most kind
     → (v : V) (at : ℕ) (more : List ℕ) → P v → ReadsAgain (required identifier kind) v at more
 required_again P most kind identifier small is v at more p =
-    let read = element_again identifier at (kind.spell v) more (omega (arith, is.bound v p)) in
+    let read = element_again identifier at (kind.encode v) more (omega (arith, is.bound v p)) in
     (read.1, rw (read.2, is.again v p) refl)
 
 -- Each fault of `required` is Tag, Length or Field.
@@ -107,7 +107,7 @@ required_is P most kind identifier small is = record {
     takes = required_takes P most kind identifier is;
     again = λ v at more p any. required_again P most kind identifier small is v at more p;
   };
-  bound = λ v p. element_bound identifier most (kind.spell v) (is.bound v p);
+  bound = λ v p. element_bound identifier most (kind.encode v) (is.bound v p);
   faults = required_faults kind identifier;
 }
 
@@ -145,13 +145,13 @@ optional_again : {V : Type 0} (P : V → Type 0) (most : ℕ) (kind : Contents V
 optional_again P most kind identifier small is None at more p follows = (at, rw follows refl)
 optional_again P most kind identifier small is (Some v) at more p follows =
     let read = required_again P most kind identifier small is v at more p in
-    (read.0, rw (element_begins identifier (kind.spell v) more, read.1) refl)
+    (read.0, rw (element_begins identifier (kind.encode v) more, read.1) refl)
 
 -- The encoding of an optional field has at most `overhead most + most` bytes.
 optional_bound : {V : Type 0} (P : V → Type 0) (most : ℕ) (kind : Contents V) (identifier : ℕ) → IsContents P most kind
-    → (o : Option V) → IfSome o P → length ((optional identifier kind).spell o) ≤ overhead most + most
+    → (o : Option V) → IfSome o P → length ((optional identifier kind).encode o) ≤ overhead most + most
 optional_bound P most kind identifier is None p = omega arith
-optional_bound P most kind identifier is (Some v) p = element_bound identifier most (kind.spell v) (is.bound v p)
+optional_bound P most kind identifier is (Some v) p = element_bound identifier most (kind.encode v) (is.bound v p)
 
 -- Each fault of `optional` is Tag, Length or Field.
 optional_faults : {V : Type 0} (kind : Contents V) (identifier : ℕ) (left : Cursor) (d : DerFault)
@@ -195,22 +195,22 @@ followed_takes {E} {V} {W} P Q F G f g fs gs left v rest fits e =
     ok_is {E = E} ((former.value.0, latter.value.0), latter.value.1) (v, rest) latter.follows in
     let first = fs.takes left former.value.0 former.value.1 fits former.given in
     let second = gs.takes former.value.1 latter.value.0 latter.value.1 first.2 latter.given in
-    let parts : left.bytes ≡ (f.spell former.value.0 ++ g.spell latter.value.0) ++ latter.value.1.bytes =
-    first.0 ∙ ap (λ (x : List ℕ). f.spell former.value.0 ++ x) second.0
-    ∙ sym (append_assoc (f.spell former.value.0) (g.spell latter.value.0) latter.value.1.bytes) in
+    let parts : left.bytes ≡ (f.encode former.value.0 ++ g.encode latter.value.0) ++ latter.value.1.bytes =
+    first.0 ∙ ap (λ (x : List ℕ). f.encode former.value.0 ++ x) second.0
+    ∙ sym (append_assoc (f.encode former.value.0) (g.encode latter.value.0) latter.value.1.bytes) in
     subst (λ (x : (V × W) × Cursor). Takes (followed_by f g) (Both P Q) left.bytes x.0 x.1.bytes) both
     (parts, (first.1, second.1), second.2)
 
 -- If `f` and `g` obey `IsCodec`, and `g` may follow `f`, `followed_by f g` obeys it.
 pub followed_codec : {E V W : Type 0} (P : V → Type 0) (Q : W → Type 0) (F G : List ℕ → Type 0) (f : Codec E V) (g : Codec E W)
     → IsCodec P F f → IsCodec Q G g
-    → ((w : W) (more : List ℕ) → Q w → F (g.spell w ++ more)) → IsCodec (Both P Q) G (followed_by f g)
+    → ((w : W) (more : List ℕ) → Q w → F (g.encode w ++ more)) → IsCodec (Both P Q) G (followed_by f g)
 followed_codec P Q F G f g fs gs joins = record {
   takes = followed_takes P Q F G f g fs gs;
   again = λ v at more p follows.
-      let first = fs.again v.0 at (g.spell v.1 ++ more) p.0 (joins v.1 more p.1) in
+      let first = fs.again v.0 at (g.encode v.1 ++ more) p.0 (joins v.1 more p.1) in
       let second = gs.again v.1 first.0 more p.1 follows in
-      (second.0, rw (append_assoc (f.spell v.0) (g.spell v.1) more, first.1, second.1) refl);
+      (second.0, rw (append_assoc (f.encode v.0) (g.encode v.1) more, first.1, second.1) refl);
 }
 
 -- Each fault of `followed_by f g` is Tag, Length or Field.
@@ -229,10 +229,10 @@ followed_faults P Q F G m n f g fs gs left d e =
 -- If `f` and `g` obey `IsFormat`, and `g` may follow `f`, `followed_by f g` obeys it.
 pub followed_is : {V W : Type 0} (P : V → Type 0) (Q : W → Type 0) (F G : List ℕ → Type 0) (m n : ℕ) (f : Format V) (g : Format W)
     → IsFormat P F m f → IsFormat Q G n g
-    → ((w : W) (more : List ℕ) → Q w → F (g.spell w ++ more)) → IsFormat (Both P Q) G (m + n) (followed_by f g)
+    → ((w : W) (more : List ℕ) → Q w → F (g.encode w ++ more)) → IsFormat (Both P Q) G (m + n) (followed_by f g)
 followed_is P Q F G m n f g fs gs joins = record {
   codec = followed_codec P Q F G f g fs.codec gs.codec joins;
-  bound = λ v p. omega (arith, length-append (f.spell v.0) (g.spell v.1), fs.bound v.0 p.0, gs.bound v.1 p.1);
+  bound = λ v p. omega (arith, length-append (f.encode v.0) (g.encode v.1), fs.bound v.0 p.0, gs.bound v.1 p.1);
   faults = followed_faults P Q F G m n f g fs gs;
 }
 
@@ -257,17 +257,17 @@ where_takes {E} {V} Q P F G yes_no field qs fs left o rest fits e =
           let both : (Some found.value.0, found.value.1) ≡ (o, rest) =
           ok_is {E = E} (Some found.value.0, found.value.1) (o, rest) found.follows in
           let second = fs.takes flag.value.1 found.value.0 found.value.1 first.2 found.given in
-          let parts : left.bytes ≡ (yes_no.spell true ++ field.spell found.value.0) ++ found.value.1.bytes =
-          first.0 ∙ ap (λ (b : Bool). yes_no.spell b ++ flag.value.1.bytes) h.0
-          ∙ ap (λ (x : List ℕ). yes_no.spell true ++ x) second.0
-          ∙ sym (append_assoc (yes_no.spell true) (field.spell found.value.0) found.value.1.bytes) in
+          let parts : left.bytes ≡ (yes_no.encode true ++ field.encode found.value.0) ++ found.value.1.bytes =
+          first.0 ∙ ap (λ (b : Bool). yes_no.encode b ++ flag.value.1.bytes) h.0
+          ∙ ap (λ (x : List ℕ). yes_no.encode true ++ x) second.0
+          ∙ sym (append_assoc (yes_no.encode true) (field.encode found.value.0) found.value.1.bytes) in
           subst (λ (x : Option V × Cursor). Takes (where_yes yes_no field) (λ o. IfSome o P) left.bytes x.0 x.1.bytes) both
           (parts, second.1, second.2)
       | inr h ↦
           let both : (None, flag.value.1) ≡ (o, rest) = ok_is {E = E} (None, flag.value.1) (o, rest) h.1 in
-          let parts : left.bytes ≡ (yes_no.spell false ++ []) ++ flag.value.1.bytes =
-          first.0 ∙ ap (λ (b : Bool). yes_no.spell b ++ flag.value.1.bytes) h.0
-          ∙ ap (λ (x : List ℕ). x ++ flag.value.1.bytes) (sym (append-nil (yes_no.spell false))) in
+          let parts : left.bytes ≡ (yes_no.encode false ++ []) ++ flag.value.1.bytes =
+          first.0 ∙ ap (λ (b : Bool). yes_no.encode b ++ flag.value.1.bytes) h.0
+          ∙ ap (λ (x : List ℕ). x ++ flag.value.1.bytes) (sym (append-nil (yes_no.encode false))) in
           subst (λ (x : Option V × Cursor). Takes (where_yes yes_no field) (λ o. IfSome o P) left.bytes x.0 x.1.bytes) both
           (parts, tt, first.2)
     ]
@@ -280,11 +280,11 @@ where_again : {E V : Type 0} (Q : Bool → Type 0) (P : V → Type 0) (G : List 
     → ReadsAgain (where_yes yes_no field) o at more
 where_again Q P G yes_no field qs fs each None at more p follows =
     let first = qs.again false at more (each false) tt in
-    (first.0, rw (append-nil (yes_no.spell false), first.1) refl)
+    (first.0, rw (append-nil (yes_no.encode false), first.1) refl)
 where_again Q P G yes_no field qs fs each (Some v) at more p follows =
-    let first = qs.again true at (field.spell v ++ more) (each true) tt in
+    let first = qs.again true at (field.encode v ++ more) (each true) tt in
     let second = fs.again v first.0 more p follows in
-    (second.0, rw (append_assoc (yes_no.spell true) (field.spell v) more, first.1, second.1) refl)
+    (second.0, rw (append_assoc (yes_no.encode true) (field.encode v) more, first.1, second.1) refl)
 
 -- If `yes_no` and `field` obey `IsCodec`, and yes and no are in range, `where_yes` obeys it.
 pub where_codec : {E V : Type 0} (Q : Bool → Type 0) (P : V → Type 0) (G : List ℕ → Type 0) (yes_no : Codec E Bool)
@@ -300,11 +300,11 @@ where_codec Q P G yes_no field qs fs each = record {
 where_bound : {V : Type 0} (Q : Bool → Type 0) (P : V → Type 0) (F G : List ℕ → Type 0) (m n : ℕ) (yes_no : Format Bool)
     (field : Format V)
     → IsFormat Q F m yes_no → IsFormat P G n field
-    → ((b : Bool) → Q b) → (o : Option V) → IfSome o P → length ((where_yes yes_no field).spell o) ≤ m + n
+    → ((b : Bool) → Q b) → (o : Option V) → IfSome o P → length ((where_yes yes_no field).encode o) ≤ m + n
 where_bound Q P F G m n yes_no field qs fs each None p =
-    omega (arith, length-append (yes_no.spell false) [], qs.bound false (each false))
+    omega (arith, length-append (yes_no.encode false) [], qs.bound false (each false))
 where_bound Q P F G m n yes_no field qs fs each (Some v) p =
-    omega (arith, length-append (yes_no.spell true) (field.spell v), qs.bound true (each true), fs.bound v p)
+    omega (arith, length-append (yes_no.encode true) (field.encode v), qs.bound true (each true), fs.bound v p)
 
 -- Each fault of `where_yes` is Tag, Length or Field.
 where_faults : {V : Type 0} (Q : Bool → Type 0) (P : V → Type 0) (F G : List ℕ → Type 0) (m n : ℕ) (yes_no : Format Bool)
@@ -351,10 +351,10 @@ constructed_takes {V} P F m f identifier fs left v rest fits e =
     let both : (found.value.0, part.value.1) ≡ (v, rest) = ok_is (found.value.0, part.value.1) (v, rest) over.follows in
     let taken = element_takes identifier left part.value.0 part.value.1 fits part.given in
     let inside = fs.codec.takes part.value.0 found.value.0 found.value.1 taken.inside_fits found.given in
-    let whole : part.value.0.bytes ≡ f.spell found.value.0 =
-    inside.0 ∙ ap (λ (x : List ℕ). f.spell found.value.0 ++ x) (ended_is found.value.1 over.value over.given)
-    ∙ append-nil (f.spell found.value.0) in
-    let parts : left.bytes ≡ element identifier (f.spell found.value.0) ++ part.value.1.bytes =
+    let whole : part.value.0.bytes ≡ f.encode found.value.0 =
+    inside.0 ∙ ap (λ (x : List ℕ). f.encode found.value.0 ++ x) (ended_is found.value.1 over.value over.given)
+    ∙ append-nil (f.encode found.value.0) in
+    let parts : left.bytes ≡ element identifier (f.encode found.value.0) ++ part.value.1.bytes =
     taken.parts ∙ ap (λ (x : List ℕ). element identifier x ++ part.value.1.bytes) whole in
     subst (λ (x : V × Cursor). Takes (constructed identifier f) P left.bytes x.0 x.1.bytes) both
     (parts, inside.1, taken.rest_fits)
@@ -364,10 +364,10 @@ constructed_again : {V : Type 0} (P : V → Type 0) (F : List ℕ → Type 0) (m
     → m < 65536 → IsFormat P F m f → F []
     → (v : V) (at : ℕ) (more : List ℕ) → P v → ReadsAgain (constructed identifier f) v at more
 constructed_again P F m f identifier small fs closes v at more p =
-    let read = element_again identifier at (f.spell v) more (omega (arith, fs.bound v p)) in
+    let read = element_again identifier at (f.encode v) more (omega (arith, fs.bound v p)) in
     let inside = fs.codec.again v read.0 [] p closes in
-    let whole : f.read (cursor_at read.0 (f.spell v)) ≡ Ok (v, cursor_at inside.0 []) =
-    ap (λ (x : List ℕ). f.read (cursor_at read.0 x)) (sym (append-nil (f.spell v))) ∙ inside.1 in
+    let whole : f.read (cursor_at read.0 (f.encode v)) ≡ Ok (v, cursor_at inside.0 []) =
+    ap (λ (x : List ℕ). f.read (cursor_at read.0 x)) (sym (append-nil (f.encode v))) ∙ inside.1 in
     (read.1, rw (read.2, whole) refl)
 
 -- Each fault of `constructed` is Tag, Length or Field.
@@ -397,6 +397,6 @@ constructed_is P F m f identifier small fs closes = record {
     takes = constructed_takes P F m f identifier fs;
     again = λ v at more p any. constructed_again P F m f identifier small fs closes v at more p;
   };
-  bound = λ v p. element_bound identifier m (f.spell v) (fs.bound v p);
+  bound = λ v p. element_bound identifier m (f.encode v) (fs.bound v p);
   faults = constructed_faults P F m f identifier fs;
 }

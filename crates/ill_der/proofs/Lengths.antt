@@ -59,20 +59,20 @@ not_zero_is (suc n) e = omega arith
 -- ---- octets that are read as a length are its encoding
 
 -- `bytes` begins with the length octets of `n`, of which there are `octets`.
-abbrev pub IsSpelledLength : List ℕ → ℕ → ℕ → Type 0
-IsSpelledLength bytes n octets = (bytes ≡ length_octets n ++ drop octets bytes) × (length (length_octets n) ≡ octets)
+abbrev pub IsEncodedLength : List ℕ → ℕ → ℕ → Type 0
+IsEncodedLength bytes n octets = (bytes ≡ length_octets n ++ drop octets bytes) × (length (length_octets n) ≡ octets)
 
--- If `Definite a b` is `Definite n octets`, `IsSpelledLength` for `a` and `b` gives it for `n` and `octets`.
-along : (bytes : List ℕ) (a b n octets : ℕ) → Definite a b ≡ Definite n octets → IsSpelledLength bytes a b
-    → IsSpelledLength bytes n octets
+-- If `Definite a b` is `Definite n octets`, `IsEncodedLength` for `a` and `b` gives it for `n` and `octets`.
+along : (bytes : List ℕ) (a b n octets : ℕ) → Definite a b ≡ Definite n octets → IsEncodedLength bytes a b
+    → IsEncodedLength bytes n octets
 along bytes a b n octets e h =
     let ea : a ≡ n = cc in
     let eb : b ≡ octets = cc in
-    subst (λ (x : ℕ). IsSpelledLength bytes x octets) ea (subst (λ (x : ℕ). IsSpelledLength bytes a x) eb h)
+    subst (λ (x : ℕ). IsEncodedLength bytes x octets) ea (subst (λ (x : ℕ). IsEncodedLength bytes a x) eb h)
 
 -- If `one_octet_length rest` is `Definite n octets`, 81 and `rest` begin with the length octets of `n`.
 one_takes : (rest : List ℕ) (n octets : ℕ) → IsBytes rest → one_octet_length rest ≡ Definite n octets
-    → IsSpelledLength (0x81 ∷ rest) n octets
+    → IsEncodedLength (0x81 ∷ rest) n octets
 one_takes [] n octets fits e = absurd cc
 one_takes (m ∷ rest) n octets fits e =
     elim (chosen (ltb m 128) Invalid (Definite m 2) (Definite n octets) e) [
@@ -82,7 +82,7 @@ one_takes (m ∷ rest) n octets fits e =
 
 -- If `two_octet_length rest` is `Definite n octets`, 82 and `rest` begin with the length octets of `n`.
 two_takes : (rest : List ℕ) (n octets : ℕ) → IsBytes rest → two_octet_length rest ≡ Definite n octets
-    → IsSpelledLength (0x82 ∷ rest) n octets
+    → IsEncodedLength (0x82 ∷ rest) n octets
 two_takes [] n octets fits e = absurd cc
 two_takes (high ∷ []) n octets fits e = absurd cc
 two_takes (high ∷ low ∷ rest) n octets fits e =
@@ -99,7 +99,7 @@ two_takes (high ∷ low ∷ rest) n octets fits e =
 
 -- If `length_of bytes` is `Definite n octets`, `bytes` begins with the length octets of `n`.
 pub length_takes : (bytes : List ℕ) (n octets : ℕ) → IsBytes bytes → length_of bytes ≡ Definite n octets
-    → IsSpelledLength bytes n octets
+    → IsEncodedLength bytes n octets
 unfolding length_of
 length_takes [] n octets fits e = absurd cc
 length_takes (first ∷ rest) n octets fits e =
@@ -110,10 +110,10 @@ length_takes (first ∷ rest) n octets fits e =
       | inl h ↦ along (first ∷ rest) first 1 n octets h.1 (rw (short_form first (ltb-true first 128 h.0)) (refl, refl))
       | inr h ↦ elim (chosen (eqb first 0x81) (one_octet_length rest) (cond (eqb first 0x82) (two_octet_length rest) Invalid)
           (Definite n octets) h.1) [
-            | inl g ↦ subst (λ (x : ℕ). IsSpelledLength (x ∷ rest) n octets) (sym (eqb-true first 0x81 g.0))
+            | inl g ↦ subst (λ (x : ℕ). IsEncodedLength (x ∷ rest) n octets) (sym (eqb-true first 0x81 g.0))
                 (one_takes rest n octets others g.1)
             | inr g ↦ elim (chosen (eqb first 0x82) (two_octet_length rest) Invalid (Definite n octets) g.1) [
-              | inl k ↦ subst (λ (x : ℕ). IsSpelledLength (x ∷ rest) n octets) (sym (eqb-true first 0x82 k.0))
+              | inl k ↦ subst (λ (x : ℕ). IsEncodedLength (x ∷ rest) n octets) (sym (eqb-true first 0x82 k.0))
                   (two_takes rest n octets others k.1)
               | inr k ↦ absurd (let no_form : Invalid ≡ Definite n octets = k.1 in cc)
             ]

@@ -9,7 +9,7 @@ pub mod ShortFormLaws
 pub mod StreamLemmas
 pub mod Sizes
 pub mod WriteLemmas
-pub mod SpellingLaws
+pub mod EncodingLaws
 pub mod MissingLemmas
 pub mod FeedLemmas
 pub mod CutLemmas

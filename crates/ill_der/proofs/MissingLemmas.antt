@@ -21,7 +21,7 @@ use Rattle.ill_der.specs.ShortForm.{header_by, header_of, header_at, outer_at, i
 use Rattle.ill_der.specs.Stream.{IsUnfinished, AreUnfinished, IfShort, IsJudged, read_fault, missing_by, missing_of}
 use Rattle.ill_der.proofs.Chains.{bind_err, chosen, no_value, tag_inside, length_inside}
 use Rattle.ill_der.proofs.Lengths.{length_few}
-use Rattle.ill_der.proofs.StreamLemmas.{decodes_err, spelled_without_memory}
+use Rattle.ill_der.proofs.StreamLemmas.{decodes_err, encoded_without_memory}
 use Rattle.ill_der.proofs.ContentsLaws.{Values}
 use Rattle.ill_der.proofs.ShortFormLaws.{IsFinal, length_more, outer_with, outer_after, outer_of, outer_is, outer_none}
 use Rattle.ill_der.proofs.ShortFormLaws.{inside_faults}
@@ -181,7 +181,7 @@ refused values bytes fault other none h =
 judged_fault : Values → (bytes : List ℕ) (fault : DerFault) → IsBytes bytes → AreUnfinished bytes → missing_of bytes ≡ 0
     → Decodes bytes (apdu_at bytes) (Err fault)
     → IsJudged bytes (Err (read_fault fault))
-judged_fault values bytes OutOfMemory fits prefixes none h = spelled_without_memory values bytes fits prefixes h
+judged_fault values bytes OutOfMemory fits prefixes none h = encoded_without_memory values bytes fits prefixes h
 judged_fault values bytes (Short at) fits prefixes none h = refused values bytes (Short at) (λ e. absurd cc) none h
 judged_fault values bytes (Tag at) fits prefixes none h = refused values bytes (Tag at) (λ e. absurd cc) none h
 judged_fault values bytes (Length at) fits prefixes none h = refused values bytes (Length at) (λ e. absurd cc) none h

@@ -25,8 +25,8 @@ use Rattle.ill_der.specs.Format.{◌>>=◌, length_octets, length_of, IsFew, ele
 use Rattle.ill_der.specs.Format.{optional, followed_by, where_yes, Format, one_octet_length, two_octet_length}
 use Rattle.ill_values.specs.Types.{all_types, type_of}
 use Rattle.ill_der.specs.Types.{identifier_of, type_with}
-use Rattle.ill_der.specs.ShortForm.{txn_id, head, request, due_date, answer, reply, wish, grant, spell_body, made_of, read_body}
-use Rattle.ill_der.specs.ShortForm.{contents_of, spelling, Outer, header_by, header_of, header_at, outer_by, outer_at, body_of}
+use Rattle.ill_der.specs.ShortForm.{txn_id, head, request, due_date, answer, reply, wish, grant, encode_body, made_of, read_body}
+use Rattle.ill_der.specs.ShortForm.{contents_of, encoding, Outer, header_by, header_of, header_at, outer_by, outer_at, body_of}
 use Rattle.ill_der.specs.ShortForm.{inside_of, apdu_at}
 use Rattle.ill_der.proofs.Chains.{bind_ok, bind_err, went_on, chosen, done, ok_is, no_value, short_is, short_or_memory, IsInside}
 use Rattle.ill_der.proofs.Chains.{tag_inside, length_inside, fault_is}
@@ -117,34 +117,34 @@ grant_is values =
 
 -- `bytes` is the further fields of `body` followed by `rest`, and `body` has type `apdu_type` and is in range.
 abbrev TakesBody : ApduType → List ℕ → Body → List ℕ → Type 0
-TakesBody apdu_type bytes body rest = (bytes ≡ spell_body body ++ rest) × IsBody body × (type_of body ≡ apdu_type) × IsBytes rest
+TakesBody apdu_type bytes body rest = (bytes ≡ encode_body body ++ rest) × IsBody body × (type_of body ≡ apdu_type) × IsBytes rest
 
 -- If `made_of f make` reads `body` from `left`, `left` is the fields of `body` followed by `rest`.
 -- The body is in range and has the type `apdu_type`.
 made_takes : {V : Type 0} (P : V → Type 0) (F : List ℕ → Type 0) (n : ℕ) (f : Format V) (make : V → Body) (apdu_type : ApduType)
     → IsFormat P F n f
-    → ((v : V) → spell_body (make v) ≡ f.spell v) → ((v : V) → P v → IsBody (make v)) → ((v : V) → type_of (make v) ≡ apdu_type)
+    → ((v : V) → encode_body (make v) ≡ f.encode v) → ((v : V) → P v → IsBody (make v)) → ((v : V) → type_of (make v) ≡ apdu_type)
     → (left : Cursor) (body : Body) (rest : Cursor) → IsBytes left.bytes → made_of f make left ≡ Ok (body, rest)
     → TakesBody apdu_type left.bytes body rest.bytes
-made_takes P F n f make apdu_type fs spells ranges types left body rest fits e =
+made_takes P F n f make apdu_type fs encodes ranges types left body rest fits e =
     let fields = bind_ok (f.read left) (λ found. Ok (make found.0, found.1)) (body, rest) e in
     let both : (make fields.value.0, fields.value.1) ≡ (body, rest) =
     ok_is (make fields.value.0, fields.value.1) (body, rest) fields.follows in
     let taken = fs.codec.takes left fields.value.0 fields.value.1 fits fields.given in
-    let parts : left.bytes ≡ spell_body (make fields.value.0) ++ fields.value.1.bytes =
-    taken.0 ∙ ap (λ (x : List ℕ). x ++ fields.value.1.bytes) (sym (spells fields.value.0)) in
+    let parts : left.bytes ≡ encode_body (make fields.value.0) ++ fields.value.1.bytes =
+    taken.0 ∙ ap (λ (x : List ℕ). x ++ fields.value.1.bytes) (sym (encodes fields.value.0)) in
     subst (λ (x : Body × Cursor). TakesBody apdu_type left.bytes x.0 x.1.bytes) both
     (parts, ranges fields.value.0 taken.1, types fields.value.0, taken.2)
 
 -- If `make` is in range and has no further fields, reading it takes no bytes, so `rest` is `left`.
-plain_takes : (make body : Body) (apdu_type : ApduType) (left rest : Cursor) → spell_body make ≡ [] → IsBody make
+plain_takes : (make body : Body) (apdu_type : ApduType) (left rest : Cursor) → encode_body make ≡ [] → IsBody make
     → type_of make ≡ apdu_type → IsBytes left.bytes
     → done {E = DerFault} {A = Body × Cursor} (make, left) ≡ done (body, rest)
     → TakesBody apdu_type left.bytes body rest.bytes
-plain_takes make body apdu_type left rest spells is k fits e =
+plain_takes make body apdu_type left rest encodes is k fits e =
     let both : (make, left) ≡ (body, rest) = ok_is (make, left) (body, rest) e in
     subst (λ (x : Body × Cursor). TakesBody apdu_type left.bytes x.0 x.1.bytes) both
-    (ap (λ (x : List ℕ). x ++ left.bytes) (sym spells), is, k, fits)
+    (ap (λ (x : List ℕ). x ++ left.bytes) (sym encodes), is, k, fits)
 
 -- If `read_body` reads `body` from `left`, `left` is the fields of `body` followed by `rest`.
 -- The body is in range and has the type that was read.
@@ -180,16 +180,16 @@ body_takes values types.Expired = λ left body rest. plain_takes Expired body ty
 
 -- `read_body` reads `body` from its further fields at the offset `at`, and leaves no bytes.
 abbrev BodyAgain : Body → ℕ → Type 0
-BodyAgain body at = (after : ℕ) × (read_body (type_of body) (cursor_at at (spell_body body)) ≡ Ok (body, cursor_at after []))
+BodyAgain body at = (after : ℕ) × (read_body (type_of body) (cursor_at at (encode_body body)) ≡ Ok (body, cursor_at after []))
 
 -- `made_of f make` reads `make v` from the encoding of `v`, if nothing follows.
 made_again : {V : Type 0} (P : V → Type 0) (F : List ℕ → Type 0) (n : ℕ) (f : Format V) (make : V → Body)
     → IsFormat P F n f → F []
-    → (v : V) (at : ℕ) → P v → (after : ℕ) × (made_of f make (cursor_at at (f.spell v)) ≡ Ok (make v, cursor_at after []))
+    → (v : V) (at : ℕ) → P v → (after : ℕ) × (made_of f make (cursor_at at (f.encode v)) ≡ Ok (make v, cursor_at after []))
 made_again P F n f make fs closes v at p =
     let read = fs.codec.again v at [] p closes in
-    let whole : f.read (cursor_at at (f.spell v)) ≡ Ok (v, cursor_at read.0 []) =
-    ap (λ (x : List ℕ). f.read (cursor_at at x)) (sym (append-nil (f.spell v))) ∙ read.1 in
+    let whole : f.read (cursor_at at (f.encode v)) ≡ Ok (v, cursor_at read.0 []) =
+    ap (λ (x : List ℕ). f.read (cursor_at at x)) (sym (append-nil (f.encode v))) ∙ read.1 in
     (read.0, rw whole refl)
 
 -- `read_body` reads each body in range from its further fields, if nothing follows.
@@ -218,7 +218,7 @@ body_again values CheckedIn at is = (at, refl)
 body_again values Expired at is = (at, refl)
 
 -- The further fields of a body in range have at most 213 bytes.
-body_bound : Values → (body : Body) → IsBody body → length (spell_body body) ≤ 213
+body_bound : Values → (body : Body) → IsBody body → length (encode_body body) ≤ 213
 body_bound values (IllRequest expiry text) is = (request_is values).bound (expiry, text) is
 body_bound values (Shipped due) is = omega (arith, (due_date_is values).bound due is)
 body_bound values (IllAnswer result) is = omega (arith, answer_is.bound result tt)
@@ -230,7 +230,7 @@ body_bound values (RenewAnswer answers granted) is = omega (arith, (grant_is val
 body_bound values _ is = omega arith
 
 -- The further fields of a body in range that is no ILL-Request have at most 17 bytes.
-short_body : Values → (body : Body) → IsBody body → (type_of body ≡ types.IllRequest → ⊥) → length (spell_body body) ≤ 17
+short_body : Values → (body : Body) → IsBody body → (type_of body ≡ types.IllRequest → ⊥) → length (encode_body body) ≤ 17
 short_body values (IllRequest expiry text) is other = absurd (other refl)
 short_body values (Shipped due) is other = omega (arith, (due_date_is values).bound due is)
 short_body values (IllAnswer result) is other = omega (arith, answer_is.bound result tt)
@@ -275,7 +275,7 @@ body_faults values types.Expired = λ left d e. absurd (no_value d (Expired, lef
 
 -- `bytes` is the further fields of `body`, which has type `apdu_type` and is in range.
 abbrev IsBodyOf : ApduType → List ℕ → Body → Type 0
-IsBodyOf apdu_type bytes body = (bytes ≡ spell_body body) × IsBody body × (type_of body ≡ apdu_type)
+IsBodyOf apdu_type bytes body = (bytes ≡ encode_body body) × IsBody body × (type_of body ≡ apdu_type)
 
 -- If `body_of` reads `body` from `left`, all of `left` is the further fields of `body`.
 whole_body_takes : Values → (apdu_type : ApduType) (left : Cursor) (body : Body) → IsBytes left.bytes
@@ -285,14 +285,14 @@ whole_body_takes values apdu_type left body fits e =
     let found = bind_ok (read_body apdu_type left) (λ body. ended body.1 >>= λ _. Ok body.0) body e in
     let over = bind_ok (ended found.value.1) (λ _. Ok found.value.0) body found.follows in
     let taken = body_takes values apdu_type left found.value.0 found.value.1 fits found.given in
-    let whole : left.bytes ≡ spell_body found.value.0 =
-    taken.0 ∙ ap (λ (x : List ℕ). spell_body found.value.0 ++ x) (ended_is found.value.1 over.value over.given)
-    ∙ append-nil (spell_body found.value.0) in
+    let whole : left.bytes ≡ encode_body found.value.0 =
+    taken.0 ∙ ap (λ (x : List ℕ). encode_body found.value.0 ++ x) (ended_is found.value.1 over.value over.given)
+    ∙ append-nil (encode_body found.value.0) in
     subst (IsBodyOf apdu_type left.bytes) (ok_is found.value.0 body over.follows) (whole, taken.1, taken.2)
 
 -- `body_of` reads each body in range from its further fields.
 whole_body_again : Values → (body : Body) (at : ℕ) → IsBody body
-    → body_of (type_of body) (cursor_at at (spell_body body)) ≡ Ok body
+    → body_of (type_of body) (cursor_at at (encode_body body)) ≡ Ok body
 unfolding body_of
 whole_body_again values body at is = rw (body_again values body at is).1 refl
 
@@ -330,7 +330,7 @@ inside_takes values apdu_type left apdu fits e =
     let first = (head_is values).codec.takes left prefix.value.0 prefix.value.1 fits prefix.given in
     let second = whole_body_takes values apdu_type prefix.value.1 body.value first.2 body.given in
     let whole : left.bytes ≡ contents_of (made prefix.value.0 body.value) =
-    first.0 ∙ ap (λ (x : List ℕ). head.spell prefix.value.0 ++ x) second.0 in
+    first.0 ∙ ap (λ (x : List ℕ). head.encode prefix.value.0 ++ x) second.0 in
     let in_range = first.1 in
     let named = in_range.1 in
     let txn = named.0 in
@@ -347,17 +347,17 @@ inside_again : Values → (apdu : Apdu) (at : ℕ) → IsApdu apdu
 unfolding inside_of
 inside_again values apdu at is =
     let prefix : Unit {0} × ((List ℕ × List ℕ) × ℕ) = (tt, ((apdu.txn.group, apdu.txn.transaction), apdu.number)) in
-    let first = (head_is values).codec.again prefix at (spell_body apdu.body)
+    let first = (head_is values).codec.again prefix at (encode_body apdu.body)
     (tt, ((is.txn.group, is.txn.transaction), is.number)) tt in
     rw (first.1, whole_body_again values apdu.body first.0 is.body) refl
 
 -- The contents of an APDU in range have at most 142 bytes more than the further fields.
-contents_by_body : Values → (apdu : Apdu) → IsApdu apdu → length (contents_of apdu) ≤ 142 + length (spell_body apdu.body)
+contents_by_body : Values → (apdu : Apdu) → IsApdu apdu → length (contents_of apdu) ≤ 142 + length (encode_body apdu.body)
 contents_by_body values apdu is =
     let prefix : Unit {0} × ((List ℕ × List ℕ) × ℕ) = (tt, ((apdu.txn.group, apdu.txn.transaction), apdu.number)) in
     omega (
       arith,
-      length-append (head.spell prefix) (spell_body apdu.body),
+      length-append (head.encode prefix) (encode_body apdu.body),
       (head_is values).bound prefix (tt, ((is.txn.group, is.txn.transaction), is.number)),
     )
 
@@ -486,7 +486,7 @@ outer_by_takes first apdu_type (Definite n octets) bytes outer fits k f e =
     outer small.1 in
     let is : outer_with apdu_type n octets bytes ≡ outer = ok_is (outer_with apdu_type n octets bytes) outer whole.1 in
     let enough = ltb-false (length bytes) (octets + n) whole.0 in
-    let spelled = length_takes bytes n octets fits f in
+    let encoded = length_takes bytes n octets fits f in
     let taken = drop octets bytes in
     let size : length (take n taken) ≡ n = omega (arith, length-take n taken, length-drop octets bytes) in
     let split : taken ≡ take n taken ++ drop (octets + n) bytes =
@@ -495,7 +495,7 @@ outer_by_takes first apdu_type (Definite n octets) bytes outer fits k f e =
     sym (drop-drop (octets + n) 1 (first ∷ bytes)) in
     let parts : first ∷ bytes ≡ element (identifier_of apdu_type) (take n taken) ++ drop (1 + (octets + n)) (first ∷ bytes) =
     assembled (identifier_of apdu_type) n octets (first ∷ bytes) bytes (take n taken) (drop (octets + n) bytes)
-    (ap (λ (x : ℕ). x ∷ bytes) k) spelled.0 split size
+    (ap (λ (x : ℕ). x ∷ bytes) k) encoded.0 split size
     ∙ ap (λ (x : List ℕ). element (identifier_of apdu_type) (take n taken) ++ x) (sym later) in
     subst (λ (x : Outer). IsOuter (first ∷ bytes) x) is
     (record { parts = parts; inside_fits = IsBytes-take n taken (IsBytes-drop octets bytes fits) })
@@ -597,12 +597,12 @@ outer_short (first ∷ bytes) n e =
 
 -- `apdu` is in range, and `bytes` is its encoding followed by `rest`.
 abbrev IsAtPrefix : List ℕ → Apdu → List ℕ → Type 0
-IsAtPrefix bytes apdu rest = IsApdu apdu × (bytes ≡ spelling apdu ++ rest)
+IsAtPrefix bytes apdu rest = IsApdu apdu × (bytes ≡ encoding apdu ++ rest)
 
 -- If `apdu_at` reads `apdu` from `bytes`, `apdu` is in range, and `bytes` is its encoding followed by `rest`.
 pub apdu_takes : Values → (bytes : List ℕ) (apdu : Apdu) (rest : List ℕ) → IsBytes bytes
-    → apdu_at bytes ≡ Ok (apdu, rest) → IsApdu apdu × (bytes ≡ spelling apdu ++ rest)
-unfolding apdu_at spelling
+    → apdu_at bytes ≡ Ok (apdu, rest) → IsApdu apdu × (bytes ≡ encoding apdu ++ rest)
+unfolding apdu_at encoding
 apdu_takes values bytes apdu rest fits e =
     let outer = bind_ok (outer_at bytes)
     (λ outer. inside_of outer.apdu_type outer.inside >>= λ apdu. Ok (apdu, drop outer.size bytes)) (apdu, rest) e in
@@ -619,8 +619,8 @@ apdu_takes values bytes apdu rest fits e =
     subst (λ (x : Apdu × List ℕ). IsAtPrefix bytes x.0 x.1) both (inside.1, parts)
 
 -- `apdu_at` reads each APDU in range from its encoding, whatever follows.
-pub apdu_again : Values → (apdu : Apdu) (rest : List ℕ) → IsApdu apdu → apdu_at (spelling apdu ++ rest) ≡ Ok (apdu, rest)
-unfolding apdu_at spelling
+pub apdu_again : Values → (apdu : Apdu) (rest : List ℕ) → IsApdu apdu → apdu_at (encoding apdu ++ rest) ≡ Ok (apdu, rest)
+unfolding apdu_at encoding
 apdu_again values apdu rest is =
     let text = element (identifier_of (type_of apdu.body)) (contents_of apdu) in
     let outer = outer_again (type_of apdu.body) (contents_of apdu) rest (contents_bound values apdu is) in

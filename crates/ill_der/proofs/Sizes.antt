@@ -32,7 +32,7 @@ sized n = 1 + length (length_octets n) + n
 
 -- If `a` and `b` are the sizes of the elements of both qualifiers, their encoding has `a + b` bytes.
 pub qualifiers_length : (group transaction : List ℕ) (a b : ℕ) → a ≡ sized (length group)
-    → b ≡ sized (length transaction) → a + b ≡ length (qualifiers.spell (group, transaction))
+    → b ≡ sized (length transaction) → a + b ≡ length (qualifiers.encode (group, transaction))
 qualifiers_length group transaction a b ea eb =
     omega (
       arith,
@@ -44,9 +44,9 @@ qualifiers_length group transaction a b ea eb =
     )
 
 -- If the qualifiers take `inside` bytes, the transaction id has the size of an element with `inside` contents octets.
-pub id_length : (group transaction : List ℕ) (inside n : ℕ) → inside ≡ length (qualifiers.spell (group, transaction))
-    → n ≡ sized inside → n ≡ length (txn_id.spell (group, transaction))
-id_length group transaction inside n e en = en ∙ ap sized e ∙ sym (element_length 0xA1 (qualifiers.spell (group, transaction)))
+pub id_length : (group transaction : List ℕ) (inside n : ℕ) → inside ≡ length (qualifiers.encode (group, transaction))
+    → n ≡ sized inside → n ≡ length (txn_id.encode (group, transaction))
+id_length group transaction inside n e en = en ∙ ap sized e ∙ sym (element_length 0xA1 (qualifiers.encode (group, transaction)))
 
 -- The size of an element does not depend on its identifier.
 same_size : (identifier : ℕ) (contents : List ℕ) (n : ℕ) → n ≡ length (element 0 contents)
@@ -59,11 +59,11 @@ unfolding element length_octets
 version_length = refl
 
 -- If the transaction id has `id` bytes and the number `n`, the head has `3 + id + n`.
-pub head_length : (group transaction : List ℕ) (number id n : ℕ) → id ≡ length (txn_id.spell (group, transaction))
+pub head_length : (group transaction : List ℕ) (number id n : ℕ) → id ≡ length (txn_id.encode (group, transaction))
     → n ≡ length (element 0 (number_octets number))
-    → 3 + id + n ≡ length (head.spell (tt, ((group, transaction), number)))
+    → 3 + id + n ≡ length (head.encode (tt, ((group, transaction), number)))
 head_length group transaction number id n ei en =
-    let text = txn_id.spell (group, transaction) in
+    let text = txn_id.encode (group, transaction) in
     omega (
       arith,
       ei,
@@ -74,14 +74,14 @@ head_length group transaction number id n ei en =
     )
 
 -- If the expiry date has `a` bytes and the item `b`, the fields of a request have `a + b`.
-pub request_length : (expiry : Option Date) (text : List ℕ) (a b : ℕ) → a ≡ length ((optional 0x85 date).spell expiry)
-    → b ≡ sized (length text) → a + b ≡ length (request.spell (expiry, text))
+pub request_length : (expiry : Option Date) (text : List ℕ) (a b : ℕ) → a ≡ length ((optional 0x85 date).encode expiry)
+    → b ≡ sized (length text) → a + b ≡ length (request.encode (expiry, text))
 request_length expiry text a b ea eb =
-    omega (arith, ea, eb, element_length 0x86 text, length-append ((optional 0x85 date).spell expiry) (element 0x86 text))
+    omega (arith, ea, eb, element_length 0x86 text, length-append ((optional 0x85 date).encode expiry) (element 0x86 text))
 
 -- If `n` is the size of the number, the fields of a reply have `n + 3` bytes.
 pub reply_length : (answers : ℕ) (is_yes : Bool) (n : ℕ) → n ≡ length (element 0 (number_octets answers))
-    → n + 3 ≡ length (reply.spell (answers, is_yes))
+    → n + 3 ≡ length (reply.encode (answers, is_yes))
 reply_length answers is_yes n e =
     omega (
       arith,
@@ -92,11 +92,11 @@ reply_length answers is_yes n e =
 
 -- If the number has `n` bytes and the date `m`, the fields of a Renew-Answer have `n + 3 + m`.
 pub grant_length : (answers : ℕ) (granted : Option Date) (n m : ℕ) → n ≡ length (element 0 (number_octets answers))
-    → m ≡ length ((optional 0x85 date).spell granted)
-    → n + 3 + m ≡ length (grant.spell (answers, granted))
+    → m ≡ length ((optional 0x85 date).encode granted)
+    → n + 3 + m ≡ length (grant.encode (answers, granted))
 grant_length answers granted n m en em =
     let flag = yes_no_element (is_some granted) in
-    let day = (optional 0x85 date).spell granted in
+    let day = (optional 0x85 date).encode granted in
     omega (
       arith,
       same_size 0x83 (number_octets answers) n en,

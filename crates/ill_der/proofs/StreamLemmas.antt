@@ -8,8 +8,8 @@ use Rattle.ill_values.specs.declared.apdu.Apdu.{Apdu}
 use Rattle.ill_der.specs.declared.fault.DerFault.{DerFault}
 use Rattle.ill_der.specs.declared.fault.DerFault.TheVariants.{Short, OutOfMemory}
 use Rattle.ill_values.specs.Apdu.{IsApdu}
-use Rattle.ill_der.specs.ShortForm.{spelling, apdu_at, Decodes}
-use Rattle.ill_der.specs.Stream.{AreUnfinished, SpellsOne}
+use Rattle.ill_der.specs.ShortForm.{encoding, apdu_at, Decodes}
+use Rattle.ill_der.specs.Stream.{AreUnfinished, EncodesOne}
 use Rattle.ill_der.proofs.Chains.{no_value}
 use Rattle.ill_der.specs.Laws.{IsBytes}
 use Rattle.ill_der.proofs.ContentsLaws.{Values}
@@ -31,13 +31,13 @@ decodes_err bytes (Err f) fault h = inl (let e : f ≡ fault = cc in ap Err e)
 
 -- If the proper prefixes of `bytes` are unfinished, and `apdu_at` reads `apdu`, all of `bytes` is its encoding.
 exact : Values → (bytes rest : List ℕ) (apdu : Apdu) → IsBytes bytes → AreUnfinished bytes
-    → apdu_at bytes ≡ Ok (apdu, rest) → IsApdu apdu × (bytes ≡ spelling apdu)
+    → apdu_at bytes ≡ Ok (apdu, rest) → IsApdu apdu × (bytes ≡ encoding apdu)
 exact values bytes [] apdu fits prefixes e =
     let taken = apdu_takes values bytes apdu [] fits e in
-    (taken.0, taken.1 ∙ append-nil (spelling apdu))
+    (taken.0, taken.1 ∙ append-nil (encoding apdu))
 exact values bytes (x ∷ rest) apdu fits prefixes e =
     let taken = apdu_takes values bytes apdu (x ∷ rest) fits e in
-    let text = spelling apdu in
+    let text = encoding apdu in
     let longer : length text < length bytes = omega (arith, ap length taken.1, length-append text (x ∷ rest)) in
     let prefix : take (length text) bytes ≡ text = ap (take (length text)) taken.1 ∙ take_at text (x ∷ rest) (length text) refl in
     let again : apdu_at text ≡ Ok (apdu, []) = ap apdu_at (sym (append-nil text)) ∙ apdu_again values apdu [] taken.0 in
@@ -45,15 +45,15 @@ exact values bytes (x ∷ rest) apdu fits prefixes e =
     (sym again ∙ ap apdu_at (sym prefix) ∙ prefixes (length text) longer))
 
 -- If the proper prefixes of `bytes` are unfinished, and decoding gives an APDU, all of `bytes` is its encoding.
-pub spelled_exactly : Values → (bytes : List ℕ) (found : Apdu × ℕ) → IsBytes bytes → AreUnfinished bytes
-    → Decodes bytes (apdu_at bytes) (Ok found) → IsApdu found.0 × (bytes ≡ spelling found.0)
-spelled_exactly values bytes found fits prefixes h =
+pub encoded_exactly : Values → (bytes : List ℕ) (found : Apdu × ℕ) → IsBytes bytes → AreUnfinished bytes
+    → Decodes bytes (apdu_at bytes) (Ok found) → IsApdu found.0 × (bytes ≡ encoding found.0)
+encoded_exactly values bytes found fits prefixes h =
     exact values bytes (drop found.1 bytes) found.0 fits prefixes (decodes_ok bytes (apdu_at bytes) found h)
 
 -- If the proper prefixes of `bytes` are unfinished, and memory ran out, `bytes` is the encoding of one APDU.
-pub spelled_without_memory : Values → (bytes : List ℕ) → IsBytes bytes → AreUnfinished bytes
-    → Decodes bytes (apdu_at bytes) (Err OutOfMemory) → SpellsOne bytes
-spelled_without_memory values bytes fits prefixes h =
+pub encoded_without_memory : Values → (bytes : List ℕ) → IsBytes bytes → AreUnfinished bytes
+    → Decodes bytes (apdu_at bytes) (Err OutOfMemory) → EncodesOne bytes
+encoded_without_memory values bytes fits prefixes h =
     elim (decodes_err bytes (apdu_at bytes) OutOfMemory h) [
       | inl e ↦ absurd (apdu_memory values bytes e)
       | inr e ↦ let found = e.1 in

@@ -10,9 +10,9 @@ use Rattle.ill_values.specs.Day.{Date, date_text, read_date}
 use Rattle.ill_values.specs.Results.{all_results}
 use Rattle.ill_values.specs.Text.{qualifier_check, item_check}
 
--- Describes one kind of contents: `spell` encodes a value, and `read` reads a value from all octets.
+-- Describes one kind of contents: `encode` encodes a value, and `read` reads a value from all octets.
 pub record Contents (V : Type 0) : Type 0 where
-  pub spell : V → List ℕ
+  pub encode : V → List ℕ
   pub read : List ℕ → Option V
 
 -- Returns the number `n`, 1 to 255, as a minimal INTEGER in two's complement: one or two octets (X.690 8.3).
@@ -28,7 +28,7 @@ number_from (high ∷ n ∷ more ∷ rest) = None
 
 -- The contents of a number: an INTEGER.
 abbrev pub number : Contents ℕ
-number = record { spell = number_octets; read = number_from }
+number = record { encode = number_octets; read = number_from }
 
 -- Returns the version if `bytes` is the one octet 01. This profile has no other version.
 abbrev pub version_from : List ℕ → Option (Unit {0})
@@ -36,7 +36,7 @@ version_from bytes = if bytes_eq bytes (1 ∷ []) then Some tt else None
 
 -- The contents of the version: the one octet 01.
 abbrev pub version : Contents (Unit {0})
-version = record { spell = λ _. 1 ∷ []; read = version_from }
+version = record { encode = λ _. 1 ∷ []; read = version_from }
 
 -- Returns `bytes` if it is a qualifier.
 abbrev pub qualifier_from : List ℕ → Option (List ℕ)
@@ -44,7 +44,7 @@ qualifier_from bytes = if is_ok (qualifier_check bytes) then Some bytes else Non
 
 -- The contents of a qualifier: its own bytes.
 abbrev pub qualifier : Contents (List ℕ)
-qualifier = record { spell = λ text. text; read = qualifier_from }
+qualifier = record { encode = λ text. text; read = qualifier_from }
 
 -- Returns `bytes` if it is an item.
 abbrev pub item_from : List ℕ → Option (List ℕ)
@@ -52,11 +52,11 @@ item_from bytes = if is_ok (item_check bytes) then Some bytes else None
 
 -- The contents of an item: its own bytes.
 abbrev pub item : Contents (List ℕ)
-item = record { spell = λ text. text; read = item_from }
+item = record { encode = λ text. text; read = item_from }
 
 -- The contents of a day: its date text.
 abbrev pub date : Contents Date
-date = record { spell = date_text; read = λ bytes. result_ok (read_date bytes) }
+date = record { encode = date_text; read = λ bytes. result_ok (read_date bytes) }
 
 -- Returns the octet that encodes a result (this profile's own).
 abbrev pub code_of : AnswerResult → ℕ
@@ -76,7 +76,7 @@ result_from (code ∷ more ∷ rest) = None
 
 -- The contents of a result: its octet.
 abbrev pub answer_result : Contents AnswerResult
-answer_result = record { spell = λ result. code_of result ∷ []; read = result_from }
+answer_result = record { encode = λ result. code_of result ∷ []; read = result_from }
 
 -- Returns the value of a BOOLEAN: no for the one octet 00, and yes for the one octet FF (X.690 8.2, 11.1).
 abbrev pub yes_no_from : List ℕ → Option Bool
@@ -87,4 +87,4 @@ yes_no_from (octet ∷ more ∷ rest) = None
 
 -- The contents of a yes or no: a BOOLEAN.
 abbrev pub yes_no : Contents Bool
-yes_no = record { spell = λ is_yes. (if is_yes then 0xFF else 0) ∷ []; read = yes_no_from }
+yes_no = record { encode = λ is_yes. (if is_yes then 0xFF else 0) ∷ []; read = yes_no_from }

@@ -7,13 +7,13 @@ use Rattle.ill_values.specs.Apdu.{IsApdu}
 use Rattle.ill_der.specs.declared.fault.DerFault.{DerFault}
 use Rattle.ill_der.specs.declared.fault.DerFault.TheVariants.{Short}
 use Rattle.ill_der.specs.declared.feed.Pushed.{Pushed}
-use Rattle.ill_der.specs.ShortForm.{spelling, apdu_at}
+use Rattle.ill_der.specs.ShortForm.{encoding, apdu_at}
 use Rattle.ill_der.specs.Stream.{IsUnfinished, IfShort}
 
 -- `bytes` is the encodings of `apdus`, one after another, followed by `rest`. Each APDU is in range.
 pub record Begins (bytes : List ℕ) (apdus : List Apdu) (rest : List ℕ) : Type 0 where
-  pub spelled : AllByRecursion IsApdu apdus
-  pub parts : bytes ≡ flat_map spelling apdus ++ rest
+  pub encoded : AllByRecursion IsApdu apdus
+  pub parts : bytes ≡ flat_map encoding apdus ++ rest
 
 -- The state of a feed: the bytes that it holds if it is open, or the fault that closed it.
 abbrev pub FeedState : Type 0

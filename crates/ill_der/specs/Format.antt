@@ -91,9 +91,9 @@ ended left = if length left.bytes == 0 then Ok tt else Err (Tag left.at)
 
 -- ---- descriptions of fields
 
--- Describes fields: `spell` encodes a value. `read` reads a value and returns the bytes after it, or a fault.
+-- Describes fields: `encode` encodes a value. `read` reads a value and returns the bytes after it, or a fault.
 pub record Codec (E V : Type 0) : Type 0 where
-  pub spell : V → List ℕ
+  pub encode : V → List ℕ
   pub read : Cursor → Result (V × Cursor) E
 
 -- Describes fields of an APDU.
@@ -108,20 +108,20 @@ value_of None at = Err (Field at)
 -- Describes a primitive field that must be present.
 abbrev pub required : {V : Type 0} → ℕ → Contents V → Format V
 required identifier kind = record {
-  spell = λ value. element identifier (kind.spell value);
+  encode = λ value. element identifier (kind.encode value);
   read = λ left. element_at identifier left >>= λ part.
       value_of (kind.read part.0.bytes) part.0.at >>= λ value. Ok (value, part.1);
 }
 
 -- Returns the encoding of a value, or no bytes if there is none.
-abbrev pub spell_some : {V : Type 0} → (V → List ℕ) → Option V → List ℕ
-spell_some spell None = []
-spell_some spell (Some value) = spell value
+abbrev pub encode_some : {V : Type 0} → (V → List ℕ) → Option V → List ℕ
+encode_some encode None = []
+encode_some encode (Some value) = encode value
 
 -- Describes a primitive field that may be absent.
 abbrev pub optional : {V : Type 0} → ℕ → Contents V → Format (Option V)
 optional identifier kind = record {
-  spell = spell_some (required identifier kind).spell;
+  encode = encode_some (required identifier kind).encode;
   read = λ left. if begins_with identifier left.bytes
       then ((required identifier kind).read left >>= λ field. Ok (Some field.0, field.1))
       else Ok (None, left);
@@ -130,14 +130,14 @@ optional identifier kind = record {
 -- Describes the fields of `first`, and after them those of `second`.
 abbrev pub followed_by : {E V W : Type 0} → Codec E V → Codec E W → Codec E (V × W)
 followed_by first second = record {
-  spell = λ value. first.spell value.0 ++ second.spell value.1;
+  encode = λ value. first.encode value.0 ++ second.encode value.1;
   read = λ left. first.read left >>= λ a. second.read a.1 >>= λ b. Ok ((a.0, b.0), b.1);
 }
 
 -- Describes a yes or no, followed by a further field if it is yes.
 abbrev pub where_yes : {E V : Type 0} → Codec E Bool → Codec E V → Codec E (Option V)
 where_yes yes_no field = record {
-  spell = λ o. yes_no.spell (is_some o) ++ spell_some field.spell o;
+  encode = λ o. yes_no.encode (is_some o) ++ encode_some field.encode o;
   read = λ left. yes_no.read left >>= λ is_yes. if is_yes.0
       then (field.read is_yes.1 >>= λ found. Ok (Some found.0, found.1))
       else Ok (None, is_yes.1);
@@ -145,12 +145,12 @@ where_yes yes_no field = record {
 
 -- Describes no field.
 abbrev pub nothing : Format (Unit {0})
-nothing = record { spell = λ _. []; read = λ left. Ok (tt, left) }
+nothing = record { encode = λ _. []; read = λ left. Ok (tt, left) }
 
 -- Describes a constructed field that must be present. It contains exactly the fields of `inside`.
 abbrev pub constructed : {V : Type 0} → ℕ → Format V → Format V
 constructed identifier inside = record {
-  spell = λ value. element identifier (inside.spell value);
+  encode = λ value. element identifier (inside.encode value);
   read = λ left. element_at identifier left >>= λ part. inside.read part.0 >>= λ found.
       ended found.1 >>= λ _. Ok (found.0, part.1);
 }

@@ -4,7 +4,7 @@ use Rattle.ill_values.specs.declared.apdu.Apdu.{Apdu}
 use Rattle.ill_values.specs.Apdu.{IsApdu}
 use Rattle.ill_der.specs.declared.fault.DerFault.{DerFault}
 use Rattle.ill_der.specs.declared.fault.DerFault.TheVariants.{OutOfMemory}
-use Rattle.ill_der.specs.ShortForm.{spelling}
+use Rattle.ill_der.specs.ShortForm.{encoding}
 
 -- Each element of `bytes` is an octet, that is, below 256.
 abbrev pub IsBytes : List ℕ → Type 0
@@ -12,7 +12,7 @@ IsBytes bytes = (i : ℕ) → get_or bytes i 0 < 256
 
 -- `apdu` is in range, and `bytes` is its encoding followed by `rest`.
 abbrev pub BeginsWith : List ℕ → Apdu → List ℕ → Type 0
-BeginsWith bytes apdu rest = IsApdu apdu × (bytes ≡ spelling apdu ++ rest)
+BeginsWith bytes apdu rest = IsApdu apdu × (bytes ≡ encoding apdu ++ rest)
 
 -- `bytes` begins with the APDU that was found and with no other.
 -- If there is a fault, `bytes` begins with no APDU, and the fault is not OutOfMemory.

@@ -63,21 +63,21 @@ abbrev pub grant : Format (ℕ × Option Date)
 grant = followed_by (required 0x83 number) (where_yes (required 0x84 yes_no) (required 0x85 date))
 
 -- Returns the encoding of the further fields of a body. Six types have none.
-abbrev pub spell_body : Body → List ℕ
-spell_body (IllRequest expiry text) = request.spell (expiry, text)
-spell_body (Shipped due) = due_date.spell due
-spell_body (IllAnswer result) = answer.spell result
-spell_body (ConditionalReply answers is_yes) = reply.spell (answers, is_yes)
-spell_body (CancelReply answers is_yes) = reply.spell (answers, is_yes)
-spell_body (Overdue due) = due_date.spell due
-spell_body (Renew wished) = wish.spell wished
-spell_body (RenewAnswer answers granted) = grant.spell (answers, granted)
-spell_body Cancel = []
-spell_body Received = []
-spell_body Recall = []
-spell_body Returned = []
-spell_body CheckedIn = []
-spell_body Expired = []
+abbrev pub encode_body : Body → List ℕ
+encode_body (IllRequest expiry text) = request.encode (expiry, text)
+encode_body (Shipped due) = due_date.encode due
+encode_body (IllAnswer result) = answer.encode result
+encode_body (ConditionalReply answers is_yes) = reply.encode (answers, is_yes)
+encode_body (CancelReply answers is_yes) = reply.encode (answers, is_yes)
+encode_body (Overdue due) = due_date.encode due
+encode_body (Renew wished) = wish.encode wished
+encode_body (RenewAnswer answers granted) = grant.encode (answers, granted)
+encode_body Cancel = []
+encode_body Received = []
+encode_body Recall = []
+encode_body Returned = []
+encode_body CheckedIn = []
+encode_body Expired = []
 
 -- Reads `fields`, and returns the body that `make` returns for their value.
 abbrev pub made_of : {V : Type 0} → Format V → (V → Body) → Cursor → Result (Body × Cursor) DerFault
@@ -104,15 +104,15 @@ read_body types.Expired left = Ok (Expired, left)
 
 -- Returns the encoding of the fields that each APDU has, for `apdu`.
 abbrev pub head_of : Apdu → List ℕ
-head_of apdu = head.spell (tt, ((apdu.txn.group, apdu.txn.transaction), apdu.number))
+head_of apdu = head.encode (tt, ((apdu.txn.group, apdu.txn.transaction), apdu.number))
 
 -- Returns the contents of `apdu`: the encodings of its head and of its further fields.
 abbrev pub contents_of : Apdu → List ℕ
-contents_of apdu = head_of apdu ++ spell_body apdu.body
+contents_of apdu = head_of apdu ++ encode_body apdu.body
 
 -- Returns the encoding of `apdu`, the only one that it has.
-unfoldable pub spelling : Apdu → List ℕ
-spelling apdu = element (identifier_of (type_of apdu.body)) (contents_of apdu)
+unfoldable pub encoding : Apdu → List ℕ
+encoding apdu = element (identifier_of (type_of apdu.body)) (contents_of apdu)
 
 -- Returns the header of an APDU of this type and length. More than 355 contents octets are the fault Length.
 -- A truncated length is the fault Short with `size`, the number of bytes that are present.

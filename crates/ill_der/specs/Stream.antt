@@ -10,7 +10,7 @@ use Rattle.ill_der.specs.declared.fault.WriteFault.{WriteFault}
 use Rattle.ill_der.specs.declared.fault.WriteFault.TheVariants as writing
 use Rattle.ill_values.specs.Apdu.{IsApdu}
 use Rattle.ill_der.specs.declared.header.Header.{Header}
-use Rattle.ill_der.specs.ShortForm.{spelling, header_at, apdu_at}
+use Rattle.ill_der.specs.ShortForm.{encoding, header_at, apdu_at}
 
 -- `bytes` is less than an APDU, and further bytes may complete one.
 abbrev pub IsUnfinished : List ℕ → Type 0
@@ -21,8 +21,8 @@ abbrev pub AreUnfinished : List ℕ → Type 0
 AreUnfinished bytes = (size : ℕ) → size < length bytes → IsUnfinished (take size bytes)
 
 -- `bytes` is the encoding of one APDU in range.
-abbrev pub SpellsOne : List ℕ → Type 0
-SpellsOne bytes = (apdu : Apdu) × IsApdu apdu × (bytes ≡ spelling apdu)
+abbrev pub EncodesOne : List ℕ → Type 0
+EncodesOne bytes = (apdu : Apdu) × IsApdu apdu × (bytes ≡ encoding apdu)
 
 -- If the fault is Short, `P` holds.
 abbrev pub IfShort : DerFault → Type 0 → Type 0
@@ -37,12 +37,12 @@ IfShort OutOfMemory P = Unit {0}
 -- If `bytes` has a fault, each proper prefix of `bytes` is unfinished.
 -- If a read failed, `bytes` is unfinished. If memory ran out, `bytes` is the encoding of one APDU.
 abbrev pub IsAnswer : List ℕ → Option (List ℕ) → Result (Option Apdu) ReadFault → Type 0
-IsAnswer bytes left (Ok (Some apdu)) = IsApdu apdu × (bytes ≡ spelling apdu)
+IsAnswer bytes left (Ok (Some apdu)) = IsApdu apdu × (bytes ≡ encoding apdu)
 IsAnswer bytes left (Ok None) = (bytes ≡ []) × IsAtEnd left
 IsAnswer bytes left (Err (faults.Bytes fault)) =
     (apdu_at bytes ≡ Err fault) × AreUnfinished bytes × IfShort fault (IsAtEnd left)
 IsAnswer bytes left (Err faults.Read) = IsUnfinished bytes
-IsAnswer bytes left (Err faults.OutOfMemory) = SpellsOne bytes
+IsAnswer bytes left (Err faults.OutOfMemory) = EncodesOne bytes
 
 -- A reader that had the bytes `old` has `new` left, and `result` is the answer for the bytes between.
 abbrev pub ReadsApdu : Option (List ℕ) → Option (List ℕ) → Result (Option Apdu) ReadFault → Type 0
@@ -55,11 +55,11 @@ read_fault other = faults.Bytes other
 
 -- The result is the APDU of `bytes`, a fault of `bytes` other than Short, or OutOfMemory for its APDU.
 abbrev pub IsJudged : List ℕ → Result (Option Apdu) ReadFault → Type 0
-IsJudged bytes (Ok (Some apdu)) = IsApdu apdu × (bytes ≡ spelling apdu)
+IsJudged bytes (Ok (Some apdu)) = IsApdu apdu × (bytes ≡ encoding apdu)
 IsJudged bytes (Ok None) = ⊥
 IsJudged bytes (Err (faults.Bytes fault)) = (apdu_at bytes ≡ Err fault) × IfShort fault ⊥
 IsJudged bytes (Err faults.Read) = ⊥
-IsJudged bytes (Err faults.OutOfMemory) = SpellsOne bytes
+IsJudged bytes (Err faults.OutOfMemory) = EncodesOne bytes
 
 -- Returns the least number of bytes that an APDU of `size` bytes lacks, from its header or the fault.
 abbrev pub missing_by : Result Header DerFault → ℕ → ℕ

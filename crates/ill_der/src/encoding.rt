@@ -7,7 +7,7 @@ ghost use Rattle.ill_values.specs.Apdu.{IsApdu, IsBody, IsNumber};
 ghost use Rattle.ill_der.specs.Adding.{AddsPrefix};
 ghost use Rattle.ill_der.specs.Contents.{answer_result, code_of, date, number, number_octets, yes_no};
 ghost use Rattle.ill_der.specs.Format.{element, length_octets, optional, required};
-ghost use Rattle.ill_der.specs.ShortForm.{due_date, grant, head_of, reply, spell_body, spelling, txn_id};
+ghost use Rattle.ill_der.specs.ShortForm.{due_date, grant, head_of, reply, encode_body, encoding, txn_id};
 
 use crate::identifier::identifier_of;
 use crate::sizing::{contents_size, qualifiers_size, size};
@@ -17,7 +17,7 @@ use std::alloc::Global;
 
 /// Returns the encoding of `apdu`: at most 359 bytes. Allocates once.
 pub fn encode(alloc: Global, apdu: &Apdu) -> Result<Vec<u8>, OutOfMemory>
-    ensures spelled { IfOk result (λ bytes. bytes.items ≡ spelling apdu.now) }
+    ensures encoded { IfOk result (λ bytes. bytes.items ≡ encoding apdu.now) }
     ensures most { IfOk result (λ bytes. length bytes.items ≤ 359) }
     ensures range { OnOk result (IsApdu apdu.now) }
 {
@@ -28,10 +28,10 @@ pub fn encode(alloc: Global, apdu: &Apdu) -> Result<Vec<u8>, OutOfMemory>
 
 /// Appends the encoding of `apdu` to `bytes`. If memory runs out, a proper prefix of the encoding may
 /// have been appended.
-#[tactic(auto, unfolding(crate::specs::ShortForm::spelling, crate::specs::Format::element))]
+#[tactic(auto, unfolding(crate::specs::ShortForm::encoding, crate::specs::Format::element))]
 pub fn encode_onto(bytes: &mut Vec<u8>, apdu: &Apdu) -> Result<(), OutOfMemory>
-    ensures spelled { OnOk result (bytes.new.items ≡ bytes.old.items ++ spelling apdu.now) }
-    ensures prefix { OnErr result (AddsPrefix bytes.old.items bytes.new.items (spelling apdu.now)) }
+    ensures encoded { OnOk result (bytes.new.items ≡ bytes.old.items ++ encoding apdu.now) }
+    ensures prefix { OnErr result (AddsPrefix bytes.old.items bytes.new.items (encoding apdu.now)) }
     ensures range { OnOk result (IsApdu apdu.now) }
 {
     push_start(
@@ -58,9 +58,9 @@ fn push_head(bytes: &mut Vec<u8>, apdu: &Apdu) -> Result<(), OutOfMemory>
 #[tactic(auto, unfolding(crate::specs::Format::element))]
 fn push_id(bytes: &mut Vec<u8>, id: &TxnId) -> Result<(), OutOfMemory>
     ensures bytes { OnOk result (bytes.new.items ≡ bytes.old.items
-        ++ txn_id.spell (id.now.group, id.now.transaction)) }
+        ++ txn_id.encode (id.now.group, id.now.transaction)) }
     ensures prefix { OnErr result (AddsPrefix bytes.old.items bytes.new.items
-        (txn_id.spell (id.now.group, id.now.transaction))) }
+        (txn_id.encode (id.now.group, id.now.transaction))) }
     ensures range { OnOk result (AreQualifiers id.now) }
 {
     push_start(bytes, tags::TRANSACTION_ID, qualifiers_size(id))?;
@@ -70,8 +70,8 @@ fn push_id(bytes: &mut Vec<u8>, id: &TxnId) -> Result<(), OutOfMemory>
 
 /// Appends the further fields of `body`.
 fn push_body(bytes: &mut Vec<u8>, body: &Body) -> Result<(), OutOfMemory>
-    ensures bytes { OnOk result (bytes.new.items ≡ bytes.old.items ++ spell_body body.now) }
-    ensures prefix { OnErr result (AddsPrefix bytes.old.items bytes.new.items (spell_body body.now)) }
+    ensures bytes { OnOk result (bytes.new.items ≡ bytes.old.items ++ encode_body body.now) }
+    ensures prefix { OnErr result (AddsPrefix bytes.old.items bytes.new.items (encode_body body.now)) }
     ensures range { OnOk result (IsBody body.now) }
 {
     match body {
@@ -98,9 +98,9 @@ fn push_body(bytes: &mut Vec<u8>, body: &Body) -> Result<(), OutOfMemory>
 /// Appends the further fields of a Renew-Answer.
 fn push_grant(bytes: &mut Vec<u8>, answers: Number, granted: Option<Day>) -> Result<(), OutOfMemory>
     ensures bytes { OnOk result (bytes.new.items ≡ bytes.old.items
-        ++ grant.spell (answers, granted)) }
+        ++ grant.encode (answers, granted)) }
     ensures prefix { OnErr result (AddsPrefix bytes.old.items bytes.new.items
-        (grant.spell (answers, granted))) }
+        (grant.encode (answers, granted))) }
     ensures range { OnOk result (IsNumber answers × IfSome granted IsDate) }
 {
     push_reply(bytes, answers, granted.is_some())?;
@@ -109,9 +109,9 @@ fn push_grant(bytes: &mut Vec<u8>, answers: Number, granted: Option<Day>) -> Res
 
 /// Appends the number of the message that is answered, and yes or no.
 fn push_reply(bytes: &mut Vec<u8>, answers: Number, yes: bool) -> Result<(), OutOfMemory>
-    ensures bytes { OnOk result (bytes.new.items ≡ bytes.old.items ++ reply.spell (answers, yes)) }
+    ensures bytes { OnOk result (bytes.new.items ≡ bytes.old.items ++ reply.encode (answers, yes)) }
     ensures prefix { OnErr result (AddsPrefix bytes.old.items bytes.new.items
-        (reply.spell (answers, yes))) }
+        (reply.encode (answers, yes))) }
     ensures range { OnOk result (IsNumber answers) }
 {
     push_number(bytes, tags::ANSWERS, answers)?;
@@ -121,9 +121,9 @@ fn push_reply(bytes: &mut Vec<u8>, answers: Number, yes: bool) -> Result<(), Out
 /// Appends a date, if there is one.
 fn push_optional_date(bytes: &mut Vec<u8>, day: Option<Day>) -> Result<(), OutOfMemory>
     ensures bytes { OnOk result (bytes.new.items ≡ bytes.old.items
-        ++ (optional 0x85 date).spell day) }
+        ++ (optional 0x85 date).encode day) }
     ensures prefix { OnErr result (AddsPrefix bytes.old.items bytes.new.items
-        ((optional 0x85 date).spell day)) }
+        ((optional 0x85 date).encode day)) }
     ensures range { OnOk result (IfSome day IsDate) }
 {
     match day {
@@ -134,8 +134,8 @@ fn push_optional_date(bytes: &mut Vec<u8>, day: Option<Day>) -> Result<(), OutOf
 
 /// Appends a date.
 fn push_date(bytes: &mut Vec<u8>, day: Day) -> Result<(), OutOfMemory>
-    ensures bytes { OnOk result (bytes.new.items ≡ bytes.old.items ++ due_date.spell day) }
-    ensures prefix { OnErr result (AddsPrefix bytes.old.items bytes.new.items (due_date.spell day)) }
+    ensures bytes { OnOk result (bytes.new.items ≡ bytes.old.items ++ due_date.encode day) }
+    ensures prefix { OnErr result (AddsPrefix bytes.old.items bytes.new.items (due_date.encode day)) }
     ensures range { OnOk result (IsDate day) }
 {
     push_element(bytes, tags::DATE, &day.digits())

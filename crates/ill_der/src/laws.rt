@@ -7,7 +7,7 @@ ghost use Rattle.ill_der.specs.declared.fault.DerFault.{DerFault};
 ghost use Rattle.ill_der.specs.declared.fault.DerFault.TheVariants.{Short};
 ghost use Rattle.ill_values.specs.declared.apdu_type.ApduType.TheVariants.{IllRequest};
 ghost use Rattle.ill_values.specs.Types.{type_of};
-ghost use Rattle.ill_der.specs.ShortForm.{spelling, apdu_at};
+ghost use Rattle.ill_der.specs.ShortForm.{encoding, apdu_at};
 ghost use Rattle.ill_der.specs.Stream.{IfShort};
 ghost use Rattle.std.specs.List.{concat};
 ghost use Rattle.ill_der.specs.Feed.{FeedState, Feeds, FeedsAll};
@@ -17,7 +17,7 @@ ghost use Rattle.ill_der.specs.Laws.{IsBytes, BeginsWithOne};
 /// `encode` encoded.
 pub fn read_again()
     ensures { (apdu : Apdu) (rest : List ℕ) → IsApdu apdu →
-        apdu_at (spelling apdu ++ rest) ≡ Ok (apdu, rest) }
+        apdu_at (encoding apdu ++ rest) ≡ Ok (apdu, rest) }
 {
     ill_values::laws::date_texts();
     ill_values::laws::text_sizes();
@@ -25,7 +25,7 @@ pub fn read_again()
 
 /// Two APDUs in range with equal encodings are equal.
 pub fn one_apdu()
-    ensures { (a b : Apdu) → IsApdu a → IsApdu b → spelling a ≡ spelling b → a ≡ b }
+    ensures { (a b : Apdu) → IsApdu a → IsApdu b → encoding a ≡ encoding b → a ≡ b }
 {
     read_again();
 }
@@ -33,15 +33,15 @@ pub fn one_apdu()
 /// No encoding is a proper prefix of another.
 pub fn no_prefix()
     ensures { (a b : Apdu) (rest : List ℕ) → IsApdu a → IsApdu b →
-        spelling b ≡ spelling a ++ rest → rest ≡ [] }
+        encoding b ≡ encoding a ++ rest → rest ≡ [] }
 {
     read_again();
 }
 
 /// The longest encoding has 359 bytes.
 pub fn longest()
-    ensures most { (apdu : Apdu) → IsApdu apdu → length (spelling apdu) ≤ 359 }
-    ensures reached { (apdu : Apdu) × IsApdu apdu × (length (spelling apdu) ≡ 359) }
+    ensures most { (apdu : Apdu) → IsApdu apdu → length (encoding apdu) ≤ 359 }
+    ensures reached { (apdu : Apdu) × IsApdu apdu × (length (encoding apdu) ≡ 359) }
 {
     ill_values::laws::date_texts();
     ill_values::laws::text_sizes();
@@ -50,9 +50,9 @@ pub fn longest()
 /// The longest encoding of an APDU that is no ILL-Request has 162 bytes.
 pub fn shorter()
     ensures most { (apdu : Apdu) → IsApdu apdu → (type_of apdu.body ≡ IllRequest → ⊥) →
-        length (spelling apdu) ≤ 162 }
+        length (encoding apdu) ≤ 162 }
     ensures reached { (apdu : Apdu) × IsApdu apdu × (type_of apdu.body ≡ IllRequest → ⊥)
-        × (length (spelling apdu) ≡ 162) }
+        × (length (encoding apdu) ≡ 162) }
 {
     ill_values::laws::date_texts();
     ill_values::laws::text_sizes();

@@ -6,14 +6,14 @@ ghost use Rattle.ill_der.specs.Contents.{number_octets, yes_no, date};
 ghost use Rattle.ill_der.specs.Format.{length_octets, element, required, optional, where_yes};
 ghost use Rattle.ill_values.specs.Types.{type_of};
 ghost use Rattle.ill_der.specs.Types.{identifier_of};
-ghost use Rattle.ill_der.specs.ShortForm.{qualifiers, txn_id, head, head_of, spell_body, contents_of, spelling};
+ghost use Rattle.ill_der.specs.ShortForm.{qualifiers, txn_id, head, head_of, encode_body, contents_of, encoding};
 
 use ill_values::{Apdu, Body, Day, Number, TxnId};
 
 /// Returns the size of the encoding of `apdu`: at most 359 bytes. Allocates nothing.
-#[tactic(auto, using(crate::proofs::Sizes::element_length), unfolding(crate::specs::ShortForm::spelling))]
+#[tactic(auto, using(crate::proofs::Sizes::element_length), unfolding(crate::specs::ShortForm::encoding))]
 pub fn size(apdu: &Apdu) -> usize
-    ensures value { result ≡ length (spelling apdu.now) }
+    ensures value { result ≡ length (encoding apdu.now) }
     ensures most { result ≤ 359 }
 {
     element_size(contents_size(apdu))
@@ -67,7 +67,7 @@ fn head_size(apdu: &Apdu) -> usize
 /// Returns the number of bytes of a transaction id.
 #[tactic(auto, using(crate::proofs::Sizes::element_length))]
 fn id_size(id: &TxnId) -> usize
-    ensures value { result ≡ length (txn_id.spell (id.now.group, id.now.transaction)) }
+    ensures value { result ≡ length (txn_id.encode (id.now.group, id.now.transaction)) }
     ensures most { result ≤ 135 }
 {
     element_size(qualifiers_size(id))
@@ -76,7 +76,7 @@ fn id_size(id: &TxnId) -> usize
 /// Returns the number of bytes of the two qualifiers of a transaction id.
 #[tactic(auto, using(crate::proofs::Sizes::element_length))]
 pub fn qualifiers_size(id: &TxnId) -> usize
-    ensures value { result ≡ length (qualifiers.spell (id.now.group, id.now.transaction)) }
+    ensures value { result ≡ length (qualifiers.encode (id.now.group, id.now.transaction)) }
     ensures most { result ≤ 132 }
 {
     element_size(id.group().len()) + element_size(id.transaction().len())
@@ -97,7 +97,7 @@ const VERSION_SIZE: usize = 3;
 /// Returns the number of bytes of the further fields of `body`.
 #[tactic(auto, using(crate::proofs::Sizes::element_length, crate::proofs::Sizes::date_length, crate::proofs::Sizes::code_length))]
 fn body_size(body: &Body) -> usize
-    ensures value { result ≡ length (spell_body body.now) }
+    ensures value { result ≡ length (encode_body body.now) }
     ensures most { result ≤ 213 }
 {
     match body {
@@ -129,7 +129,7 @@ const CODE_SIZE: usize = 3;
 /// Returns the number of bytes of the element of a date, or 0 if there is no date.
 #[tactic(auto, unfolding(crate::specs::Format::element, crate::specs::Format::length_octets))]
 fn optional_date_size(day: Option<Day>) -> usize
-    ensures value { result ≡ length ((optional 0x85 date).spell day) }
+    ensures value { result ≡ length ((optional 0x85 date).encode day) }
     ensures most { result ≤ 10 }
 {
     match day {

@@ -2,7 +2,7 @@
 
 ghost use Rattle.std.specs.Prelude.{◌≡◌, ◌+◌, ◌≤◌, length, IfErr};
 ghost use Rattle.ill_der.specs.declared.fault.WriteFault.TheVariants as faults;
-ghost use Rattle.ill_der.specs.ShortForm.{spelling};
+ghost use Rattle.ill_der.specs.ShortForm.{encoding};
 ghost use Rattle.ill_der.specs.Stream.{Writes};
 
 use crate::counted::CountedWrite;
@@ -20,7 +20,7 @@ use std::sync::ledger::{Blank, Ledger};
 ///
 /// It makes at most 359 writes. A write that takes no byte counts as a failure.
 pub fn write_apdu<W: Write>(alloc: Global, writer: &mut W, apdu: &Apdu) -> Result<(), WriteFault>
-    ensures { Writes (W.contents writer.old) (W.contents writer.new) (spelling apdu.now) result }
+    ensures { Writes (W.contents writer.old) (W.contents writer.new) (encoding apdu.now) result }
 {
     write_uncounted::<Brand, W>(alloc, writer, apdu, Blank::new(1))
 }
@@ -35,7 +35,7 @@ fn write_uncounted<L: Ledger, W: Write>(
     requires name { blank.name ≡ L.name }
     requires parts { blank.parts ≡ L.parts }
     requires one { blank.parts ≡ 1 }
-    ensures { Writes (W.contents writer.old) (W.contents writer.new) (spelling apdu.now) result }
+    ensures { Writes (W.contents writer.old) (W.contents writer.new) (encoding apdu.now) result }
 {
     write_apdu_counted(alloc, writer, apdu, &mut Steps::<L>::new(blank))
 }
@@ -48,7 +48,7 @@ pub fn write_apdu_counted<W: Write, L: Ledger>(
     steps: &mut Steps<L>,
 ) -> Result<(), WriteFault>
     ensures written { Writes (W.contents writer.old) (W.contents writer.new)
-        (spelling apdu.now) result }
+        (encoding apdu.now) result }
     ensures writes { steps.new ≤ steps.old + 359 }
 {
     let bytes = encode(alloc, apdu)?;

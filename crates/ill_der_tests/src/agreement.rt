@@ -15,16 +15,16 @@ pub fn differing_at_apdu(
     apdu: &Apdu,
     count: usize,
 ) -> Option<&'static [u8]> {
-    let Some((spelling, after)) = bytes.split_at_checked(count) else {
+    let Some((encoding, after)) = bytes.split_at_checked(count) else {
         return Some(b"decode");
     };
     if quietly(alloc, || size(apdu)) != count {
         Some(b"size")
-    } else if !is_encoded(alloc, apdu, spelling) {
+    } else if !is_encoded(alloc, apdu, encoding) {
         Some(b"encode")
-    } else if !is_added(alloc, apdu, spelling) {
+    } else if !is_added(alloc, apdu, encoding) {
         Some(b"encode_onto")
-    } else if !is_written(alloc, apdu, spelling) {
+    } else if !is_written(alloc, apdu, encoding) {
         Some(b"write_apdu")
     } else if !is_read(alloc, bytes, apdu, after) {
         Some(b"read_apdu")
@@ -33,17 +33,17 @@ pub fn differing_at_apdu(
     }
 }
 
-/// Returns true if `encode` gives the bytes `spelling`.
-fn is_encoded(alloc: Global, apdu: &Apdu, spelling: &[u8]) -> bool {
+/// Returns true if `encode` gives the bytes `encoding`.
+fn is_encoded(alloc: Global, apdu: &Apdu, encoding: &[u8]) -> bool {
     match tried(alloc, OutOfMemory, || encode(alloc, apdu)) {
-        Ok(bytes) => bytes.as_slice() == spelling,
+        Ok(bytes) => bytes.as_slice() == encoding,
         Err(_) => false,
     }
 }
 
-/// Returns true if `encode_onto` adds the bytes `spelling` at the end of a vector. Out of memory it adds a proper
+/// Returns true if `encode_onto` adds the bytes `encoding` at the end of a vector. Out of memory it adds a proper
 /// prefix of them.
-fn is_added(alloc: Global, apdu: &Apdu, spelling: &[u8]) -> bool {
+fn is_added(alloc: Global, apdu: &Apdu, encoding: &[u8]) -> bool {
     for _ in 0..marks::TRIES {
         let Ok(mut bytes) = Vec::from_slice(alloc, b"#") else {
             return false;
@@ -55,19 +55,19 @@ fn is_added(alloc: Global, apdu: &Apdu, spelling: &[u8]) -> bool {
             return false;
         };
         if !is_refused {
-            return answer.is_ok() && added == spelling;
+            return answer.is_ok() && added == encoding;
         }
-        if added == spelling || !spelling.starts_with(added) {
+        if added == encoding || !encoding.starts_with(added) {
             return false;
         }
     }
     false
 }
 
-/// Returns true if `write_apdu` writes the bytes `spelling` at the end, and nothing when memory runs out. The writer
+/// Returns true if `write_apdu` writes the bytes `encoding` at the end, and nothing when memory runs out. The writer
 /// has room for them, so that the writer itself takes no memory.
-fn is_written(alloc: Global, apdu: &Apdu, spelling: &[u8]) -> bool {
-    let Ok(mut writer) = Vec::with_capacity(alloc, spelling.len() + 1) else {
+fn is_written(alloc: Global, apdu: &Apdu, encoding: &[u8]) -> bool {
+    let Ok(mut writer) = Vec::with_capacity(alloc, encoding.len() + 1) else {
         return false;
     };
     let mut is_right = writer.push(b'#').is_ok();
@@ -76,7 +76,7 @@ fn is_written(alloc: Global, apdu: &Apdu, spelling: &[u8]) -> bool {
         write_apdu(alloc, &mut writer, apdu)
     });
     match writer.as_slice() {
-        [b'#', added @ ..] => is_right && written.is_ok() && added == spelling,
+        [b'#', added @ ..] => is_right && written.is_ok() && added == encoding,
         _ => false,
     }
 }

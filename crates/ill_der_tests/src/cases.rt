@@ -3,14 +3,14 @@
 use ill_test_kit::{Page, octet_in};
 use std::alloc::Global;
 
-/// Adds the bytes that `words` spell. A word that spells none makes `bytes` incomplete.
+/// Adds the bytes that `words` encode. A word that encodes none makes `bytes` incomplete.
 pub fn push_bytes(alloc: Global, bytes: &mut Page, words: &str) {
     for word in words.split_ascii_whitespace() {
         push_word(alloc, bytes, word);
     }
 }
 
-/// Adds the bytes that `word` spells, as often as it says.
+/// Adds the bytes that `word` encodes, as often as it says.
 fn push_word(alloc: Global, bytes: &mut Page, word: &str) {
     let (text, count) = word.split_once("*").unwrap_or((word, "1"));
     match octet_in(count) {

@@ -83,7 +83,7 @@ pub fn push_new_day(alloc: Global, output: &mut Page, words: &str) {
     }
 }
 
-/// Returns the year, month and day that `words` spell.
+/// Returns the year, month and day that `words` encode.
 fn numbers_in(words: &str) -> Option<(u16, u8, u8)> {
     let (year, rest) = words.split_once(" ")?;
     let (month, day) = rest.split_once(" ")?;

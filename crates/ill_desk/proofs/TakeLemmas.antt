@@ -144,7 +144,7 @@ module _ {S : Type 0} (Holds : S → Type 0) (handles : Handles S ToolFault)
         bytes = is.bytes;
         ahead = is.ahead;
         last = is.last;
-        spelled = is.spelled;
+        encoded = is.encoded;
         most = is.most;
         few = is.few;
         read = is.read;

@@ -18,7 +18,7 @@ abbrev pub deed_on : Option Date → List (List ℕ) → Option Action
 deed_on None words = None
 deed_on (Some today) words = option_map (λ deed. Deed deed today) (deed_of (Some today) words)
 
--- Returns the action that `words` name for this role. They are spelled as after the side in a line of a
+-- Returns the action that `words` name for this role. They are encoded as after the side in a line of a
 -- script.
 abbrev pub action_for : Role → Option Date → List (List ℕ) → Option Action
 action_for Requester today words = option_map Wish (wish_of words)

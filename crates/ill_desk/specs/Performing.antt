@@ -66,7 +66,7 @@ with_sides old live = record old { live = live }
 abbrev pub saved : {L K : Type 0} → Effects L K → HeldAndLanded L → HeldAndLanded L
 saved effects old = record {
   live = effects.saves old.live;
-  landed = option_map (λ _. Some (effects.spelling old.live)) old.landed;
+  landed = option_map (λ _. Some (effects.encoding old.live)) old.landed;
 }
 
 -- A failed save leads from `old` to `new`. The desk holds its sides, and its store has the old record or the

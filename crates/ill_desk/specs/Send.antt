@@ -2,7 +2,7 @@
 use Rattle.std.specs.Prelude.{◌≡◌, ℕ, nat_le, Bool, true, false, List, [], Option, None, Some, Result, Err}
 use Rattle.std.specs.Io.KnownBytes.{Appends}
 use Rattle.ill_values.specs.declared.apdu.Apdu.{Apdu}
-use Rattle.ill_der.specs.ShortForm.{spelling}
+use Rattle.ill_der.specs.ShortForm.{encoding}
 use Rattle.ill_core.specs.Issued.{message}
 use Rattle.ill_saved.specs.Side.{issued_of}
 use Rattle.ill_saved.specs.Holdings.{DeskEntry}
@@ -18,7 +18,7 @@ abbrev pub WritesMessage : (text : List ℕ → List ℕ) → Option Apdu → Bo
 WritesMessage text None is_released before after result =
     (result ≡ Err (Desk NoSuchMessage)) × Appends before after []
 WritesMessage text (Some a) false before after result = (result ≡ Err (Desk NotSaved)) × Appends before after []
-WritesMessage text (Some a) true before after result = WritesText before after (text (spelling a)) result
+WritesMessage text (Some a) true before after result = WritesText before after (text (encoding a)) result
 
 -- The message `number` of the side was written as `text` makes it of its bytes, if the side is held.
 abbrev pub RunsSendAs : (text : List ℕ → List ℕ) → Option DeskEntry → ℕ → Option (List ℕ) → Option (List ℕ) →

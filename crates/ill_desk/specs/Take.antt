@@ -8,7 +8,7 @@ use Rattle.ill_text.specs.declared.fault.ToolFault.{ToolFault}
 use Rattle.ill_text.specs.declared.fault.ToolFault.TheVariants.{Desk, OutOfMemory}
 use Rattle.ill_saved.specs.declared.fault.DeskFault.TheVariants as desks
 use Rattle.ill_store.specs.declared.store.StoreFault.TheVariants.{Failed}
-use Rattle.ill_der.specs.ShortForm.{spelling}
+use Rattle.ill_der.specs.ShortForm.{encoding}
 use Rattle.ill_der.specs.Handling.{Handles}
 use Rattle.ill_text.specs.Input.{ReadsInput}
 use Rattle.ill_saved.specs.Holdings.{Effects, IsReadAgain, WantsMemory}
@@ -31,7 +31,7 @@ TakesAndSaves effects old a result new =
 
 -- Returns the bytes to keep of a message: its encoding if messages are kept, else nothing.
 abbrev pub kept_text : Bool → Apdu → List ℕ
-kept_text true a = spelling a
+kept_text true a = encoding a
 kept_text false a = []
 
 -- The kept bytes grew from `before` to `after` by `text`. If a write failed, which counts as a failure of the

@@ -1,7 +1,7 @@
 //! The command `new`.
 
 ghost use Rattle.std.specs.Prelude.{◌≡◌, codes, IfOk};
-ghost use Rattle.ill_saved.specs.RecordsV2.{sides_spelling};
+ghost use Rattle.ill_saved.specs.RecordsV2.{sides_encoding};
 ghost use Rattle.ill_saved.specs.ManySides.{sides_held, no_sides, whole_of};
 ghost use Rattle.ill_saved.specs.Desk.{answer_of, store_of};
 ghost use Rattle.ill_desk.specs.New.{RunsNew, SavesFirst, BeginsIn};
@@ -26,7 +26,7 @@ pub fn run_desk_new<S: Store, W: Write>(
     ensures runs { RunsNew (codes "done\n") (W.contents writer.old) (W.contents writer.new)
         (answer_of result) }
     ensures begins { IfOk result (λ desk. desk.live ≡ no_sides role) }
-    ensures store { BeginsIn (sides_spelling (sides_held (no_sides role))) (S.state store) (answer_of result)
+    ensures store { BeginsIn (sides_encoding (sides_held (no_sides role))) (S.state store) (answer_of result)
         (S.state (store_of result)) }
 {
     match Desk::create(alloc, store, role) {
@@ -46,7 +46,7 @@ fn save_first<S: Store, W: Write>(
 ) -> Result<(), ToolFault>
     ensures runs { RunsNew (codes "done\n") (W.contents writer.old) (W.contents writer.new) result }
     ensures live { IfOk result (λ _. desk.new.live ≡ whole_of (sides_held desk.old.live)) }
-    ensures store { SavesFirst (sides_spelling (sides_held desk.old.live)) (S.state desk.old.store) result
+    ensures store { SavesFirst (sides_encoding (sides_held desk.old.live)) (S.state desk.old.store) result
         (S.state desk.new.store) }
 {
     match desk.save(alloc) {

@@ -1,7 +1,7 @@
 //! The command `take`.
 
 ghost use Rattle.std.specs.Prelude.{◌≡◌, None, true};
-ghost use Rattle.ill_der.specs.ShortForm.{spelling};
+ghost use Rattle.ill_der.specs.ShortForm.{encoding};
 ghost use Rattle.ill_saved.specs.OneSide.{one_side};
 ghost use Rattle.ill_saved.specs.ManySides.{many_sides};
 ghost use Rattle.ill_desk.specs.Performing.{command_state, view_of, with_input, with_kept};
@@ -265,7 +265,7 @@ fn keep_and_save<H: Holdings, S: Store, F: Write>(
 
 /// Keeps the message `apdu`: its bytes are written and flushed.
 fn keep<F: Write>(alloc: Global, came: &mut F, apdu: &Apdu) -> Result<(), ToolFault>
-    ensures { KeepsPrefix (spelling apdu.now) (F.contents came.old) (F.contents came.new) result }
+    ensures { KeepsPrefix (encoding apdu.now) (F.contents came.old) (F.contents came.new) result }
 {
     let bytes = encode(alloc, apdu)?;
     keep_bytes(came, &bytes)

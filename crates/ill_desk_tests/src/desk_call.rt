@@ -19,7 +19,7 @@ pub struct DeskCall<'a> {
 }
 
 impl<'a> DeskCall<'a> {
-    /// Returns the call that `phrase` spells.
+    /// Returns the call that `phrase` encodes.
     pub fn of(alloc: Global, phrase: Phrase<'a>) -> Option<DeskCall<'a>> {
         Some(DeskCall {
             base: Call::of(alloc, phrase)?,

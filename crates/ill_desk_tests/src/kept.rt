@@ -27,7 +27,7 @@ const WAITING: usize = 2;
 
 /// Sides that are kept in a store. A function returns `None` if its words are no call, or its engine is only for desks.
 pub trait Kept {
-    /// Performs the action that the words spell, by its engine.
+    /// Performs the action that the words encode, by its engine.
     fn act(&mut self, alloc: Global, call: &mut Call<'_>) -> Option<Result<bool, ToolFault>>;
 
     /// Takes the APDUs of the input, by the engine. At a desk it prints long lines with `--long`, and keeps each message

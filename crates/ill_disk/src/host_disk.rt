@@ -265,7 +265,7 @@ fn folder_of(path: &str) -> &str
     }
 }
 
-/// Returns the path that these bytes spell.
+/// Returns the path that these bytes encode.
 fn path_of(path: &[u8]) -> io::Result<&str> {
     match str::from_utf8(path) {
         Ok(path) => Ok(path),

@@ -101,7 +101,7 @@ words_if false words = None
 abbrev pub note_words_of : Found → Option (List (List ℕ))
 note_words_of found = texts_of NoteWords found >>= λ words. words_if (is_note (note_text words)) words
 
--- Returns the day that an optional word spells, with hyphens or without. It is Some None without a word, and None if the
+-- Returns the day that an optional word encodes, with hyphens or without. It is Some None without a word, and None if the
 -- word is no day.
 abbrev pub day_said : Option (List ℕ) → Option (Option Date)
 day_said None = Some None
@@ -111,7 +111,7 @@ day_said (Some word) = option_map Some (day_of_text word)
 abbrev pub day_in : Argument → Found → Option (Option Date)
 day_in argument found = day_said (text_of argument found)
 
--- Returns the name that an optional word spells. It is Some None without a word, and None if the word is no name. None too
+-- Returns the name that an optional word encodes. It is Some None without a word, and None if the word is no name. None too
 -- if a name is given without a day.
 abbrev pub name_said : (has_day : Bool) → Option (List ℕ) → Option (Option (List ℕ))
 name_said has_day None = Some None
@@ -163,7 +163,7 @@ state_said (Some word) = option_map Some (state_named word)
 abbrev pub state_in : Found → Option (Option State)
 state_in found = state_said (text_of InState found)
 
--- Returns the number that an optional word spells, from 1 to 255. It is Some None without a word, and None if the word is
+-- Returns the number that an optional word encodes, from 1 to 255. It is Some None without a word, and None if the word is
 -- no number.
 abbrev pub number_said : Option (List ℕ) → Option (Option ℕ)
 number_said None = Some None
@@ -191,7 +191,7 @@ abbrev pub which_of : Found → Which
 which_of found =
     if is_set Mine found then loans.Mine else (if is_set Open found then loans.Open else loans.All)
 
--- Returns the number of days that an optional word spells, from 1 to 255. It is `SOON` without a word.
+-- Returns the number of days that an optional word encodes, from 1 to 255. It is `SOON` without a word.
 abbrev pub days_said : Option (List ℕ) → Option ℕ
 days_said None = Some SOON
 days_said (Some word) = number_of word

@@ -1,7 +1,7 @@
 -- These are nights that no rooms may have. By the laws the definitions of `Rooms` exclude them all.
 use Rattle.std.specs.Prelude.{◌≡◌, ℕ, true, List, Some, Result, Ok}
 use Rattle.ill_saved.specs.ManySides.{DeskContents, sides_held}
-use Rattle.ill_saved.specs.RecordsV2.{sides_spelling}
+use Rattle.ill_saved.specs.RecordsV2.{sides_encoding}
 use Rattle.ill_text.specs.declared.fault.ToolFault.{ToolFault}
 use Rattle.ill_desk.specs.Performing.{HeldAndLanded}
 use Rattle.ill_night.specs.declared.verdict.Mail.{Mail}
@@ -21,7 +21,7 @@ pub data IsBadTaking (mails : List Mail) (desk : HeldAndLanded DeskContents) (ol
 pub data IsBadSending {M : Type 0} (Puts : Putting M) (asked : List ℕ) (desk : DeskContents) (old new : OutState M)
     : Type 0 where
   uncopied : old.backup.is_honest ≡ true → new.backup.keeps_copy ≡ true →
-      (new.backup.copied ≡ Some (sides_spelling (sides_held desk)) → ⊥) → (new.out ≡ old.out → ⊥) →
+      (new.backup.copied ≡ Some (sides_encoding (sides_held desk)) → ⊥) → (new.out ≡ old.out → ⊥) →
       IsBadSending Puts asked desk old new
   signed_early : old.backup.is_honest ≡ true → (new.backup.signs ≡ old.backup.signs → ⊥) →
       ((count : ℕ) → RunsOutbox Puts asked desk.held old.out new.out (Ok count) → ⊥) →

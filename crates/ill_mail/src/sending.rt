@@ -99,14 +99,14 @@ fn put_sealed_words<O: Outgoing>(
         key,
         sender: own_sender(Role::Responder),
     };
-    match spelled(alloc, words) {
+    match encoded(alloc, words) {
         Ok(messages) => put_sealed(alloc, seal, &messages, out),
         Err(_) => Err(ToolFault::OutOfMemory),
     }
 }
 
 /// Returns the bytes of each of `words`.
-fn spelled(alloc: Global, words: &[Apdu]) -> Result<Vec<Vec<u8>>, OutOfMemory> {
+fn encoded(alloc: Global, words: &[Apdu]) -> Result<Vec<Vec<u8>>, OutOfMemory> {
     let mut messages = Vec::new(alloc);
     for word in words {
         messages.push(encode(alloc, word)?)?;

@@ -5,7 +5,7 @@ use Rattle.ill_saved.specs.declared.fault.RecordFault.{RecordFault}
 use Rattle.ill_saved.specs.declared.side.Side.{Side}
 use Rattle.ill_saved.specs.Side.{issued_of, txn_of, IsPrefix}
 use Rattle.ill_saved.specs.Sides.{SidesOf, side_with}
-use Rattle.ill_saved.specs.RecordsV2.{records_at, sides_spelling}
+use Rattle.ill_saved.specs.RecordsV2.{records_at, sides_encoding}
 use Rattle.ill_text.specs.declared.fault.ToolFault.{ToolFault}
 use Rattle.ill_night.specs.declared.copy.Copied.{Copied}
 use Rattle.ill_night.specs.declared.copy.Copied.TheVariants.{Done, HasMore, NoRecord}
@@ -48,6 +48,6 @@ ReplacesKnown own (Some content) result = Replaces own content result
 -- A copy of `own` leads from the content `old` of a store to `new`. If `own` extends the record there, or if there
 -- is none, it is replaced. Else the store keeps its content. Or the copy failed.
 abbrev pub CopiesOver : SidesOf → Option (Option (List ℕ)) → Result Copied ToolFault → Option (Option (List ℕ)) → Type 0
-CopiesOver own old (Ok Done) new = ReplacesKnown own old Done × Copies (sides_spelling own) old (Ok tt) new
+CopiesOver own old (Ok Done) new = ReplacesKnown own old Done × Copies (sides_encoding own) old (Ok tt) new
 CopiesOver own old (Ok kept) new = ReplacesKnown own old kept × (new ≡ old)
-CopiesOver own old (Err fault) new = Copies (sides_spelling own) old (Err fault) new
+CopiesOver own old (Err fault) new = Copies (sides_encoding own) old (Err fault) new

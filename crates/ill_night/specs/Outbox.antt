@@ -9,7 +9,7 @@ use Rattle.sha2.specs.Sha256.{sha256}
 use Rattle.hex.specs.Hex.{encode_lower}
 use Rattle.ill_values.specs.TxnId.{Qualifiers}
 use Rattle.ill_values.specs.declared.apdu.Apdu.{Apdu}
-use Rattle.ill_der.specs.ShortForm.{spelling}
+use Rattle.ill_der.specs.ShortForm.{encoding}
 use Rattle.ill_core.specs.Issued.{is_same_txn}
 use Rattle.ill_saved.specs.declared.role.Role.{Role}
 use Rattle.ill_saved.specs.declared.side.Side.{Side}
@@ -95,7 +95,7 @@ mail_name role txn number = loan_stem role txn ++ (codes "-" ++ three_digits num
 abbrev pub letter_of : Issue → Letter
 letter_of issue = record {
   name = mail_name (role_of issue.side) (txn_of issue.side) issue.apdu.number;
-  bytes = spelling issue.apdu;
+  bytes = encoding issue.apdu;
 }
 
 -- Returns the mails that leave a desk, given the messages that ask.

@@ -8,7 +8,7 @@ use Rattle.ill_saved.specs.declared.side.Side.TheVariants as sides
 use Rattle.ill_words.specs.Sending.{is_over}
 use Rattle.ill_text.specs.declared.fault.ToolFault.{ToolFault}
 use Rattle.ill_text.specs.declared.fault.ToolFault.TheVariants.{OutOfMemory}
-use Rattle.ill_der.specs.ShortForm.{spelling}
+use Rattle.ill_der.specs.ShortForm.{encoding}
 use Rattle.ill_night.specs.Copy.{Copies}
 
 -- Returns true if all loans of a desk are over.
@@ -24,7 +24,7 @@ last_word (sides.Responder y) = message y.issued (length y.issued)
 -- Returns the bytes of a message, if there is one.
 abbrev pub word_bytes : Option Apdu → List ℕ
 word_bytes None = []
-word_bytes (Some a) = spelling a
+word_bytes (Some a) = encoding a
 
 -- Returns the bytes of the last words of some sides, one after another.
 abbrev pub last_words : List Side → List ℕ

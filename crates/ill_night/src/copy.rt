@@ -3,7 +3,7 @@
 ghost use Rattle.std.specs.Prelude.{◌≡◌, ◌≤◌, All, Decides, Ok, map, IfErr, IfOk, OnOk};
 ghost use Rattle.ill_saved.specs.Side.{issued_of, IsPrefix};
 ghost use Rattle.ill_saved.specs.ManySides.{sides_held};
-ghost use Rattle.ill_saved.specs.RecordsV2.{records_at, sides_spelling};
+ghost use Rattle.ill_saved.specs.RecordsV2.{records_at, sides_encoding};
 ghost use Rattle.ill_text.specs.Fault.{CountsToolFailure, IsFileFault};
 ghost use Rattle.ill_desk.specs.Performing.{known};
 ghost use Rattle.ill_text.specs.declared.fault.ToolFault.TheVariants.{OutOfMemory};
@@ -134,9 +134,9 @@ pub fn run_desk_copy<S: Store, C: Store>(
     desk: &Desk<S>,
     copy: &mut C,
 ) -> Result<(), ToolFault>
-    ensures copies { Copies (sides_spelling (sides_held desk.now.live))
+    ensures copies { Copies (sides_encoding (sides_held desk.now.live))
         (known (C.state copy.old)) result (known (C.state copy.new)) }
-    ensures again { OnOk result (records_at (sides_spelling (sides_held desk.now.live))
+    ensures again { OnOk result (records_at (sides_encoding (sides_held desk.now.live))
         ≡ Ok (sides_held desk.now.live)) }
     ensures counted { CountsToolFailure result (C.state copy.old).failures (C.state copy.new).failures }
 {

@@ -13,7 +13,7 @@ use Rattle.ill_values.specs.Apdu.{IsApdu}
 use Rattle.ill_der.specs.declared.fault.DerFault.{DerFault}
 use Rattle.ill_der.specs.Feed.{FeedState, Leaves}
 use Rattle.ill_der.specs.Laws.{BeginsWithOne, IsBytes}
-use Rattle.ill_der.specs.ShortForm.{apdu_at, header_at, outer_at, spelling}
+use Rattle.ill_der.specs.ShortForm.{apdu_at, header_at, outer_at, encoding}
 use Rattle.ill_der.proofs.FeedLemmas.{all_join}
 use Rattle.ill_core.specs.Issued.{is_none, is_same_txn}
 use Rattle.ill_saved.specs.declared.role.Role.TheVariants as who
@@ -44,7 +44,7 @@ PrefixOrFault = (bytes : List ℕ) → IsBytes bytes → BeginsWithOne bytes (ap
 
 -- Each message is read again, whatever bytes follow.
 abbrev pub ReadsAgain : Type 0
-ReadsAgain = (apdu : Apdu) (rest : List ℕ) → IsApdu apdu → apdu_at (spelling apdu ++ rest) ≡ Ok (apdu, rest)
+ReadsAgain = (apdu : Apdu) (rest : List ℕ) → IsApdu apdu → apdu_at (encoding apdu ++ rest) ≡ Ok (apdu, rest)
 
 -- If bytes are just one message, they are read as it, with nothing after it.
 one_found : (a : Apdu) (result : Result (Apdu × List ℕ) DerFault) → one_message result ≡ Ok a → result ≡ Ok (a, [])
@@ -59,44 +59,44 @@ mail_found a true result is = absurd cc
 mail_found a false result is = one_found a result is
 
 -- The bytes of a mail that is just one message are the encoding of the message.
-mail_spells : PrefixOrFault → (bytes : List ℕ) (a : Apdu) → IsBytes bytes → message_in bytes ≡ Ok a
-    → IsApdu a × (bytes ≡ spelling a ++ [])
-mail_spells prefix bytes a are is =
+mail_encodes : PrefixOrFault → (bytes : List ℕ) (a : Apdu) → IsBytes bytes → message_in bytes ≡ Ok a
+    → IsApdu a × (bytes ≡ encoding a ++ [])
+mail_encodes prefix bytes a are is =
     (subst (BeginsWithOne bytes) (mail_found a (nat_lt 359 (length bytes)) (apdu_at bytes) is) (prefix bytes are)).0
 
 -- ---- one reading
 
 -- Encodings are read as their messages, and as no others.
 one_reading : ReadsAgain → (apdus asking : List Apdu) (rest : List ℕ) (new : FeedState) → AllByRecursion IsApdu apdus
-    → AllByRecursion IsApdu asking → flat_map spelling apdus ≡ flat_map spelling asking ++ rest → Leaves rest new
+    → AllByRecursion IsApdu asking → flat_map encoding apdus ≡ flat_map encoding asking ++ rest → Leaves rest new
     → asking ≡ apdus
 unfolding apdu_at outer_at header_at
-one_reading again [] [] rest new all spelled parts leaves = refl
-one_reading again [] (b ∷ asking) rest new all spelled parts leaves =
-    absurd (never b (flat_map spelling asking) rest spelled.0 parts)
+one_reading again [] [] rest new all encoded parts leaves = refl
+one_reading again [] (b ∷ asking) rest new all encoded parts leaves =
+    absurd (never b (flat_map encoding asking) rest encoded.0 parts)
   where
-    never : (b : Apdu) (more rest : List ℕ) → IsApdu b → [] ≡ (spelling b ++ more) ++ rest → ⊥
+    never : (b : Apdu) (more rest : List ℕ) → IsApdu b → [] ≡ (encoding b ++ more) ++ rest → ⊥
     never b more rest is parts =
         let read : apdu_at [] ≡ Ok (b, more ++ rest) =
-        ap apdu_at (parts ∙ append_assoc (spelling b) more rest) ∙ again b (more ++ rest) is in
+        ap apdu_at (parts ∙ append_assoc (encoding b) more rest) ∙ again b (more ++ rest) is in
         absurd cc
-one_reading again (a ∷ apdus) [] rest new all spelled parts leaves =
-    absurd (never new leaves (ap apdu_at (sym parts) ∙ again a (flat_map spelling apdus) all.0))
+one_reading again (a ∷ apdus) [] rest new all encoded parts leaves =
+    absurd (never new leaves (ap apdu_at (sym parts) ∙ again a (flat_map encoding apdus) all.0))
   where
-    never : (new : FeedState) → Leaves rest new → apdu_at rest ≡ Ok (a, flat_map spelling apdus) → ⊥
+    never : (new : FeedState) → Leaves rest new → apdu_at rest ≡ Ok (a, flat_map encoding apdus) → ⊥
     never (Ok held) leaves read = absurd cc
     never (Err fault) leaves read = absurd cc
-one_reading again (a ∷ apdus) (b ∷ asking) rest new all spelled parts leaves =
-    let first = again a (flat_map spelling apdus) all.0 in
-    let second = again b (flat_map spelling asking ++ rest) spelled.0 in
-    let read : ◌≡◌ {A = Result (Apdu × List ℕ) DerFault} (Ok (a, flat_map spelling apdus))
-    (Ok (b, flat_map spelling asking ++ rest)) =
-    sym first ∙ ap apdu_at (parts ∙ append_assoc (spelling b) (flat_map spelling asking) rest) ∙ second in
-    let pairs : ◌≡◌ {A = Apdu × List ℕ} (a, flat_map spelling apdus) (b, flat_map spelling asking ++ rest) = cc in
+one_reading again (a ∷ apdus) (b ∷ asking) rest new all encoded parts leaves =
+    let first = again a (flat_map encoding apdus) all.0 in
+    let second = again b (flat_map encoding asking ++ rest) encoded.0 in
+    let read : ◌≡◌ {A = Result (Apdu × List ℕ) DerFault} (Ok (a, flat_map encoding apdus))
+    (Ok (b, flat_map encoding asking ++ rest)) =
+    sym first ∙ ap apdu_at (parts ∙ append_assoc (encoding b) (flat_map encoding asking) rest) ∙ second in
+    let pairs : ◌≡◌ {A = Apdu × List ℕ} (a, flat_map encoding apdus) (b, flat_map encoding asking ++ rest) = cc in
     let same : a ≡ b = ap (λ (pair : Apdu × List ℕ). pair.0) pairs in
-    let more : flat_map spelling apdus ≡ flat_map spelling asking ++ rest = ap (λ (pair : Apdu × List ℕ). pair.1) pairs in
+    let more : flat_map encoding apdus ≡ flat_map encoding asking ++ rest = ap (λ (pair : Apdu × List ℕ). pair.1) pairs in
     ap (λ (c : Apdu). c ∷ asking) (sym same)
-    ∙ ap (λ apdus. a ∷ apdus) (one_reading again apdus asking rest new all.1 spelled.1 more leaves)
+    ∙ ap (λ apdus. a ∷ apdus) (one_reading again apdus asking rest new all.1 encoded.1 more leaves)
 
 -- ---- the mails that ask
 
@@ -115,45 +115,45 @@ module _ (live : DeskContents) where
   asks_all mails verdicts = flat_map (λ mail. asks_of mail.0 mail.1) (zip mails verdicts)
 
   -- Bytes are the encodings of messages in range.
-  abbrev Spell : List ℕ → List Apdu → Type 0
-  Spell bytes apdus = (bytes ≡ flat_map spelling apdus) × AllByRecursion IsApdu apdus
+  abbrev Encode : List ℕ → List Apdu → Type 0
+  Encode bytes apdus = (bytes ≡ flat_map encoding apdus) × AllByRecursion IsApdu apdus
 
   module _ (prefix : PrefixOrFault) where
     -- The bytes of a mail that ask are the encoding of its message, if it asks.
-    found_spells : (bytes : List ℕ) (found : Result Apdu Unfit) → IsBytes bytes → message_in bytes ≡ found
-        → Spell (asking_bytes live bytes found) (filter of_over (message_if found))
-    found_spells bytes (Err unfit) are is = (refl, tt)
-    found_spells bytes (Ok a) are is = go (of_over a)
+    found_encodes : (bytes : List ℕ) (found : Result Apdu Unfit) → IsBytes bytes → message_in bytes ≡ found
+        → Encode (asking_bytes live bytes found) (filter of_over (message_if found))
+    found_encodes bytes (Err unfit) are is = (refl, tt)
+    found_encodes bytes (Ok a) are is = go (of_over a)
       where
-        go : (over : Bool) → Spell (if over then bytes else []) (cond over (a ∷ []) [])
-        go true = let spells = mail_spells prefix bytes a are is in (spells.1, (spells.0, tt))
+        go : (over : Bool) → Encode (if over then bytes else []) (cond over (a ∷ []) [])
+        go true = let encodes = mail_encodes prefix bytes a are is in (encodes.1, (encodes.0, tt))
         go false = (refl, tt)
 
     -- The same holds of a mail that could be read.
-    read_spells : (bytes : Option (List ℕ)) → IsBytesOf bytes
-        → Spell (asking_bytes_if_read live bytes) (filter of_over (message_if_read bytes))
-    read_spells None are = (refl, tt)
-    read_spells (Some bytes) are = found_spells bytes (message_in bytes) are refl
+    read_encodes : (bytes : Option (List ℕ)) → IsBytesOf bytes
+        → Encode (asking_bytes_if_read live bytes) (filter of_over (message_if_read bytes))
+    read_encodes None are = (refl, tt)
+    read_encodes (Some bytes) are = found_encodes bytes (message_in bytes) are refl
 
     -- The bytes of a mail that ask, by its verdict, are the encoding of its message, if it asks.
-    mail_spells_asks : (mail : Mail) (verdict : Verdict) → IsBytesOf (option_map (λ bytes. bytes.items) mail.bytes)
-        → Spell (asking_bytes_of_mail live mail verdict) (asks_of mail verdict)
-    mail_spells_asks mail (Done outcome) are = read_spells (option_map (λ bytes. bytes.items) mail.bytes) are
-    mail_spells_asks mail (Aside unfit) are = (refl, tt)
-    mail_spells_asks mail (Left delay) are = (refl, tt)
+    mail_encodes_asks : (mail : Mail) (verdict : Verdict) → IsBytesOf (option_map (λ bytes. bytes.items) mail.bytes)
+        → Encode (asking_bytes_of_mail live mail verdict) (asks_of mail verdict)
+    mail_encodes_asks mail (Done outcome) are = read_encodes (option_map (λ bytes. bytes.items) mail.bytes) are
+    mail_encodes_asks mail (Aside unfit) are = (refl, tt)
+    mail_encodes_asks mail (Left delay) are = (refl, tt)
 
     -- The bytes of all mails that ask are the encodings of the messages that ask.
-    all_spell : (mails : List Mail) (verdicts : List Verdict) → AreBytes mails
-        → Spell (asked_by live (zip mails verdicts)) (asks_all mails verdicts)
+    all_encode : (mails : List Mail) (verdicts : List Verdict) → AreBytes mails
+        → Encode (asked_by live (zip mails verdicts)) (asks_all mails verdicts)
     unfolding Each
-    all_spell [] verdicts are = (refl, tt)
-    all_spell (mail ∷ mails) [] are = (refl, tt)
-    all_spell (mail ∷ mails) (verdict ∷ verdicts) are =
-        let first = mail_spells_asks mail verdict are.0 in
-        let more = all_spell mails verdicts are.1 in (
+    all_encode [] verdicts are = (refl, tt)
+    all_encode (mail ∷ mails) [] are = (refl, tt)
+    all_encode (mail ∷ mails) (verdict ∷ verdicts) are =
+        let first = mail_encodes_asks mail verdict are.0 in
+        let more = all_encode mails verdicts are.1 in (
           ap (λ bytes. bytes ++ asked_by live (zip mails verdicts)) first.0
-              ∙ ap (λ bytes. flat_map spelling (asks_of mail verdict) ++ bytes) more.0
-              ∙ sym (flat_map-append spelling (asks_of mail verdict) (asks_all mails verdicts)),
+              ∙ ap (λ bytes. flat_map encoding (asks_of mail verdict) ++ bytes) more.0
+              ∙ sym (flat_map-append encoding (asks_of mail verdict) (asks_all mails verdicts)),
           all_join (asks_of mail verdict) (asks_all mails verdicts) first.1 more.1,
         )
 
@@ -266,8 +266,8 @@ pub asks_right : PrefixOrFault → ReadsAgain → (live : DeskContents) → live
     → AreIn (asked_by live (zip mails verdicts)) asking → is_over (held_for txn live).side ≡ true
     → not (is_asked asking txn) ≡ is_none (messages_for txn (messages_of mails))
 asks_right prefix again live role txn mails verdicts asking are done came over =
-    let spells = all_spell live prefix mails verdicts are in
+    let encodes = all_encode live prefix mails verdicts are in
     let same : asking ≡ asks_all live mails verdicts =
-    one_reading again (asks_all live mails verdicts) asking came.1.0 came.0 spells.1 came.1.1.spelled
-    (sym spells.0 ∙ came.1.1.parts) came.1.2 in
+    one_reading again (asks_all live mails verdicts) asking came.1.0 came.0 encodes.1 came.1.1.encoded
+    (sym encodes.0 ∙ came.1.1.parts) came.1.2 in
     ap (λ apdus. not (is_asked apdus txn)) same ∙ mails_ask live txn (held_over live role txn over) mails verdicts done

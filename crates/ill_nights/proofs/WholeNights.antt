@@ -20,7 +20,7 @@ use Rattle.ill_nights.specs.Nights.{IsNight}
 -- No bytes hold no message.
 none_in : AreIn [] []
 unfolding apdu_at outer_at header_at
-none_in = (Ok [], ([], record { spelled = tt; parts = refl }, (refl, refl)))
+none_in = (Ok [], ([], record { encoded = tt; parts = refl }, (refl, refl)))
 
 -- A night without mails.
 abbrev no_mails : Night

@@ -25,7 +25,7 @@ use Rattle.ill_saved.specs.declared.side.Side.TheVariants as sides
 use Rattle.ill_saved.specs.declared.side.Action.{Action}
 use Rattle.ill_saved.specs.declared.side.Action.TheVariants as actions
 use Rattle.ill_saved.specs.Side.{acts, done_by, issued_of}
-use Rattle.ill_saved.specs.Records.{record_spelling}
+use Rattle.ill_saved.specs.Records.{record_encoding}
 use Rattle.ill_post.specs.Stamp.{side_stamp}
 
 -- The rests of equal texts are equal, if their fronts have one length.
@@ -41,8 +41,8 @@ text_size bytes = length-encode_with lower_digits (sha256 bytes) ∙ ap (λ n. 2
 pub new_is_no_stamp : (side : Side) → codes "new" ≡ side_stamp side → ⊥
 unfolding side_stamp
 new_is_no_stamp side e =
-    let size = text_size (record_spelling side) in
-    let sizes = ap length e ∙ length-append (encode_lower (sha256 (record_spelling side))) _ in
+    let size = text_size (record_encoding side) in
+    let sizes = ap length e ∙ length-append (encode_lower (sha256 (record_encoding side))) _ in
     omega (arith, sizes, size)
 
 -- Two stamps that are equal count the same number of messages.
@@ -52,7 +52,7 @@ unfolding side_stamp
 same_count s t few-s few-t e =
     decimal_injective _ _ (omega (arith, few-s)) (omega (arith, few-t))
     (append_cancel_left (codes "-") _ _
-    (same_rest _ _ _ _ (text_size (record_spelling s) ∙ sym (text_size (record_spelling t))) e))
+    (same_rest _ _ _ _ (text_size (record_encoding s) ∙ sym (text_size (record_encoding t))) e))
 
 -- The laws of actions: each issues one message, and none is beyond the 255th.
 pub record Rows : Type 0 where

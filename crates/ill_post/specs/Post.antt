@@ -52,7 +52,7 @@ IsFreshness form live (Err fault) = fault ≡ OutOfMemory
 abbrev pub SavesAfter : Result (Unit {0}) DeskFault → DeskState → Result (Unit {0}) DeskFault → DeskState → Type 0
 SavesAfter (Ok done) between result new =
     (new.live ≡ held_after many_sides result between.live)
-    × DeskSaves (many_sides.spelling between.live) between.store result new.store
+    × DeskSaves (many_sides.encoding between.live) between.store result new.store
 SavesAfter (Err fault) between result new = (result ≡ Err fault) × (new ≡ between)
 
 -- The action was performed in the loan of `txn`, and saved if it was done.

@@ -5,12 +5,12 @@ use Rattle.sha2.specs.Sha256.{sha256}
 use Rattle.hex.specs.Hex.{encode_lower}
 use Rattle.ill_saved.specs.declared.side.Side.{Side}
 use Rattle.ill_saved.specs.Side.{issued_of}
-use Rattle.ill_saved.specs.Records.{record_spelling}
+use Rattle.ill_saved.specs.Records.{record_encoding}
 
 -- Returns the stamp of a loan that is held: the digest of its record, and the number of its messages.
 unfoldable pub side_stamp : Side → List ℕ
 side_stamp side =
-    encode_lower (sha256 (record_spelling side)) ++ (codes "-" ++ decimal (length (issued_of side)))
+    encode_lower (sha256 (record_encoding side)) ++ (codes "-" ++ decimal (length (issued_of side)))
 
 -- Returns the stamp of a loan, which may be one that the desk does not hold.
 abbrev pub stamp_of : Option Side → List ℕ

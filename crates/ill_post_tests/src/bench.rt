@@ -109,7 +109,7 @@ fn tell_faults(page: &mut Page, tries: &[Visit<'_>], whole: &Visit<'_>) {
     }
 }
 
-/// Performs the action that `words` spell.
+/// Performs the action that `words` encode.
 fn act(
     alloc: Global,
     desk: &mut Desk<MemoryStore>,

@@ -15,7 +15,7 @@ pub fn txn_before(alloc: Global, words: &[Word]) -> Option<(TxnId, &[Word])> {
     Some((TxnId::new(alloc, group, transaction).ok()?, others))
 }
 
-/// Returns the action that `words` spell: a deed after its day, or a wish.
+/// Returns the action that `words` encode: a deed after its day, or a wish.
 pub fn action(alloc: Global, words: &[Word]) -> Option<Action> {
     let (first, others) = words.split_first()?;
     match Day::read(first.text.as_bytes()) {

@@ -109,7 +109,7 @@ impl<'a> Visit<'a> {
     }
 }
 
-/// Sends the form that `words` spell to `desk`. Returns its answer, and true if the diary says that it has failed.
+/// Sends the form that `words` encode to `desk`. Returns its answer, and true if the diary says that it has failed.
 fn send(
     alloc: Global,
     desk: &mut Desk<MemoryStore>,

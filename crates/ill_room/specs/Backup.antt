@@ -1,7 +1,7 @@
 -- What a night keeps beside its mail: a copy of the desk, and a sign of life (this profile's own).
 use Rattle.std.specs.Prelude.{◌≡◌, ◌⊎◌, ℕ, suc, Bool, false, if◌then◌else◌, List, Option, Some, Result, Ok, Err}
 use Rattle.ill_saved.specs.Sides.{SidesOf}
-use Rattle.ill_saved.specs.RecordsV2.{sides_spelling}
+use Rattle.ill_saved.specs.RecordsV2.{sides_encoding}
 use Rattle.ill_text.specs.declared.fault.ToolFault.{ToolFault}
 use Rattle.ill_night.specs.CopyOver.{Replaces}
 use Rattle.ill_night.specs.declared.copy.Copied.TheVariants.{Done}
@@ -26,11 +26,11 @@ pub record IsSameWish (old new : BackupState) : Type 0 where
 
 -- No copy is wanted, or the copy has the record of `own`.
 abbrev pub HasCopy : SidesOf → BackupState → Type 0
-HasCopy own state = (state.keeps_copy ≡ false) ⊎ (state.copied ≡ Some (sides_spelling own))
+HasCopy own state = (state.keeps_copy ≡ false) ⊎ (state.copied ≡ Some (sides_encoding own))
 
 -- The bytes of the copy are as before, or they are the record of `own`, which extends the copy before.
 abbrev pub MayCopy : SidesOf → Option (List ℕ) → Option (List ℕ) → Type 0
-MayCopy own before after = (after ≡ before) ⊎ (Replaces own before Done × (after ≡ Some (sides_spelling own)))
+MayCopy own before after = (after ≡ before) ⊎ (Replaces own before Done × (after ≡ Some (sides_encoding own)))
 
 -- If a copy is done, it is there.
 abbrev pub HasCopyIfDone : {A : Type 0} → SidesOf → Result A ToolFault → BackupState → Type 0

@@ -5,7 +5,7 @@ use Rattle.std.specs.Io.KnownBytes.{Appends, append_known}
 use Rattle.std.proofs.KnownBytes.{Appends-nil}
 use Rattle.ill_values.specs.Apdu.{IsApdu}
 use Rattle.ill_values.specs.declared.apdu.Apdu.{Apdu}
-use Rattle.ill_der.specs.ShortForm.{spelling}
+use Rattle.ill_der.specs.ShortForm.{encoding}
 use Rattle.ill_store.specs.declared.store.StoreFault.TheVariants.{Failed}
 use Rattle.ill_saved.specs.declared.fault.DeskFault.TheVariants as faults
 use Rattle.ill_saved.specs.Side.{other}
@@ -52,7 +52,7 @@ fails_with others before after cut = elim cut.file [
   | inr new ↦ record {
     end = record cut.now { landed = (saved many_sides cut.now).landed };
     faulted = inr (refl, cut.encoded);
-    landed = ap (λ (content : Option (Option (List ℕ))). option_map (λ _. Some (many_sides.spelling cut.now.live)) content)
+    landed = ap (λ (content : Option (Option (List ℕ))). option_map (λ _. Some (many_sides.encoding cut.now.live)) content)
         cut.landed ∙ ap (λ (file : List ℕ). Some (Some file)) (sym new);
   }
 ]
@@ -92,7 +92,7 @@ grown (Some content) bytes = refl
 grown None bytes = tt
 
 -- The command `take` is cut off as one whose save failed at the last message.
-take_cut : ((a : Apdu) → IsApdu a → length (spelling a) ≤ 359) → (others : List Apdu) (before after : Library)
+take_cut : ((a : Apdu) → IsApdu a → length (encoding a) ≤ 359) → (others : List Apdu) (before after : Library)
     (cut : IsCutInSave others before after) → TakeSaves others cut.old cut.now → IsCommand (Takes others) before after
 unfolding Each
 take_cut longest others before after cut saves =
@@ -113,10 +113,10 @@ take_cut longest others before after cut saves =
       refl,
       record {
         apdus = reached.apdus;
-        bytes = spelling a;
+        bytes = encoding a;
         ahead = [];
         last = last;
-        spelled = reached.are;
+        encoded = reached.are;
         most = reached.most;
         few = omega (arith, longest a saves.4);
         read = tt;
@@ -216,7 +216,7 @@ deeds_cut others before after cut saves =
     }
 
 -- A command in whose save the power goes is a command.
-save_is_command : ((a : Apdu) → IsApdu a → length (spelling a) ≤ 359) → (others : List Apdu) (before after : Library)
+save_is_command : ((a : Apdu) → IsApdu a → length (encoding a) ≤ 359) → (others : List Apdu) (before after : Library)
     → IsCutInSave others before after → Commands others before after
 save_is_command longest others before after cut = elim cut.saves [
   | inl acts ↦ inl (act_cut others before after cut acts)
@@ -259,7 +259,7 @@ take_stopped others before after cut last reached now =
         bytes = [];
         ahead = [];
         last = without_input last;
-        spelled = reached.are;
+        encoded = reached.are;
         most = reached.most;
         few = omega arith;
         read = tt;
@@ -413,7 +413,7 @@ sending_is_command others before after (whole, size, cut) = elim cut [
 -- ---- any moment
 
 -- A command in which the power goes is a command.
-pub cut_is_command : ((a : Apdu) → IsApdu a → length (spelling a) ≤ 359) → (others : List Apdu) (before after : Library)
+pub cut_is_command : ((a : Apdu) → IsApdu a → length (encoding a) ≤ 359) → (others : List Apdu) (before after : Library)
     → LosesPower others before after → Commands others before after
 cut_is_command longest others before after loses = elim loses [
   | inl save ↦ save_is_command longest others before after save

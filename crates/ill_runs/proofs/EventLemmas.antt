@@ -7,7 +7,7 @@ use Rattle.ill_saved.specs.declared.role.Role.{Role}
 use Rattle.ill_saved.specs.Sides.{SidesOf}
 use Rattle.ill_saved.specs.Holdings.{IsReadAgain, map_ok}
 use Rattle.ill_saved.specs.ManySides.{DeskContents, many_sides, sides_held, whole_of, desk_takes}
-use Rattle.ill_saved.specs.RecordsV2.{records_at, sides_spelling}
+use Rattle.ill_saved.specs.RecordsV2.{records_at, sides_encoding}
 use Rattle.ill_saved.proofs.Contents.{sides_of_whole}
 use Rattle.ill_text.specs.declared.fault.ToolFault.{ToolFault}
 use Rattle.ill_desk.specs.Performing.{HeldAndLanded, saved, with_sides, IsFaulted}
@@ -93,7 +93,7 @@ read_back (Err fault) all is = absurd cc
 pub landed_again : (content : Option (Option (List ℕ))) (landed : SidesOf) (live : DeskContents)
     → IsReadAs content landed → IsReadAgain many_sides live
     → IsReadAs (saved many_sides (record { live = live; landed = content })).landed (sides_held live)
-landed_again (Some (Some bytes)) landed live is again = read_back (records_at (sides_spelling (sides_held live))) _ again
+landed_again (Some (Some bytes)) landed live is again = read_back (records_at (sides_encoding (sides_held live))) _ again
 landed_again (Some None) landed live is again = absurd is
 landed_again None landed live is again = absurd is
 

@@ -8,7 +8,7 @@ use Rattle.ill_saved.specs.declared.fault.DeskFault.{DeskFault}
 use Rattle.ill_saved.specs.Desk.{DeskSaves, LeavesBeforeOr, LeavesLanded}
 use Rattle.ill_saved.specs.Holdings.{IsReadAgain, map_ok}
 use Rattle.ill_saved.specs.Sides.{SidesOf}
-use Rattle.ill_saved.specs.RecordsV2.{records_at, sides_spelling}
+use Rattle.ill_saved.specs.RecordsV2.{records_at, sides_encoding}
 use Rattle.ill_saved.specs.ManySides.{DeskContents, many_sides, sides_held, whole_of}
 use Rattle.ill_desk.specs.Performing.{HeldAndLanded, known_if}
 use Rattle.ill_world.specs.declared.event.DeskEvent.TheVariants.{Save, SaveFault, Restart}
@@ -48,11 +48,11 @@ left_read is_honest landed leaves sides left read lasts is =
 
 -- If a record is that of the sides `live`, and is read as these again, it is read as what the model's desk lands.
 pub new_read : (live held : DeskContents) (left : Option (List ℕ)) → live ≡ held → IsReadAgain many_sides live
-    → left ≡ Some (many_sides.spelling live) → IsReadAs (Some left) (sides_held held)
+    → left ≡ Some (many_sides.encoding live) → IsReadAs (Some left) (sides_held held)
 new_read live held left same again is =
     subst (λ (record_left : Option (List ℕ)). IsReadAs (Some record_left) (sides_held held)) (sym is)
-    (subst (λ (l : DeskContents). records_at (many_sides.spelling live) ≡ Ok (sides_held l)) same
-    (read_back (records_at (sides_spelling (sides_held live))) (sides_held live) again))
+    (subst (λ (l : DeskContents). records_at (many_sides.encoding live) ≡ Ok (sides_held l)) same
+    (read_back (records_at (sides_encoding (sides_held live))) (sides_held live) again))
 
 -- ---- a start
 
@@ -94,7 +94,7 @@ module _ (who : Role) (sent : List Sending) (p : DeskParty) (left : Option (List
 pub fault_starts : (is_honest : Bool) (landed : Option (List ℕ)) (leaves : Option (List ℕ) → Type 0) (live : DeskContents)
     (who : Role) (sent : List Sending) (p : DeskParty) (left : Option (List ℕ))
     → IsDesk (record { live = live; landed = known_if is_honest landed }) p → LeavesLanded landed leaves
-    → IsReadAgain many_sides live → leaves left ⊎ (left ≡ Some (many_sides.spelling live))
+    → IsReadAgain many_sides live → leaves left ⊎ (left ≡ Some (many_sides.encoding live))
     → IsFaultAndRestart who sent p left
 fault_starts is_honest landed leaves live who sent p left is lasts again either = elim either [
   | inl old ↦ old_starts who sent p left (left_read is_honest landed leaves p.landed left is.landed lasts old)
@@ -117,7 +117,7 @@ module _ (desk : HeldAndLanded DeskContents) (leaves : Option (List ℕ) → Typ
     (is : IsPoweredDesk desk leaves p) (again : IsReadAgain many_sides desk.live) where
   -- In a save the model knows each record that may be left.
   pub left_in_save : (who : Role) (landed : Bool)
-      → AreLeft (λ left. leaves left ⊎ (left ≡ Some (many_sides.spelling desk.live)))
+      → AreLeft (λ left. leaves left ⊎ (left ≡ Some (many_sides.encoding desk.live)))
       (leaves_after p.desk p.leaves (SaveFault who landed))
   unfolding IsAmong
   left_in_save who landed left either = elim either [
@@ -127,8 +127,8 @@ module _ (desk : HeldAndLanded DeskContents) (leaves : Option (List ℕ) → Typ
 
   -- After a save with any answer the model knows each record that may be left.
   pub left_after_save : (who : Role) (landed : Bool) (answer : Result (Unit {0}) DeskFault) (saved : Option (List ℕ))
-      (after : Option (List ℕ) → Type 0) → OnOk answer (saved ≡ Some (many_sides.spelling desk.live))
-      → OnOk answer (LeavesLanded saved after) → LeavesBeforeOr (Some (many_sides.spelling desk.live)) leaves after
+      (after : Option (List ℕ) → Type 0) → OnOk answer (saved ≡ Some (many_sides.encoding desk.live))
+      → OnOk answer (LeavesLanded saved after) → LeavesBeforeOr (Some (many_sides.encoding desk.live)) leaves after
       → AreLeft after (leaves_after p.desk p.leaves (save_event who landed answer))
   unfolding IsAmong
   left_after_save who landed (Ok done) saved after lands lasts either left is_left = (

@@ -29,7 +29,7 @@ pub data IsBadStart (left : Option (List ℕ)) (q : DeskParty) : Type 0 where
 -- A loss of power cannot cut off a command so.
 pub data IsBadCut {others : List Apdu} {before after : Library} (cut : IsCutInSave others before after) : Type 0 where
   -- The file has neither the old record nor the new one.
-  third_record : (after.file ≡ cut.last → ⊥) → (after.file ≡ many_sides.spelling cut.now.live → ⊥) → IsBadCut cut
+  third_record : (after.file ≡ cut.last → ⊥) → (after.file ≡ many_sides.encoding cut.now.live → ⊥) → IsBadCut cut
   -- A message has left in the save, or is forgotten.
   others_left : (after.left ≡ before.left → ⊥) → IsBadCut cut
   -- The command began from other sides than those in the file.

@@ -116,7 +116,7 @@ pub record IsCutInSave (others : List Apdu) (before after : Library) : Type 0 wh
   pub encoded : IsReadAgain many_sides now.live
   pub last : List ℕ
   pub landed : now.landed ≡ Some (Some last)
-  pub file : (after.file ≡ last) ⊎ (after.file ≡ many_sides.spelling now.live)
+  pub file : (after.file ≡ last) ⊎ (after.file ≡ many_sides.encoding now.live)
   pub left : after.left ≡ before.left
 
 -- The power goes between the saves of a command of the library `before`, or before the first one. The file has what has

@@ -10,7 +10,7 @@ use Rattle.ill_core.specs.Issued.{message}
 use Rattle.ill_saved.specs.Side.{issued_of, other}
 use Rattle.ill_saved.specs.Sides.{SidesOf}
 use Rattle.ill_saved.specs.Ranges.{Each}
-use Rattle.ill_saved.specs.RecordsV2.{records_at, sides_spelling}
+use Rattle.ill_saved.specs.RecordsV2.{records_at, sides_encoding}
 use Rattle.ill_saved.specs.ManySides.{DeskContents, many_sides, side_for}
 use Rattle.ill_text.specs.declared.fault.ToolFault.{ToolFault}
 use Rattle.ill_text.specs.declared.form.Form.{Form}
@@ -39,7 +39,7 @@ Libraries = TwoOf Library
 
 -- Returns the library of the role `who` after `ill new`: its desk holds no side, and no message has left.
 abbrev pub first_library : Role → Library
-first_library who = record { file = sides_spelling (record { role = who; sides = [] }); left = [] }
+first_library who = record { file = sides_encoding (record { role = who; sides = [] }); left = [] }
 
 -- Both libraries have just begun their desks.
 abbrev pub first_libraries : Libraries

@@ -41,22 +41,22 @@ pub fn a_loss_of_power_is_a_failed_save_and_a_restart<S: Store>(desk: &Desk<S>, 
         IsDesk (view_of S.state desk.now) p →
         LeavesLanded (S.state desk.now.store).landed (S.leaves desk.now.store) →
         IsReadAgain many_sides desk.now.live →
-        S.leaves desk.now.store left ⊎ (left ≡ Some (many_sides.spelling desk.now.live)) →
+        S.leaves desk.now.store left ⊎ (left ≡ Some (many_sides.encoding desk.now.live)) →
         IsFaultAndRestart who sent p left }
     ensures after_save { (who : Role) (sent : List Sending) (p : DeskParty) (left : Option (List ℕ)) →
         IsDesk (view_of S.state desk.now) p →
         LeavesLanded (S.state desk.now.store).landed (S.leaves desk.now.store) →
         IsReadAgain many_sides desk.now.live →
-        LeavesBeforeOr (Some (many_sides.spelling desk.now.live)) (S.leaves desk.now.store) (S.leaves after.now) →
+        LeavesBeforeOr (Some (many_sides.encoding desk.now.live)) (S.leaves desk.now.store) (S.leaves after.now) →
         S.leaves after.now left → IsFaultAndRestart who sent p left }
     ensures saved { (who : Role) (sent : List Sending) (p : DeskParty) (left : Option (List ℕ)) →
         IsDesk (view_of S.state desk.now) p → IsReadAgain many_sides desk.now.live →
-        DeskSaves (many_sides.spelling desk.now.live) (S.state desk.now.store) (Ok tt) (S.state after.now) →
+        DeskSaves (many_sides.encoding desk.now.live) (S.state desk.now.store) (Ok tt) (S.state after.now) →
         LeavesLanded (S.state after.now).landed (S.leaves after.now) → S.leaves after.now left →
         EndsInStart who sent p (Save who ∷ Restart who ∷ []) left }
     ensures first { (role : Role) (left : Option (List ℕ)) → desk.now.live ≡ no_sides role →
         LeavesLanded None (S.leaves desk.now.store) → IsReadAgain many_sides desk.now.live →
-        S.leaves desk.now.store left ⊎ (left ≡ Some (many_sides.spelling desk.now.live)) →
+        S.leaves desk.now.store left ⊎ (left ≡ Some (many_sides.encoding desk.now.live)) →
         (left ≡ None) ⊎ StartsAs left (first_desk role) }
 {}
 
@@ -69,13 +69,13 @@ pub fn a_desk_may_lose_its_power_as_in_the_model<S: Store>(desk: &Desk<S>, after
         IsPoweredDesk (view_of S.state desk.now) (S.leaves desk.now.store) (on_record p) }
     ensures in_save { (who : Role) (landed : Bool) (p : PoweredDesk) →
         IsPoweredDesk (view_of S.state desk.now) (S.leaves desk.now.store) p → IsReadAgain many_sides desk.now.live →
-        AreLeft (λ left. S.leaves desk.now.store left ⊎ (left ≡ Some (many_sides.spelling desk.now.live)))
+        AreLeft (λ left. S.leaves desk.now.store left ⊎ (left ≡ Some (many_sides.encoding desk.now.live)))
         (leaves_after p.desk p.leaves (SaveFault who landed)) }
     ensures after_save { (who : Role) (landed : Bool) (p : PoweredDesk) (answer : Result (Unit {0}) DeskFault) →
         IsPoweredDesk (view_of S.state desk.now) (S.leaves desk.now.store) p → IsReadAgain many_sides desk.now.live →
-        DeskSaves (many_sides.spelling desk.now.live) (S.state desk.now.store) answer (S.state after.now) →
+        DeskSaves (many_sides.encoding desk.now.live) (S.state desk.now.store) answer (S.state after.now) →
         OnOk answer (LeavesLanded (S.state after.now).landed (S.leaves after.now)) →
-        LeavesBeforeOr (Some (many_sides.spelling desk.now.live)) (S.leaves desk.now.store) (S.leaves after.now) →
+        LeavesBeforeOr (Some (many_sides.encoding desk.now.live)) (S.leaves desk.now.store) (S.leaves after.now) →
         AreLeft (S.leaves after.now) (leaves_after p.desk p.leaves (save_event who landed answer)) }
     ensures lost { (p : PoweredDesk) (left : Option (List ℕ)) →
         IsPoweredDesk (view_of S.state desk.now) (S.leaves desk.now.store) p → S.leaves desk.now.store left →

@@ -43,8 +43,8 @@ use Rattle.ill_saved.specs.Sides.{SidesOf, is_same_role, most_sides, found_by, p
 use Rattle.ill_saved.specs.Sides.{put_last as put_side, ChangesOnlySideOf}
 use Rattle.ill_der.specs.Format.{◌>>=◌}
 use Rattle.ill_der.specs.Laws.{IsBytes}
-use Rattle.ill_saved.specs.Records.{record_at, record_spelling}
-use Rattle.ill_saved.specs.RecordsV2.{AreSides, alone, read_alone, is_version_1, unsealed, sides_at, sides_spelling, records_at}
+use Rattle.ill_saved.specs.Records.{record_at, record_encoding}
+use Rattle.ill_saved.specs.RecordsV2.{AreSides, alone, read_alone, is_version_1, unsealed, sides_at, sides_encoding, records_at}
 use Rattle.ill_saved.specs.Holdings.{DeskEntry, DeskActs, DeskTakesApdu, IsBacked, IsBackedBy, IsBackedByRead, IsRecordOf}
 use Rattle.ill_saved.specs.Holdings.{StaysBacked, landed_live, map_ok, whole}
 use Rattle.ill_saved.specs.ManySides.{DeskContents, held_of, counts, txn_held, idle_held, found_or, held_for, with_held}
@@ -755,7 +755,7 @@ each_consistent (side ∷ sides) each = (each.0.0, each_consistent sides each.1)
 
 -- The law of a record of sides: sides that may be saved are read from their encoding.
 abbrev pub SidesReadAgain : Type 0
-SidesReadAgain = (all : SidesOf) → AreSides all → records_at (sides_spelling all) ≡ Ok all
+SidesReadAgain = (all : SidesOf) → AreSides all → records_at (sides_encoding all) ≡ Ok all
 
 -- The law of transitions: if they lead from `old` to `new`, the messages of `old` are a prefix of those of `new`.
 abbrev FollowsIssues : Type 0
@@ -796,15 +796,15 @@ module _ (follows : FollowsIssues) (all : SidesOf) (counted : List ℕ) (as_many
   }
 
   -- The encoding of the sides is the record of a desk that holds them.
-  pub sides_record : SidesReadAgain → AreSides all → (bytes : List ℕ) (live : DeskContents) → bytes ≡ sides_spelling all
+  pub sides_record : SidesReadAgain → AreSides all → (bytes : List ℕ) (live : DeskContents) → bytes ≡ sides_encoding all
       → record { role = all.role; held = held_of all.sides counted } ≡ live → AreBackable live
       → IsRecordOf many_sides ManyBack bytes live
-  sides_record again are bytes live spelled is backable =
+  sides_record again are bytes live encoded is backable =
       let seen : all ≡ sides_held live = as_seen all counted live as_many is in
       let saved : whole_of all ≡ whole_of (sides_held live) = ap whole_of seen in
       record {
-        spelled = spelled ∙ ap sides_spelling seen;
-        read = ap many_sides.read spelled ∙ ap (map_ok whole_of) (again all are) ∙ ap Ok saved;
+        encoded = encoded ∙ ap sides_encoding seen;
+        read = ap many_sides.read encoded ∙ ap (map_ok whole_of) (again all are) ∙ ap Ok saved;
         backed = subst (λ landed. ManyBack landed live) saved
             (subst (λ landed. AreBackedBy landed live) (sym (sides_of_whole all))
             (subst (AreBackedBy all) is (self_backed backable.0 (subst (AreBackedBy backable.0) (sym is) backable.1))));
@@ -825,13 +825,13 @@ each_if false side is = (is, tt)
 
 -- The law of one record: bytes that are read as a side are its encoding, and it is in range.
 abbrev pub OneConsistent : Type 0
-OneConsistent = (bytes : List ℕ) (side : Side) → IsBytes bytes → record_at bytes ≡ Ok side → (bytes ≡ record_spelling side)
+OneConsistent = (bytes : List ℕ) (side : Side) → IsBytes bytes → record_at bytes ≡ Ok side → (bytes ≡ record_encoding side)
     × IsSide side
 
 -- The law of version 2: bytes that are read as sides are their encoding, and the sides may be saved.
 abbrev pub ManyConsistent : Type 0
 ManyConsistent = (bytes : List ℕ) (held : SidesOf) → IsBytes bytes → is_version_1 bytes ≡ false → records_at bytes ≡ Ok held
-    → (bytes ≡ sides_spelling held) × AreSides held
+    → (bytes ≡ sides_encoding held) × AreSides held
 
 -- If a side that is read is consistent, each side of the desk that `read_alone` gives is consistent.
 alone_read : (read : Result Side RecordFault) (all : SidesOf) → ((side : Side) → read ≡ Ok side → IsConsistent side)

@@ -14,7 +14,7 @@ use Rattle.ill_core.specs.declared.taking.Taking.TheVariants.{Taken}
 use Rattle.std.proofs.lemmas.List.{length-drop, take-append-le, take_all}
 use Rattle.ill_der.specs.declared.fault.DerFault.{DerFault}
 use Rattle.ill_der.specs.ShortForm as short_form
-use Rattle.ill_der.specs.ShortForm.{spelling}
+use Rattle.ill_der.specs.ShortForm.{encoding}
 use Rattle.ill_core.specs.declared.requester.Wish.{Wish}
 use Rattle.ill_core.specs.declared.responder.Deed.{Deed}
 use Rattle.ill_values.specs.TxnId.{Qualifiers}
@@ -53,7 +53,7 @@ use Rattle.ill_saved.specs.Side.{IsAfterTransitions, GoesBack}
 use Rattle.ill_saved.specs.Side.{same, further}
 use Rattle.ill_saved.specs.Faults.{of_core, of_record}
 use Rattle.ill_saved.proofs.Records.{no_digest}
-use Rattle.ill_saved.specs.Records.{record_at, record_spelling, Decodes}
+use Rattle.ill_saved.specs.Records.{record_at, record_encoding, Decodes}
 use Rattle.ill_saved.specs.Ranges.{Each, IsSide}
 use Rattle.ill_store.specs.Store.{Allows, StoreState, StoreLoads}
 use Rattle.ill_saved.specs.LandedBytes.{LandedBytes, IsLandedRecord, HoldsReleased, GoesBackTo}
@@ -452,7 +452,7 @@ trailing_alone bytes (Err fault) found less decodes = search rules
 
 -- The law of one record: a side in range is read from its encoding.
 abbrev pub ReadsAgain : Type 0
-ReadsAgain = (side : Side) → IsSide side → record_at (record_spelling side) ≡ Ok side
+ReadsAgain = (side : Side) → IsSide side → record_at (record_encoding side) ≡ Ok side
 
 -- If there is a request exactly if the state is not IDLE, clearing it in IDLE changes nothing.
 unless_idle : (is_idle : Bool) (request : Option Apdu) → is_some request ≡ not is_idle
@@ -499,10 +499,10 @@ itself_backs side count is few = record { consistent = is; follows = same; has-r
 pub record_of : ReadsAgain → (landed_record : LandedBytes) (live : Side) (released : ℕ) → IsLandedRecord landed_record live
     → released ≤ length (issued_of live) → IsRecordOf one_side OneBacks landed_record.bytes (entry live released)
 record_of again landed_record live released is few =
-    let spelled : landed_record.bytes ≡ record_spelling live = ap (λ (k : LandedBytes). k.bytes) is.1 in
+    let encoded : landed_record.bytes ≡ record_encoding live = ap (λ (k : LandedBytes). k.bytes) is.1 in
     record {
-      spelled = spelled;
-      read = ap one_side.read spelled ∙ ap (map_ok whole) (again live is.0);
+      encoded = encoded;
+      read = ap one_side.read encoded ∙ ap (map_ok whole) (again live is.0);
       backed = itself_backs live released is.0.0 few;
       saved = itself_backs live (length (issued_of live)) is.0.0 (omega arith);
     }
@@ -569,8 +569,8 @@ read_is_backed effects backs bytes live read backed = subst (λ r. IsBackedByRea
 -- If the live side goes back to the landed record, the loaded bytes are read as it with all its messages released.
 pub back_is : ReadsAgain → (landed_record : LandedBytes) (released : ℕ) (bytes : List ℕ) (old new : Side)
     → GoesBackTo landed_record released bytes true old new → one_side.read bytes ≡ Ok (whole new)
-back_is again landed_record released bytes old new (spelled, is, of) =
-    ap one_side.read (spelled ∙ ap (λ (k : LandedBytes). k.bytes) is.1)
+back_is again landed_record released bytes old new (encoded, is, of) =
+    ap one_side.read (encoded ∙ ap (λ (k : LandedBytes). k.bytes) is.1)
     ∙ ap (map_ok whole) (again new is.0)
 
 -- If the live side goes back to the landed record, the loaded bytes back it, and it satisfies its rules.
@@ -578,10 +578,10 @@ pub back_rules : ReadsAgain → (landed_record : LandedBytes) (released : ℕ) (
     → GoesBackTo landed_record released bytes true old new
     → Rules landed_record new released × IsBacked one_side OneBacks (Some bytes) (entry new released)
     × (entry new released ≡ whole new)
-back_rules again landed_record released bytes old new (spelled, is, of) = (
+back_rules again landed_record released bytes old new (encoded, is, of) = (
   (omega (arith, of.all), keeps_whole landed_record new released is of.all),
-  subst (λ b. IsBacked one_side OneBacks (Some b) (entry new released)) (sym (spelled ∙ ap (λ (k : LandedBytes). k.bytes) is.1))
-      (read_is_backed one_side OneBacks (record_spelling new) (entry new released)
+  subst (λ b. IsBacked one_side OneBacks (Some b) (entry new released)) (sym (encoded ∙ ap (λ (k : LandedBytes). k.bytes) is.1))
+      (read_is_backed one_side OneBacks (record_encoding new) (entry new released)
       (ap (map_ok whole) (again new is.0) ∙ ap (λ n. Ok (entry new n)) (sym of.all))
       (itself_backs new released is.0.0 (omega (arith, of.all)))),
   ap (entry new) of.all,
@@ -667,8 +667,8 @@ restarts_to effects backs {bytes_of} {before} {after} {found} old new answer sto
 
 -- If the encodings of issued APDUs have `bytes` at index `n`, `bytes` are the encoding of APDU `n`, which is in range.
 message_stays : (issued more : List Apdu) (n : ℕ) (bytes : List ℕ) → Each IsApdu issued
-    → slice_get (map spelling issued) n ≡ Some bytes
-    → (a : Apdu) × (slice_get (issued ++ more) n ≡ Some a) × IsApdu a × (bytes ≡ spelling a)
+    → slice_get (map encoding issued) n ≡ Some bytes
+    → (a : Apdu) × (slice_get (issued ++ more) n ≡ Some a) × IsApdu a × (bytes ≡ encoding a)
 unfolding Each
 message_stays [] more n bytes are e = absurd cc
 message_stays (a ∷ issued) more zero bytes are e = (a, refl, are.0, cc)
@@ -677,14 +677,14 @@ message_stays (a ∷ issued) more (suc n) bytes are e = message_stays issued mor
 -- If the landed record has `bytes` as message `number`, they encode message `number` of the live side.
 pub message_released : (landed_record : LandedBytes) (live : Side) (released number : ℕ) (bytes : List ℕ)
     → HoldsReleased landed_record live released → 1 ≤ number → slice_get landed_record.pieces (number - 1) ≡ Some bytes
-    → (a : Apdu) × (message (issued_of live) number ≡ Some a) × IsApdu a × (bytes ≡ spelling a)
+    → (a : Apdu) × (message (issued_of live) number ≡ Some a) × IsApdu a × (bytes ≡ encoding a)
 message_released landed_record live released zero bytes keeps first e = absurd (omega (arith, first))
 message_released landed_record live released (suc n) bytes (inl none) first e =
     absurd (subst (λ (k : LandedBytes). slice_get k.pieces (suc n - 1) ≡ Some bytes → ⊥) (sym none.0) (λ found. cc) e)
 message_released landed_record live released (suc n) bytes (inr (side, is, of)) first e =
     let at : suc n - 1 ≡ n = omega arith in
-    let piece : slice_get (map spelling (issued_of side)) n ≡ Some bytes =
-    ap (slice_get (map spelling (issued_of side))) (sym at)
+    let piece : slice_get (map encoding (issued_of side)) n ≡ Some bytes =
+    ap (slice_get (map encoding (issued_of side))) (sym at)
     ∙ subst (λ (k : LandedBytes). slice_get k.pieces (suc n - 1) ≡ Some bytes) is.1 e in
     let found = message_stays (issued_of side) of.prefix.0 n bytes is.0.1.issued piece in
     (found.0, subst (λ apdus. slice_get apdus n ≡ Some found.0) (sym of.prefix.1) found.1, found.2, found.3)

@@ -16,7 +16,7 @@ use Rattle.ill_der.specs.declared.fault.DerFault.{DerFault}
 use Rattle.ill_der.specs.declared.fault.DerFault.TheVariants as der
 use Rattle.ill_der.specs.Contents.{Contents, qualifier}
 use Rattle.ill_der.specs.Format.{◌>>=◌, Cursor, cursor_at, followed_by}
-use Rattle.ill_der.specs.ShortForm.{spelling, apdu_at}
+use Rattle.ill_der.specs.ShortForm.{encoding, apdu_at}
 use Rattle.ill_der.specs.Laws.{IsBytes, BeginsWithOne}
 use Rattle.ill_core.specs.declared.state.State.{State}
 use Rattle.ill_values.specs.Bodies.{is_ill_request}
@@ -24,7 +24,7 @@ use Rattle.ill_saved.specs.declared.fault.LayoutFault.TheVariants.{Short, Bad}
 use Rattle.ill_saved.specs.declared.role.Role.{Role}
 use Rattle.ill_saved.specs.declared.role.Role.TheVariants as roles
 use Rattle.ill_saved.specs.Layout.{Field, bytes_at, value_at, sized, one_octet, octet, constant, count, number_octet}
-use Rattle.ill_saved.specs.Layout.{optional_number, mark, text_size, counted_text, apdu_by, apdu, ill_request, marked, spell_all}
+use Rattle.ill_saved.specs.Layout.{optional_number, mark, text_size, counted_text, apdu_by, apdu, ill_request, marked, encode_all}
 use Rattle.ill_saved.specs.Layout.{read_all, counted_by, counted}
 use Rattle.ill_saved.specs.Records.{state_code, state_with, state_in, role_octet, role_with, role}
 use Rattle.ill_saved.specs.Ranges.{Each}
@@ -36,19 +36,19 @@ use Rattle.ill_saved.proofs.Steps.{IsBytes-take, IsBytes-rest}
 -- The laws of the crates below on dates, qualifiers and APDUs.
 -- A valid date is read from its text, and an APDU from its encoding. A qualifier has 1 to 64 bytes.
 pub record Below : Type 0 where
-  pub day_spelled : (d : Date) → IsDate d → read_date (date_text d) ≡ Ok d
+  pub day_encoded : (d : Date) → IsDate d → read_date (date_text d) ≡ Ok d
   pub day_read : (text : List ℕ) (d : Date) → read_date text ≡ Ok d → IsDate d × (text ≡ date_text d)
   pub text_size : (text : List ℕ) → IsQualifier text → (1 ≤ length text) × (length text ≤ 64)
-  pub apdu_again : (a : Apdu) (rest : List ℕ) → IsApdu a → apdu_at (spelling a ++ rest) ≡ Ok (a, rest)
+  pub apdu_again : (a : Apdu) (rest : List ℕ) → IsApdu a → apdu_at (encoding a ++ rest) ≡ Ok (a, rest)
   pub apdu_or_fault : (bytes : List ℕ) → IsBytes bytes → BeginsWithOne bytes (apdu_at bytes)
 
 -- `f` reads `v` from its encoding at offset `at`, and leaves the cursor before `more`.
 abbrev pub ReadsAgain : {V : Type 0} → Field V → V → ℕ → List ℕ → Type 0
-ReadsAgain f v at more = (after : ℕ) × (f.read (cursor_at at (f.spell v ++ more)) ≡ Ok (v, cursor_at after more))
+ReadsAgain f v at more = (after : ℕ) × (f.read (cursor_at at (f.encode v ++ more)) ≡ Ok (v, cursor_at after more))
 
 -- `bytes` is the encoding of `v` followed by `rest`, and `v` satisfies `P`.
 abbrev pub Takes : {V : Type 0} → Field V → (V → Type 0) → List ℕ → V → List ℕ → Type 0
-Takes f P bytes v rest = (bytes ≡ f.spell v ++ rest) × P v
+Takes f P bytes v rest = (bytes ≡ f.encode v ++ rest) × P v
 
 -- The two laws of a field. If it reads a value, the bytes read are its encoding, and the value satisfies `P`.
 -- Each value that satisfies `P` is read from its encoding.
@@ -60,7 +60,7 @@ pub record IsField {V : Type 0} (P : V → Type 0) (f : Field V) : Type 0 where
 -- If a field is read from octets, the rest after it is octets.
 pub rest_fits : {V : Type 0} (P : V → Type 0) (f : Field V) → IsField P f → (left : Cursor) (v : V) (rest : Cursor)
     → IsBytes left.bytes → f.read left ≡ Ok (v, rest) → IsBytes rest.bytes
-rest_fits P f is left v rest fits e = IsBytes-rest left.bytes (f.spell v) rest.bytes (is.takes left v rest fits e).0 fits
+rest_fits P f is left v rest fits e = IsBytes-rest left.bytes (f.encode v) rest.bytes (is.takes left v rest fits e).0 fits
 
 -- ---- a field of `n` bytes
 
@@ -73,8 +73,8 @@ value_found at None v e = absurd cc
 -- Each value that satisfies `P` has an encoding of `n` bytes, from which it is read.
 pub record IsSized {V : Type 0} (P : V → Type 0) (n : ℕ) (contents : Contents V) : Type 0 where
   pub takes : (bytes : List ℕ) (v : V) → IsBytes bytes → length bytes ≡ n → contents.read bytes ≡ Some v
-      → (bytes ≡ contents.spell v) × P v
-  pub again : (v : V) → P v → (contents.read (contents.spell v) ≡ Some v) × (length (contents.spell v) ≡ n)
+      → (bytes ≡ contents.encode v) × P v
+  pub again : (v : V) → P v → (contents.read (contents.encode v) ≡ Some v) × (length (contents.encode v) ≡ n)
 
 -- If a field of `n` bytes reads a value, the bytes read are its encoding.
 sized_takes : {V : Type 0} (P : V → Type 0) (n : ℕ) (contents : Contents V) → IsSized P n contents
@@ -93,16 +93,16 @@ sized_takes {V} P n contents is left v rest fits e =
     ∙ value_found left.at (contents.read part.value.0) found.value found.given in
     let value = is.takes (take n left.bytes) found.value (IsBytes-take n left.bytes fits)
     (length-take-le n left.bytes (ltb-false (length left.bytes) n there.0)) read in
-    let parts : left.bytes ≡ contents.spell found.value ++ part.value.1.bytes =
+    let parts : left.bytes ≡ contents.encode found.value ++ part.value.1.bytes =
     sym (take-append-drop n left.bytes) ∙ ap (λ (x : List ℕ). x ++ drop n left.bytes) value.0
-    ∙ ap (λ (p : List ℕ × Cursor). contents.spell found.value ++ p.1.bytes) taken in
+    ∙ ap (λ (p : List ℕ × Cursor). contents.encode found.value ++ p.1.bytes) taken in
     subst (λ (x : V × Cursor). Takes (sized n contents) P left.bytes x.0 x.1.bytes) both (parts, value.1)
 
 -- A value that satisfies `P` is read from its encoding by its field of `n` bytes.
 sized_again : {V : Type 0} (P : V → Type 0) (n : ℕ) (contents : Contents V) → IsSized P n contents
     → (v : V) (at : ℕ) (more : List ℕ) → P v → ReadsAgain (sized n contents) v at more
 sized_again P n contents is v at more p =
-    let text = contents.spell v in
+    let text = contents.encode v in
     let read = is.again v p in
     let enough : ltb (length (text ++ more)) n ≡ false =
     le-ltb (length (text ++ more)) n (omega (arith, length-append text more, read.1)) in
@@ -327,7 +327,7 @@ pub apdu_is : Below → IsField IsApdu apdu
 apdu_is below = record {
   takes = one_taken below;
   again = λ v at more p.
-      (_, ap (apdu_by (cursor_at at (spelling v ++ more))) (below.apdu_again v more p));
+      (_, ap (apdu_by (cursor_at at (encoding v ++ more))) (below.apdu_again v more p));
 }
 
 -- The APDU is an ILL-Request in range.
@@ -367,11 +367,11 @@ marked_is P f fs =
 -- If `n` values are read, the bytes read are their encodings, and each value satisfies `P`.
 all_takes : {V : Type 0} (P : V → Type 0) (f : Field V) → IsField P f
     → (n : ℕ) (left : Cursor) (vs : List V) (rest : Cursor) → IsBytes left.bytes → read_all f n left ≡ Ok (vs, rest)
-    → (left.bytes ≡ spell_all f.spell vs ++ rest.bytes) × Each P vs × (length vs ≡ n)
-unfolding read_all spell_all Each
+    → (left.bytes ≡ encode_all f.encode vs ++ rest.bytes) × Each P vs × (length vs ≡ n)
+unfolding read_all encode_all Each
 all_takes {V} P f fs zero left vs rest fits e =
     let both : ([], left) ≡ (vs, rest) = ok_is ([], left) (vs, rest) e in
-    subst (λ (x : List V × Cursor). (left.bytes ≡ spell_all f.spell x.0 ++ x.1.bytes) × Each P x.0 × (length x.0 ≡ zero)) both
+    subst (λ (x : List V × Cursor). (left.bytes ≡ encode_all f.encode x.0 ++ x.1.bytes) × Each P x.0 × (length x.0 ≡ zero)) both
     (refl, tt, refl)
 all_takes {V} P f fs (suc n) left vs rest fits e =
     let first = bind_ok (f.read left) (λ first. read_all f n first.1 >>= λ others. Ok (first.0 ∷ others.0, others.1)) (vs, rest)
@@ -384,21 +384,21 @@ all_takes {V} P f fs (suc n) left vs rest fits e =
     let more = all_takes P f fs n first.value.1 others.value.0 others.value.1
     (rest_fits P f fs left first.value.0 first.value.1 fits first.given)
     others.given in
-    let parts : left.bytes ≡ (f.spell first.value.0 ++ spell_all f.spell others.value.0) ++ others.value.1.bytes =
-    one.0 ∙ ap (λ (x : List ℕ). f.spell first.value.0 ++ x) more.0
-    ∙ sym (append_assoc (f.spell first.value.0) (spell_all f.spell others.value.0) others.value.1.bytes) in
-    subst (λ (x : List V × Cursor). (left.bytes ≡ spell_all f.spell x.0 ++ x.1.bytes) × Each P x.0 × (length x.0 ≡ suc n)) both
+    let parts : left.bytes ≡ (f.encode first.value.0 ++ encode_all f.encode others.value.0) ++ others.value.1.bytes =
+    one.0 ∙ ap (λ (x : List ℕ). f.encode first.value.0 ++ x) more.0
+    ∙ sym (append_assoc (f.encode first.value.0) (encode_all f.encode others.value.0) others.value.1.bytes) in
+    subst (λ (x : List V × Cursor). (left.bytes ≡ encode_all f.encode x.0 ++ x.1.bytes) × Each P x.0 × (length x.0 ≡ suc n)) both
     (parts, (one.1, more.1), ap suc more.2)
 
 -- If each value satisfies `P`, the list is read from the encodings of its values.
 all_again : {V : Type 0} (P : V → Type 0) (f : Field V) → IsField P f → (vs : List V) (at : ℕ) (more : List ℕ) → Each P vs
-    → (after : ℕ) × (read_all f (length vs) (cursor_at at (spell_all f.spell vs ++ more)) ≡ Ok (vs, cursor_at after more))
-unfolding read_all spell_all Each
+    → (after : ℕ) × (read_all f (length vs) (cursor_at at (encode_all f.encode vs ++ more)) ≡ Ok (vs, cursor_at after more))
+unfolding read_all encode_all Each
 all_again P f fs [] at more p = (at, refl)
 all_again P f fs (v ∷ vs) at more p =
-    let first = fs.again v at (spell_all f.spell vs ++ more) p.0 in
+    let first = fs.again v at (encode_all f.encode vs ++ more) p.0 in
     let others = all_again P f fs vs first.0 more p.1 in
-    (others.0, rw (append_assoc (f.spell v) (spell_all f.spell vs) more, first.1, others.1) refl)
+    (others.0, rw (append_assoc (f.encode v) (encode_all f.encode vs) more, first.1, others.1) refl)
 
 -- Each value satisfies `P`, and their number satisfies `Q`.
 abbrev pub CountedBy : {V : Type 0} → (ℕ → Type 0) → (V → Type 0) → List V → Type 0
@@ -413,10 +413,10 @@ counted_takes Q P size f sizes fs left vs rest fits e =
     let first = sizes.takes left n.value.0 n.value.1 fits n.given in
     let others = all_takes P f fs n.value.0 n.value.1 vs rest (rest_fits Q size sizes left n.value.0 n.value.1 fits n.given)
     n.follows in
-    let parts : left.bytes ≡ (size.spell (length vs) ++ spell_all f.spell vs) ++ rest.bytes =
-    first.0 ∙ ap (λ (x : List ℕ). size.spell n.value.0 ++ x) others.0
-    ∙ ap (λ (m : ℕ). size.spell m ++ (spell_all f.spell vs ++ rest.bytes)) (sym others.2)
-    ∙ sym (append_assoc (size.spell (length vs)) (spell_all f.spell vs) rest.bytes) in
+    let parts : left.bytes ≡ (size.encode (length vs) ++ encode_all f.encode vs) ++ rest.bytes =
+    first.0 ∙ ap (λ (x : List ℕ). size.encode n.value.0 ++ x) others.0
+    ∙ ap (λ (m : ℕ). size.encode m ++ (encode_all f.encode vs ++ rest.bytes)) (sym others.2)
+    ∙ sym (append_assoc (size.encode (length vs)) (encode_all f.encode vs) rest.bytes) in
     (parts, (others.1, subst Q (sym others.2) first.1))
 
 -- A list is read from its length and the encodings of its values.
@@ -424,9 +424,9 @@ counted_again : {V : Type 0} (Q : ℕ → Type 0) (P : V → Type 0) (size : Fie
     → IsField P f → (vs : List V) (at : ℕ) (more : List ℕ) → CountedBy Q P vs
     → ReadsAgain (counted_by size f) vs at more
 counted_again Q P size f sizes fs vs at more p =
-    let n = sizes.again (length vs) at (spell_all f.spell vs ++ more) p.1 in
+    let n = sizes.again (length vs) at (encode_all f.encode vs ++ more) p.1 in
     let others = all_again P f fs vs n.0 more p.0 in
-    (others.0, rw (append_assoc (size.spell (length vs)) (spell_all f.spell vs) more, n.1, others.1) refl)
+    (others.0, rw (append_assoc (size.encode (length vs)) (encode_all f.encode vs) more, n.1, others.1) refl)
 
 -- If the fields of the length and of a value obey the laws, the field of the list obeys them.
 pub counted_by_is : {V : Type 0} (Q : ℕ → Type 0) (P : V → Type 0) (size : Field ℕ) (f : Field V) → IsField Q size

@@ -7,7 +7,7 @@ use Rattle.ill_saved.specs.declared.fault.LayoutFault.{LayoutFault}
 use Rattle.ill_saved.specs.declared.fault.LayoutFault.TheVariants.{Short, Bad}
 use Rattle.ill_saved.specs.declared.fault.RecordFault.{RecordFault}
 use Rattle.ill_saved.specs.declared.fault.RecordFault.TheVariants as faults
-use Rattle.ill_saved.specs.Layout.{Field, read_all, spell_all, ReadsInMemory}
+use Rattle.ill_saved.specs.Layout.{Field, read_all, encode_all, ReadsInMemory}
 use Rattle.std.proofs.Math.ListN.{get_or}
 use Rattle.std.proofs.lemmas.List.{at_drop_all, drop_more}
 use Rattle.ill_saved.specs.Ranges.{Each}
@@ -99,31 +99,31 @@ fault_stays f g faults.Digest left next first then_read stays read = absurd read
 fault_stays f g faults.OutOfMemory left next first then_read stays read = tt
 
 -- The encoding of no value is empty.
-pub spell_none : {V : Type 0} (spell : V → List ℕ) → spell_all spell [] ≡ []
-unfolding spell_all
-spell_none spell = refl
+pub encode_none : {V : Type 0} (encode : V → List ℕ) → encode_all encode [] ≡ []
+unfolding encode_all
+encode_none encode = refl
 
 -- The encoding of a list is the encoding of its first value, followed by those of the others.
-pub spell_more : {V : Type 0} (spell : V → List ℕ) (v : V) (values : List V)
-    → spell_all spell (v ∷ values) ≡ spell v ++ spell_all spell values
-unfolding spell_all
-spell_more spell v values = refl
+pub encode_more : {V : Type 0} (encode : V → List ℕ) (v : V) (values : List V)
+    → encode_all encode (v ∷ values) ≡ encode v ++ encode_all encode values
+unfolding encode_all
+encode_more encode v values = refl
 
 -- If index `i` is after the last value, no encoding is left to append.
-pub all_spelled : {V : Type 0} (spell : V → List ℕ) (bytes : List ℕ) (values : List V) (i : ℕ) → length values ≤ i
-    → bytes ++ spell_all spell (drop i values) ≡ bytes
-all_spelled spell bytes values i all =
-    ap (λ t. bytes ++ t) (at_drop_all (spell_all spell) values i all ∙ spell_none spell) ∙ append-nil bytes
+pub all_encoded : {V : Type 0} (encode : V → List ℕ) (bytes : List ℕ) (values : List V) (i : ℕ) → length values ≤ i
+    → bytes ++ encode_all encode (drop i values) ≡ bytes
+all_encoded encode bytes values i all =
+    ap (λ t. bytes ++ t) (at_drop_all (encode_all encode) values i all ∙ encode_none encode) ∙ append-nil bytes
 
 -- Appending value `i` leaves the encodings of the values after it to append.
-pub one_spelled : {V : Type 0} (spell : V → List ℕ) (bytes : List ℕ) (values : List V) (i : ℕ) (v : V)
+pub one_encoded : {V : Type 0} (encode : V → List ℕ) (bytes : List ℕ) (values : List V) (i : ℕ) (v : V)
     → i < length values → v ≡ get_or values i v
-    → (bytes ++ spell v) ++ spell_all spell (drop (i + 1) values) ≡ bytes ++ spell_all spell (drop i values)
-one_spelled spell bytes values i v within there =
+    → (bytes ++ encode v) ++ encode_all encode (drop (i + 1) values) ≡ bytes ++ encode_all encode (drop i values)
+one_encoded encode bytes values i v within there =
     let prefix : drop i values ≡ v ∷ drop (i + 1) values =
     drop_more values i v within ∙ ap (λ x. x ∷ drop (i + 1) values) (sym there) in
-    append_assoc bytes (spell v) (spell_all spell (drop (i + 1) values))
-    ∙ ap (λ t. bytes ++ t) (sym (spell_more spell v (drop (i + 1) values)) ∙ ap (spell_all spell) (sym prefix))
+    append_assoc bytes (encode v) (encode_all encode (drop (i + 1) values))
+    ∙ ap (λ t. bytes ++ t) (sym (encode_more encode v (drop (i + 1) values)) ∙ ap (encode_all encode) (sym prefix))
 
 -- If value `i` and each value after it satisfy `P`, each value from `i` on satisfies it.
 pub one_each : {V : Type 0} (P : V → Type 0) (values : List V) (i : ℕ) (v : V) → i < length values
@@ -140,13 +140,13 @@ unfolding Each
 none_each P values i all = subst (Each P) (sym (at_drop_all (λ xs. xs) values i all)) tt
 
 -- The encoding of two lists together is the encoding of the first, followed by that of the second.
-pub spell_both : {V : Type 0} (spell : V → List ℕ) (prefix rest : List V)
-    → spell_all spell (prefix ++ rest) ≡ spell_all spell prefix ++ spell_all spell rest
-unfolding spell_all
-spell_both spell [] rest = refl
-spell_both spell (v ∷ prefix) rest =
-    ap (λ t. spell v ++ t) (spell_both spell prefix rest)
-    ∙ sym (append_assoc (spell v) (spell_all spell prefix) (spell_all spell rest))
+pub encode_both : {V : Type 0} (encode : V → List ℕ) (prefix rest : List V)
+    → encode_all encode (prefix ++ rest) ≡ encode_all encode prefix ++ encode_all encode rest
+unfolding encode_all
+encode_both encode [] rest = refl
+encode_both encode (v ∷ prefix) rest =
+    ap (λ t. encode v ++ t) (encode_both encode prefix rest)
+    ∙ sym (append_assoc (encode v) (encode_all encode prefix) (encode_all encode rest))
 
 -- If each value in two lists satisfies `P`, each value in both together satisfies it.
 pub each_both : {V : Type 0} (P : V → Type 0) (prefix rest : List V) → Each P prefix → Each P rest → Each P (prefix ++ rest)

@@ -5,14 +5,14 @@ use Rattle.std.specs.List.{All}
 use Rattle.std.proofs.lemmas.List.{map-append, take_at, drop_at, drop-drop, take-append-le, drop-append-le, length-drop, map_push}
 use Rattle.std.proofs.lemmas.List.Elements.{All-head, All-tail, All-push, All-weaker}
 use Rattle.ill_values.specs.declared.apdu.Apdu.{Apdu}
-use Rattle.ill_der.specs.ShortForm.{spelling}
+use Rattle.ill_der.specs.ShortForm.{encoding}
 use Rattle.ill_saved.specs.declared.landed_record.Place.{Place}
 use Rattle.ill_saved.specs.declared.role.Role.TheVariants as roles
 use Rattle.ill_saved.specs.declared.side.Side.{Side}
 use Rattle.ill_saved.specs.declared.side.Side.TheVariants as sides
-use Rattle.ill_saved.specs.Layout.{spell_all, apdu, ill_request, mark, marked, counted, optional_number}
+use Rattle.ill_saved.specs.Layout.{encode_all, apdu, ill_request, mark, marked, counted, optional_number}
 use Rattle.ill_saved.specs.Records.{due_octets, heading, requester_states, responder_states, requester_rest, responder_rest}
-use Rattle.ill_saved.specs.Records.{spell_start, record_spelling}
+use Rattle.ill_saved.specs.Records.{encode_start, record_encoding}
 use Rattle.ill_saved.specs.declared.side.Standing.{Standing}
 use Rattle.ill_saved.specs.Side.{issued_of, standing_of}
 use Rattle.ill_saved.specs.LandedBytes.{LandedBytes, no_landed_record, IsLandedRecord, HoldsReleased, piece_at, IsWithin}
@@ -20,7 +20,7 @@ use Rattle.ill_saved.specs.LandedBytes.{EndsWith}
 use Rattle.std.specs.Prelude.{IfOk}
 use Rattle.ill_saved.specs.Ranges.{Each, IsSide}
 use Rattle.ill_values.specs.Apdu.{IsApdu}
-use Rattle.ill_saved.proofs.Lists.{spell_none, spell_more, spell_both, each_both}
+use Rattle.ill_saved.proofs.Lists.{encode_none, encode_more, encode_both, each_both}
 
 -- At a place within `prefix`, `prefix` and `prefix ++ more` have equal bytes.
 piece_of_prefix : (prefix more : List ℕ) (place : Place) → IsWithin (length prefix) place
@@ -42,50 +42,50 @@ pieces_of_prefix prefix more (place ∷ places) within =
 
 -- Each message before offset `end` has its place in `whole`. The encodings of the messages in `left` follow.
 pub record ArePlaced (whole : List ℕ) (end : ℕ) (places : List Place) (left : List Apdu) (all : List (List ℕ)) : Type 0 where
-  pub rest : drop end whole ≡ spell_all spelling left
+  pub rest : drop end whole ≡ encode_all encoding left
   pub reached : end ≤ length whole
   pub within : All (IsWithin (length whole)) places
-  pub pieces : map (piece_at whole) places ++ map spelling left ≡ all
+  pub pieces : map (piece_at whole) places ++ map encoding left ≡ all
 
 -- If messages have their places in `messages`, they have them with the encodings of other messages after it.
 pub first_placed : (messages : List ℕ) (pieces : List (List ℕ)) (places : List Place) (apdus : List Apdu) (end : ℕ)
     → end ≡ length messages → All (IsWithin (length messages)) places
     → map (piece_at messages) places ≡ pieces
-    → ArePlaced (messages ++ spell_all spelling apdus) end places apdus (pieces ++ map spelling apdus)
+    → ArePlaced (messages ++ encode_all encoding apdus) end places apdus (pieces ++ map encoding apdus)
 first_placed messages pieces places apdus end e within are =
-    let longer : length (messages ++ spell_all spelling apdus) ≡ length messages + length (spell_all spelling apdus) =
-    length-append messages (spell_all spelling apdus) in
+    let longer : length (messages ++ encode_all encoding apdus) ≡ length messages + length (encode_all encoding apdus) =
+    length-append messages (encode_all encoding apdus) in
     record {
-      rest = drop_at messages (spell_all spelling apdus) end (sym e);
+      rest = drop_at messages (encode_all encoding apdus) end (sym e);
       reached = omega (arith, e, longer);
-      within = All-weaker (IsWithin (length messages)) (IsWithin (length (messages ++ spell_all spelling apdus)))
+      within = All-weaker (IsWithin (length messages)) (IsWithin (length (messages ++ encode_all encoding apdus)))
           (λ place is. omega (arith, is, longer)) places within;
-      pieces = ap (λ pieces. pieces ++ map spelling apdus)
-          (pieces_of_prefix messages (spell_all spelling apdus) places within ∙ are);
+      pieces = ap (λ pieces. pieces ++ map encoding apdus)
+          (pieces_of_prefix messages (encode_all encoding apdus) places within ∙ are);
     }
 
 -- If the next message gets the place at `end`, all messages before the end of this place have their places.
 pub next_placed : (whole : List ℕ) (end : ℕ) (places : List Place) (a : Apdu) (left : List Apdu) (all : List (List ℕ))
     → ArePlaced whole end places (a ∷ left) all
-    → ArePlaced whole (end + length (spelling a)) (places ++ record { start = end; size = length (spelling a) } ∷ []) left all
+    → ArePlaced whole (end + length (encoding a)) (places ++ record { start = end; size = length (encoding a) } ∷ []) left all
 next_placed whole end places a left all placed =
-    let rest : drop end whole ≡ spelling a ++ spell_all spelling left = placed.rest ∙ spell_more spelling a left in
-    let long : length whole - end ≡ length (spelling a) + length (spell_all spelling left) =
-    sym (length-drop end whole) ∙ (ap length rest ∙ length-append (spelling a) (spell_all spelling left)) in
-    let piece : piece_at whole (record { start = end; size = length (spelling a) }) ≡ spelling a =
-    ap (take (length (spelling a))) rest ∙ take_at (spelling a) (spell_all spelling left) (length (spelling a)) refl in
-    let reached : end + length (spelling a) ≤ length whole = omega (arith, long, placed.reached) in
+    let rest : drop end whole ≡ encoding a ++ encode_all encoding left = placed.rest ∙ encode_more encoding a left in
+    let long : length whole - end ≡ length (encoding a) + length (encode_all encoding left) =
+    sym (length-drop end whole) ∙ (ap length rest ∙ length-append (encoding a) (encode_all encoding left)) in
+    let piece : piece_at whole (record { start = end; size = length (encoding a) }) ≡ encoding a =
+    ap (take (length (encoding a))) rest ∙ take_at (encoding a) (encode_all encoding left) (length (encoding a)) refl in
+    let reached : end + length (encoding a) ≤ length whole = omega (arith, long, placed.reached) in
     record {
-      rest = sym (drop-drop (length (spelling a)) end whole)
-          ∙ (ap (drop (length (spelling a))) rest ∙ drop_at (spelling a) (spell_all spelling left) (length (spelling a)) refl);
+      rest = sym (drop-drop (length (encoding a)) end whole)
+          ∙ (ap (drop (length (encoding a))) rest ∙ drop_at (encoding a) (encode_all encoding left) (length (encoding a)) refl);
       reached = reached;
-      within = All-push (IsWithin (length whole)) places (record { start = end; size = length (spelling a) }) placed.within
+      within = All-push (IsWithin (length whole)) places (record { start = end; size = length (encoding a) }) placed.within
           reached;
-      pieces = ap (λ pieces. pieces ++ map spelling left)
-          (map_push (piece_at whole) places (record { start = end; size = length (spelling a) }))
-          ∙ (append_assoc (map (piece_at whole) places) (piece_at whole (record { start = end; size = length (spelling a) }) ∷ [])
-          (map spelling left)
-          ∙ (ap (λ piece. map (piece_at whole) places ++ piece ∷ map spelling left) piece ∙ placed.pieces));
+      pieces = ap (λ pieces. pieces ++ map encoding left)
+          (map_push (piece_at whole) places (record { start = end; size = length (encoding a) }))
+          ∙ (append_assoc (map (piece_at whole) places) (piece_at whole (record { start = end; size = length (encoding a) }) ∷ [])
+          (map encoding left)
+          ∙ (ap (λ piece. map (piece_at whole) places ++ piece ∷ map encoding left) piece ∙ placed.pieces));
     }
 
 -- The bytes from offset `first` on are the messages, and each message has its place.
@@ -100,13 +100,13 @@ pub all_placed : (bytes whole : List ℕ) (first end : ℕ) (places : List Place
     → left ≡ [] → ArePlaced whole end places left all → EndsWith whole bytes
     → first ≡ length bytes - end → ArePlacedIn bytes first whole places all
 all_placed bytes whole first end places left all none placed ends e =
-    let rest : drop end whole ≡ [] = placed.rest ∙ (ap (spell_all spelling) none ∙ spell_none spelling) in
+    let rest : drop end whole ≡ [] = placed.rest ∙ (ap (encode_all encoding) none ∙ encode_none encoding) in
     let reached : end ≡ length whole = omega (arith, placed.reached, sym (length-drop end whole) ∙ ap length rest) in
     let after : length ends.0 ≡ first = omega (arith, e, reached, ap length ends.1 ∙ length-append ends.0 whole) in
     let messages : drop first bytes ≡ whole = ap (drop first) ends.1 ∙ drop_at ends.0 whole first after in
     let pieces : map (piece_at whole) places ≡ all =
     sym (append-nil (map (piece_at whole) places))
-    ∙ (ap (λ apdus. map (piece_at whole) places ++ map spelling apdus) (sym none) ∙ placed.pieces) in
+    ∙ (ap (λ apdus. map (piece_at whole) places ++ map encoding apdus) (sym none) ∙ placed.pieces) in
     record {
       after = omega (arith, e);
       messages = messages;
@@ -121,50 +121,50 @@ ends_after : (prefix end bytes : List ℕ) → EndsWith end bytes → EndsWith e
 ends_after prefix end bytes ends = (prefix ++ ends.0, ap (λ t. prefix ++ t) ends.1 ∙ sym (append_assoc prefix ends.0 end))
 
 -- A counted list of APDUs ends with their encodings.
-ends_counted : (apdus : List Apdu) → EndsWith (spell_all spelling apdus) ((counted apdu).spell apdus)
+ends_counted : (apdus : List Apdu) → EndsWith (encode_all encoding apdus) ((counted apdu).encode apdus)
 ends_counted apdus = (length apdus ∷ [], refl)
 
 -- The record of a side ends with the encodings of its issued messages.
-pub ends_with_messages : (side : Side) → EndsWith (spell_all spelling (issued_of side)) (record_spelling side)
-unfolding record_spelling
+pub ends_with_messages : (side : Side) → EndsWith (encode_all encoding (issued_of side)) (record_encoding side)
+unfolding record_encoding
 ends_with_messages (sides.Requester x) =
-    let messages = spell_all spelling x.issued in
-    let due = (due_octets x.due) ++ (counted apdu).spell x.issued in
-    let rest = requester_rest.spell (x.held, (x.checked_in, (x.due, x.issued))) in
-    let head = (heading requester_states).spell (x.state, (x.txn.group, x.txn.transaction)) in
+    let messages = encode_all encoding x.issued in
+    let due = (due_octets x.due) ++ (counted apdu).encode x.issued in
+    let rest = requester_rest.encode (x.held, (x.checked_in, (x.due, x.issued))) in
+    let head = (heading requester_states).encode (x.state, (x.txn.group, x.txn.transaction)) in
     let after_due : EndsWith messages due =
-    ends_after (due_octets x.due) messages ((counted apdu).spell x.issued) (ends_counted x.issued) in
+    ends_after (due_octets x.due) messages ((counted apdu).encode x.issued) (ends_counted x.issued) in
     let after_held : EndsWith messages rest =
-    ends_after (optional_number.spell x.held ++ mark.spell x.checked_in) messages due after_due in
-    ends_after (spell_start roles.Requester) messages (head ++ rest) (ends_after head messages rest after_held)
+    ends_after (optional_number.encode x.held ++ mark.encode x.checked_in) messages due after_due in
+    ends_after (encode_start roles.Requester) messages (head ++ rest) (ends_after head messages rest after_held)
 ends_with_messages (sides.Responder y) =
-    let messages = spell_all spelling y.issued in
-    let request = (marked ill_request).spell y.request ++ (counted apdu).spell y.issued in
-    let rest = responder_rest.spell (y.accepted, (y.last_cancel, (y.last_renew, (y.received, (y.request, y.issued))))) in
-    let head = (heading responder_states).spell (y.state, (y.txn.group, y.txn.transaction)) in
+    let messages = encode_all encoding y.issued in
+    let request = (marked ill_request).encode y.request ++ (counted apdu).encode y.issued in
+    let rest = responder_rest.encode (y.accepted, (y.last_cancel, (y.last_renew, (y.received, (y.request, y.issued))))) in
+    let head = (heading responder_states).encode (y.state, (y.txn.group, y.txn.transaction)) in
     let after_request : EndsWith messages request =
-    ends_after ((marked ill_request).spell y.request) messages ((counted apdu).spell y.issued) (ends_counted y.issued) in
+    ends_after ((marked ill_request).encode y.request) messages ((counted apdu).encode y.issued) (ends_counted y.issued) in
     let after_numbers : EndsWith messages rest =
-    ends_after (optional_number.spell y.accepted
-    ++ (optional_number.spell y.last_cancel ++ (optional_number.spell y.last_renew ++ mark.spell y.received))) messages
+    ends_after (optional_number.encode y.accepted
+    ++ (optional_number.encode y.last_cancel ++ (optional_number.encode y.last_renew ++ mark.encode y.received))) messages
     request after_request in
-    ends_after (spell_start roles.Responder) messages (head ++ rest) (ends_after head messages rest after_numbers)
+    ends_after (encode_start roles.Responder) messages (head ++ rest) (ends_after head messages rest after_numbers)
 
 -- ---- a side that begins with the messages of the landed record
 
 -- The messages of the landed record, followed by `others`, are the issued messages of a side.
 pub record Continues (landed_record : LandedBytes) (issued others : List Apdu) : Type 0 where
-  pub messages : landed_record.messages ++ spell_all spelling others ≡ spell_all spelling issued
-  pub pieces : landed_record.pieces ++ map spelling others ≡ map spelling issued
+  pub messages : landed_record.messages ++ encode_all encoding others ≡ encode_all encoding issued
+  pub pieces : landed_record.pieces ++ map encoding others ≡ map encoding issued
   pub range : Each IsApdu others → Each IsApdu issued
 
 -- If `landed_record` is that of `side`, its messages followed by `more` are those of `side` followed by `more`.
 continues_prefix : (landed_record : LandedBytes) (side : Side) (more : List Apdu) → IsLandedRecord landed_record side
     → Continues landed_record (issued_of side ++ more) more
 continues_prefix landed_record side more is = record {
-  messages = ap (λ (k : LandedBytes). k.messages ++ spell_all spelling more) is.1
-      ∙ sym (spell_both spelling (issued_of side) more);
-  pieces = ap (λ (k : LandedBytes). k.pieces ++ map spelling more) is.1 ∙ sym (map-append spelling (issued_of side) more);
+  messages = ap (λ (k : LandedBytes). k.messages ++ encode_all encoding more) is.1
+      ∙ sym (encode_both encoding (issued_of side) more);
+  pieces = ap (λ (k : LandedBytes). k.pieces ++ map encoding more) is.1 ∙ sym (map-append encoding (issued_of side) more);
   range = λ others. each_both IsApdu (issued_of side) more is.0.1.issued others;
 }
 
@@ -172,8 +172,8 @@ continues_prefix landed_record side more is = record {
 continues_none : (landed_record : LandedBytes) (issued : List Apdu) → landed_record ≡ no_landed_record
     → Continues landed_record issued issued
 continues_none landed_record issued none = record {
-  messages = ap (λ (k : LandedBytes). k.messages ++ spell_all spelling issued) none;
-  pieces = ap (λ (k : LandedBytes). k.pieces ++ map spelling issued) none;
+  messages = ap (λ (k : LandedBytes). k.messages ++ encode_all encoding issued) none;
+  pieces = ap (λ (k : LandedBytes). k.pieces ++ map encoding issued) none;
   range = λ all. all;
 }
 
@@ -196,16 +196,16 @@ landed_continues landed_record live released others (inr (side, is, of)) e =
 pub next_landed : {E : Type 0} (result : Result LandedBytes E) (landed_record : LandedBytes) (side : Side) (standing : Standing)
     (others : List Apdu) (bytes : List ℕ)
     → Continues landed_record (issued_of side) others → IsSide side
-    → standing ≡ standing_of side → bytes ≡ record_spelling side
+    → standing ≡ standing_of side → bytes ≡ record_encoding side
     → IfOk result (λ next. next ≡ record {
       standing = Some standing;
       bytes = bytes;
-      messages = landed_record.messages ++ spell_all spelling others;
-      pieces = landed_record.pieces ++ map spelling others;
+      messages = landed_record.messages ++ encode_all encoding others;
+      pieces = landed_record.pieces ++ map encoding others;
     })
     → IfOk result (λ next. IsLandedRecord next side)
-next_landed (Ok next) landed_record side standing others bytes more is stands spelled e =
+next_landed (Ok next) landed_record side standing others bytes more is stands encoded e =
     let messages = more.messages in
     let pieces = more.pieces in
     (is, cc)
-next_landed (Err fault) landed_record side standing others bytes more is stands spelled e = tt
+next_landed (Err fault) landed_record side standing others bytes more is stands encoded e = tt

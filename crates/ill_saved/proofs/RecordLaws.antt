@@ -31,8 +31,8 @@ use Rattle.ill_saved.specs.Side.{role_of}
 use Rattle.ill_saved.specs.Layout.{ended, apdu, ill_request, marked, counted, counted_text, optional_number, mark, constant}
 use Rattle.ill_saved.specs.Records.{no_date, due_octets, due_from, found_date, due, heading, requester_states, responder_states}
 use Rattle.ill_saved.specs.Records.{requester_rest, responder_rest, requester_fields, responder_fields, version, role, start}
-use Rattle.ill_saved.specs.Records.{spell_start, spell_fields, record_spelling, read_requester, read_responder, read_fields}
-use Rattle.ill_saved.specs.Records.{side_at, side_spelled, record_at, state_in}
+use Rattle.ill_saved.specs.Records.{encode_start, encode_fields, record_encoding, read_requester, read_responder, read_fields}
+use Rattle.ill_saved.specs.Records.{side_at, side_encoded, record_at, state_in}
 use Rattle.ill_saved.specs.Ranges.{IsInRange, IsSide}
 use Rattle.ill_der.proofs.Chains.{bind_ok, chosen, passed, ok_is}
 use Rattle.ill_der.proofs.Formats.{Both}
@@ -80,7 +80,7 @@ another_text d false again is = refl
 due_again : Below → (o : Option Date) → IfSome o IsDate → (due_from (due_octets o) ≡ Some o) × (length (due_octets o) ≡ 8)
 due_again below None p = (refl, refl)
 due_again below (Some d) p =
-    let again = below.day_spelled d p in
+    let again = below.day_encoded d p in
     (rw (another_text d (bytes_eq (date_text d) no_date) again refl, again) refl, refl)
 
 -- The field of a due date obeys the laws.
@@ -162,7 +162,7 @@ request_is txn (Some a) of p = (p, (and_parts (is_same_txn a.txn txn) (is_ill_re
 
 -- The side is of role `r` and in range, and `left` is the encoding of its fields followed by `rest`.
 abbrev ReadsSide : Role → Cursor → Side → Cursor → Type 0
-ReadsSide r left side rest = (role_of side ≡ r) × (left.bytes ≡ spell_fields side ++ rest.bytes) × IsInRange side
+ReadsSide r left side rest = (role_of side ≡ r) × (left.bytes ≡ encode_fields side ++ rest.bytes) × IsInRange side
 
 -- If the fields of a requester are read, they are the encoding of its side, which is in range.
 requester_takes : Below → (left : Cursor) (side : Side) (rest : Cursor) → IsBytes left.bytes
@@ -236,9 +236,9 @@ ends left x e = nil_from_length left.bytes
     (eqb-true (length left.bytes) 0 (passed (eqb (length left.bytes) 0) (Ok tt) (Bad left.at) x e).0)
 
 -- If all of the bytes are read as a side, they are its encoding, and it is in range.
-pub side_takes : Below → (bytes : List ℕ) (side : Side) → IsBytes bytes → side_spelled bytes ≡ Ok side
-    → (bytes ≡ record_spelling side) × IsInRange side
-unfolding side_spelled record_spelling
+pub side_takes : Below → (bytes : List ℕ) (side : Side) → IsBytes bytes → side_encoded bytes ≡ Ok side
+    → (bytes ≡ record_encoding side) × IsInRange side
+unfolding side_encoded record_encoding
 side_takes below bytes side fits e =
     let begun = bind_ok (start.read (cursor_at 0 bytes)) (λ start. side_at start.0.1 start.1) side e in
     let version_and_role = begun.value.0 in
@@ -249,12 +249,12 @@ side_takes below bytes side fits e =
     let last = bind_ok (ended found.value.1) (λ _. Ok found.value.0) side found.follows in
     let same : found.value.0 ≡ side = ok_is found.value.0 side last.follows in
     let fields = fields_take below version_and_role.1 begun.value.1 found.value.0 found.value.1 after_fits found.given in
-    let parts : bytes ≡ spell_start (role_of found.value.0) ++ spell_fields found.value.0 =
-    first.0 ∙ ap (λ (r : Role). spell_start r ++ begun.value.1.bytes) (sym fields.0)
-    ∙ ap (λ (x : List ℕ). spell_start (role_of found.value.0) ++ x)
-    (fields.1 ∙ ap (λ (x : List ℕ). spell_fields found.value.0 ++ x) (ends found.value.1 last.value last.given)
-    ∙ append-nil (spell_fields found.value.0)) in
-    subst (λ (x : Side). (bytes ≡ spell_start (role_of x) ++ spell_fields x) × IsInRange x) same (parts, fields.2)
+    let parts : bytes ≡ encode_start (role_of found.value.0) ++ encode_fields found.value.0 =
+    first.0 ∙ ap (λ (r : Role). encode_start r ++ begun.value.1.bytes) (sym fields.0)
+    ∙ ap (λ (x : List ℕ). encode_start (role_of found.value.0) ++ x)
+    (fields.1 ∙ ap (λ (x : List ℕ). encode_fields found.value.0 ++ x) (ends found.value.1 last.value last.given)
+    ∙ append-nil (encode_fields found.value.0)) in
+    subst (λ (x : Side). (bytes ≡ encode_start (role_of x) ++ encode_fields x) × IsInRange x) same (parts, fields.2)
 
 -- A state that is not IN-PROCESS or CHECKED-IN is among the states of a requester.
 requester_state_is : (state : State) → is_among (InProcess ∷ CheckedIn ∷ []) state ≡ false → IsAmong requester_states state
@@ -269,7 +269,7 @@ responder_state_is state role = search rules
 
 -- A side in range is read from its fields.
 fields_again : Below → (side : Side) (at : ℕ) (more : List ℕ) → IsSide side
-    → (after : ℕ) × (read_fields (role_of side) (cursor_at at (spell_fields side ++ more)) ≡ Ok (side, cursor_at after more))
+    → (after : ℕ) × (read_fields (role_of side) (cursor_at at (encode_fields side ++ more)) ≡ Ok (side, cursor_at after more))
 fields_again below (sides.Requester x) at more is =
     let range = is.1 in
     let read = (requester_fields_is below).again
@@ -305,30 +305,30 @@ fields_again below (sides.Responder y) at more is =
     (read.0, rw read.1 refl)
 
 -- A side in range is read from its encoding, without the check that it is consistent.
-side_again : Below → (side : Side) → IsSide side → side_spelled (record_spelling side) ≡ Ok side
-unfolding side_spelled record_spelling
+side_again : Below → (side : Side) → IsSide side → side_encoded (record_encoding side) ≡ Ok side
+unfolding side_encoded record_encoding
 side_again below side is =
-    let begun = start_is.again ((tt, (tt, (tt, tt))), role_of side) 0 (spell_fields side) ((tt, (tt, (tt, tt))), tt) in
+    let begun = start_is.again ((tt, (tt, (tt, tt))), role_of side) 0 (encode_fields side) ((tt, (tt, (tt, tt))), tt) in
     let fields = fields_again below side begun.0 [] is in
-    let whole : read_fields (role_of side) (cursor_at begun.0 (spell_fields side)) ≡ Ok (side, cursor_at fields.0 []) =
-    ap (λ (x : List ℕ). read_fields (role_of side) (cursor_at begun.0 x)) (sym (append-nil (spell_fields side))) ∙ fields.1 in
+    let whole : read_fields (role_of side) (cursor_at begun.0 (encode_fields side)) ≡ Ok (side, cursor_at fields.0 []) =
+    ap (λ (x : List ℕ). read_fields (role_of side) (cursor_at begun.0 x)) (sym (append-nil (encode_fields side))) ∙ fields.1 in
     rw (begun.1, whole) refl
 
 -- If bytes are read as a consistent side, they are its encoding, and it is in range.
 pub record_takes : Below → (bytes : List ℕ) (side : Side) → IsBytes bytes → record_at bytes ≡ Ok side
-    → (bytes ≡ record_spelling side) × IsSide side
+    → (bytes ≡ record_encoding side) × IsSide side
 unfolding record_at
 record_takes below bytes side fits e =
-    let read = judged_ok (side_spelled bytes) side e in
+    let read = judged_ok (side_encoded bytes) side e in
     let is = side_takes below bytes side fits read.0 in
     (is.0, (read.1, is.1))
 
 -- A side in range is read from its encoding.
-pub record_again : Below → (side : Side) → IsSide side → record_at (record_spelling side) ≡ Ok side
+pub record_again : Below → (side : Side) → IsSide side → record_at (record_encoding side) ≡ Ok side
 unfolding record_at
-record_again below side is = judged_is (side_spelled (record_spelling side)) side (side_again below side is) is.0
+record_again below side is = judged_is (side_encoded (record_encoding side)) side (side_again below side is) is.0
 
 -- If each side in range is read from its encoding, two of them with equal encodings are equal.
-pub one_side : ((side : Side) → IsSide side → record_at (record_spelling side) ≡ Ok side)
-    → (s t : Side) → IsSide s → IsSide t → record_spelling s ≡ record_spelling t → s ≡ t
+pub one_side : ((side : Side) → IsSide side → record_at (record_encoding side) ≡ Ok side)
+    → (s t : Side) → IsSide s → IsSide t → record_encoding s ≡ record_encoding t → s ≡ t
 one_side again s t first second e = ok_is s t (sym (again s first) ∙ ap record_at e ∙ again t second)

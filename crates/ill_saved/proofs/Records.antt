@@ -9,8 +9,8 @@ use Rattle.ill_saved.specs.declared.fault.RecordFault.TheVariants as faults
 use Rattle.ill_saved.specs.declared.role.Role.{Role}
 use Rattle.ill_saved.specs.declared.side.Side.{Side}
 use Rattle.ill_saved.specs.Side.{is_consistent, IsConsistent}
-use Rattle.ill_saved.specs.Records.{start, side_at, side_spelled, consistent_side, record_at, has_prefix, has_prefix_after}
-use Rattle.ill_saved.specs.Records.{begins_as_record, Decodes, record_spelling}
+use Rattle.ill_saved.specs.Records.{start, side_at, side_encoded, consistent_side, record_at, has_prefix, has_prefix_after}
+use Rattle.ill_saved.specs.Records.{begins_as_record, Decodes, record_encoding}
 use Rattle.ill_saved.specs.Ranges.{IsSide}
 use Rattle.ill_der.proofs.Chains.{ok_is}
 
@@ -20,7 +20,7 @@ pub decodes_after : (bytes : List ℕ) (first left : Cursor) (found role : Role)
     → start.read first ≡ Ok (((tt, (tt, (tt, tt))), found), left)
     → Decodes (consistent_side (side_at role left)) (has_prefix role left) result
     → Decodes (record_at bytes) (begins_as_record bytes) result
-unfolding record_at side_spelled begins_as_record
+unfolding record_at side_encoded begins_as_record
 decodes_after bytes first left found role result begun is read_first decodes =
     let read : start.read (cursor_at 0 bytes) ≡ Ok (((tt, (tt, (tt, tt))), role), left) =
     ap start.read (sym begun) ∙ read_first ∙ ap (λ (r : Role). Ok (((tt, (tt, (tt, tt))), r), left)) is in
@@ -31,13 +31,13 @@ decodes_after bytes first left found role result begun is read_first decodes =
     (subst (λ b. Decodes (consistent_side (side_at role left)) b result) (sym begins) decodes)
 
 -- If reading gives only sides in range whose encoding is `bytes`, decoding gives only such sides.
-pub decodes_spelled : (bytes : List ℕ) (begins : Bool) (result : Result Side RecordFault)
-    → ((side : Side) → record_at bytes ≡ Ok side → (bytes ≡ record_spelling side) × IsSide side)
-    → Decodes (record_at bytes) begins result → IfOk result (λ side. IsSide side × (bytes ≡ record_spelling side))
-decodes_spelled bytes begins (Ok side) spelled decodes =
-    let is = spelled side (sym decodes) in
+pub decodes_encoded : (bytes : List ℕ) (begins : Bool) (result : Result Side RecordFault)
+    → ((side : Side) → record_at bytes ≡ Ok side → (bytes ≡ record_encoding side) × IsSide side)
+    → Decodes (record_at bytes) begins result → IfOk result (λ side. IsSide side × (bytes ≡ record_encoding side))
+decodes_encoded bytes begins (Ok side) encoded decodes =
+    let is = encoded side (sym decodes) in
     (is.1, is.0)
-decodes_spelled bytes begins (Err fault) spelled decodes = tt
+decodes_encoded bytes begins (Err fault) encoded decodes = tt
 
 -- ---- the check of a side
 
@@ -86,4 +86,4 @@ judged_no_digest (Err (Bad at)) is = cc
 -- A record of one side never has the fault `Digest`.
 pub no_digest : (bytes : List ℕ) → Err faults.Digest ≡ record_at bytes → ⊥
 unfolding record_at
-no_digest bytes is = judged_no_digest (side_spelled bytes) is
+no_digest bytes is = judged_no_digest (side_encoded bytes) is

@@ -24,10 +24,10 @@ use Rattle.ill_saved.specs.declared.fault.LayoutFault.TheVariants.{Bad}
 use Rattle.ill_saved.specs.declared.fault.RecordFault.{RecordFault}
 use Rattle.ill_saved.specs.declared.fault.RecordFault.TheVariants as faults
 use Rattle.ill_saved.specs.Sides.{SidesOf, most_sides, may_be_held}
-use Rattle.ill_saved.specs.Layout.{sized, counted_by, spell_all, ended}
-use Rattle.ill_saved.specs.Records.{role, role_octet, all_of, record_at, record_spelling}
+use Rattle.ill_saved.specs.Layout.{sized, counted_by, encode_all, ended}
+use Rattle.ill_saved.specs.Records.{role, role_octet, all_of, record_at, record_encoding}
 use Rattle.ill_saved.specs.RecordsV2.{version_2, two_octets, few_sides, side_count, bad_at, one_record, part, role_and_sides}
-use Rattle.ill_saved.specs.RecordsV2.{body_of, sides_spelling, body, unsealed, consistent_sides, sides_at, read_alone}
+use Rattle.ill_saved.specs.RecordsV2.{body_of, sides_encoding, body, unsealed, consistent_sides, sides_at, read_alone}
 use Rattle.ill_saved.specs.RecordsV2.{is_version_1, records_at, AreSides}
 use Rattle.ill_saved.specs.Ranges.{IsSide}
 use Rattle.ill_der.proofs.Chains.{bind_ok, ok_is, passed, went_on}
@@ -39,10 +39,10 @@ use Rattle.ill_saved.proofs.Fields.{counted_by_is, role_is}
 -- The laws of the record of one side. Bytes that are read as a side are its encoding.
 -- A side is read from its encoding, which has at most 41,811 bytes.
 pub record OneRecord : Type 0 where
-  pub spelled : (bytes : List ℕ) (side : Side) → IsBytes bytes → record_at bytes ≡ Ok side → (bytes ≡ record_spelling side)
+  pub encoded : (bytes : List ℕ) (side : Side) → IsBytes bytes → record_at bytes ≡ Ok side → (bytes ≡ record_encoding side)
       × IsSide side
-  pub again : (side : Side) → IsSide side → record_at (record_spelling side) ≡ Ok side
-  pub short : (side : Side) → IsSide side → length (record_spelling side) ≤ 41811
+  pub again : (side : Side) → IsSide side → record_at (record_encoding side) ≡ Ok side
+  pub short : (side : Side) → IsSide side → length (record_encoding side) ≤ 41811
 
 -- ---- two octets
 
@@ -57,15 +57,16 @@ two_below (a ∷ b ∷ []) two fits =
 two_below (a ∷ b ∷ c ∷ rest) two fits = omega (arith, two)
 
 -- Two bytes are the encoding of the number that they give.
-spells_two : (bytes : List ℕ) (n : ℕ) → IsBytes bytes → length bytes ≡ 2 → from_be_bytes w16 bytes ≡ n → bytes ≡ to_be_bytes w16 n
-spells_two bytes n fits two read = sym (be_bytes_2 bytes n two fits (sym read))
+encodes_two : (bytes : List ℕ) (n : ℕ) → IsBytes bytes → length bytes ≡ 2 → from_be_bytes w16 bytes ≡ n
+    → bytes ≡ to_be_bytes w16 n
+encodes_two bytes n fits two read = sym (be_bytes_2 bytes n two fits (sym read))
 
 -- The field of a number in two octets obeys the laws for numbers below 65,536.
 two_octets_is : IsField (λ n. n < 65536) two_octets
 two_octets_is = sized_is (λ n. n < 65536) 2 _ (record {
   takes = λ bytes n fits two e.
       let read = same_Some (from_be_bytes w16 bytes) n e in
-      (spells_two bytes n fits two read, subst (λ m. m < 65536) read (two_below bytes two fits));
+      (encodes_two bytes n fits two read, subst (λ m. m < 65536) read (two_below bytes two fits));
   again = λ n small. (ap Some (from_be_bytes-to_be_bytes_2 n small), refl);
 })
 
@@ -74,7 +75,7 @@ side_count_is : IsField (λ n. n ≤ most_sides) side_count
 side_count_is = sized_is (λ n. n ≤ most_sides) 2 _ (record {
   takes = λ bytes n fits two e.
       let read = cond_some (leb (from_be_bytes w16 bytes) most_sides) (from_be_bytes w16 bytes) n e in (
-        spells_two bytes n fits two read.1,
+        encodes_two bytes n fits two read.1,
         subst (λ m. m ≤ most_sides) read.1 (leb-true (from_be_bytes w16 bytes) most_sides read.0),
       );
   again = λ n few. (
@@ -92,10 +93,10 @@ ok_found (Ok found) side e = ap Ok (same_Some found side e)
 ok_found (Err fault) side e = absurd cc
 
 -- The contents of a part of length `n` obey the laws.
-record_sized : OneRecord → (n : ℕ) → IsSized (λ side. IsSide side × (length (record_spelling side) ≡ n)) n one_record
+record_sized : OneRecord → (n : ℕ) → IsSized (λ side. IsSide side × (length (record_encoding side) ≡ n)) n one_record
 record_sized one n = record {
   takes = λ bytes side fits size e.
-      let is = one.spelled bytes side fits (ok_found (record_at bytes) side e) in
+      let is = one.encoded bytes side fits (ok_found (record_at bytes) side e) in
       (is.0, (is.1, ap length (sym is.0) ∙ size));
   again = λ side p. (ap result_ok (one.again side p.0), p.1);
 }
@@ -116,19 +117,19 @@ part_takes one left side rest fits e =
     let after_fits = rest_fits (λ n. n < 65536) two_octets two_octets_is left size.value.0 size.value.1 fits read in
     let second = (sized_is _ size.value.0 one_record (record_sized one size.value.0)).takes size.value.1 side rest after_fits
     (good_at size.value.1.at _ (side, rest) size.follows) in
-    let parts : left.bytes ≡ (two_octets.spell (length (record_spelling side)) ++ record_spelling side) ++ rest.bytes =
-    first.0 ∙ ap (λ (x : List ℕ). two_octets.spell size.value.0 ++ x) second.0
-    ∙ ap (λ (n : ℕ). two_octets.spell n ++ (record_spelling side ++ rest.bytes)) (sym second.1.1)
-    ∙ sym (append_assoc (two_octets.spell (length (record_spelling side))) (record_spelling side) rest.bytes) in
+    let parts : left.bytes ≡ (two_octets.encode (length (record_encoding side)) ++ record_encoding side) ++ rest.bytes =
+    first.0 ∙ ap (λ (x : List ℕ). two_octets.encode size.value.0 ++ x) second.0
+    ∙ ap (λ (n : ℕ). two_octets.encode n ++ (record_encoding side ++ rest.bytes)) (sym second.1.1)
+    ∙ sym (append_assoc (two_octets.encode (length (record_encoding side))) (record_encoding side) rest.bytes) in
     (parts, second.1.0)
 
 -- A side in range is read from its part.
 part_again : OneRecord → (side : Side) (at : ℕ) (more : List ℕ) → IsSide side → ReadsAgain part side at more
 part_again one side at more is =
-    let n = length (record_spelling side) in
-    let size = two_octets_is.again n at (record_spelling side ++ more) (omega (arith, one.short side is)) in
+    let n = length (record_encoding side) in
+    let size = two_octets_is.again n at (record_encoding side ++ more) (omega (arith, one.short side is)) in
     let text = (sized_is _ n one_record (record_sized one n)).again side size.0 more (is, refl) in
-    (text.0, rw (append_assoc (two_octets.spell n) (record_spelling side) more, size.1, text.1) refl)
+    (text.0, rw (append_assoc (two_octets.encode n) (record_encoding side) more, size.1, text.1) refl)
 
 -- The field of a part obeys the laws.
 part_is : OneRecord → IsField IsSide part
@@ -147,7 +148,7 @@ role_and_sides_is one = followed_is Any ManySides role (counted_by side_count pa
 
 -- Returns the encoding of the role and the sides: the octets between the version and the digest.
 abbrev octets_of : SidesOf → List ℕ
-octets_of held = role_and_sides.spell (held.role, held.sides)
+octets_of held = role_and_sides.encode (held.role, held.sides)
 
 -- Sides that may be saved are read from the octets between version and digest.
 sides_again : OneRecord → (held : SidesOf) → AreSides held → sides_at (octets_of held) ≡ Ok held
@@ -166,8 +167,8 @@ seven_first : (a b c d e f g : ℕ) (rest : List ℕ) → 7 ≤ length (a ∷ b 
 seven_first a b c d e f g rest = omega arith
 
 -- `unsealed` of the encoding of the sides gives the octets between version and digest.
-unsealed_again : (held : SidesOf) → unsealed (sides_spelling held) ≡ Ok (octets_of held)
-unfolding unsealed sides_spelling
+unsealed_again : (held : SidesOf) → unsealed (sides_encoding held) ≡ Ok (octets_of held)
+unfolding unsealed sides_encoding
 unsealed_again held =
     let prefix = body_of held in
     let digest = sha256 prefix in
@@ -176,7 +177,7 @@ unsealed_again held =
     let all = length-append prefix digest in
     let seven : 7 ≤ length prefix =
     seven_first 73 76 76 50 (role_octet held.role) (byte_at 1 (length held.sides)) (byte_at 0 (length held.sides))
-    (spell_all part.spell held.sides) in
+    (encode_all part.encode held.sides) in
     let long : ltb (length bytes) 39 ≡ false = le-ltb (length bytes) 39 (omega (arith, closed, all, seven)) in
     let at_digest : length prefix ≡ length bytes - 32 = omega (arith, closed, all) in
     let taken : body bytes ≡ prefix = take_at prefix digest (length bytes - 32) at_digest in
@@ -186,12 +187,12 @@ unsealed_again held =
     rw (long, sealed) (ap (λ (x : List ℕ). Ok (drop 4 x)) taken)
 
 -- The encoding of sides is not of version 1.
-second : (held : SidesOf) → is_version_1 (sides_spelling held) ≡ false
-unfolding sides_spelling
+second : (held : SidesOf) → is_version_1 (sides_encoding held) ≡ false
+unfolding sides_encoding
 second held = refl
 
 -- Sides that may be saved are read from their encoding.
-pub read_again : OneRecord → (held : SidesOf) → AreSides held → records_at (sides_spelling held) ≡ Ok held
+pub read_again : OneRecord → (held : SidesOf) → AreSides held → records_at (sides_encoding held) ≡ Ok held
 unfolding records_at
 read_again one held are =
     rw (second held, unsealed_again held) (sides_again one held are)
@@ -227,11 +228,11 @@ sides_take one octets held fits e =
     let last = bind_ok (ended found.value.1) (λ _. Ok found.value.0) (held.role, held.sides) found.follows in
     let same : found.value.0 ≡ (held.role, held.sides) = ok_is found.value.0 (held.role, held.sides) last.follows in
     let is = (role_and_sides_is one).takes (cursor_at 4 octets) found.value.0 found.value.1 fits found.given in
-    let spelled : octets ≡ octets_of held =
-    is.0 ∙ ap (λ (x : List ℕ). role_and_sides.spell found.value.0 ++ x) (ends found.value.1 last.value last.given)
-    ∙ append-nil (role_and_sides.spell found.value.0) ∙ ap role_and_sides.spell same in
+    let encoded : octets ≡ octets_of held =
+    is.0 ∙ ap (λ (x : List ℕ). role_and_sides.encode found.value.0 ++ x) (ends found.value.1 last.value last.given)
+    ∙ append-nil (role_and_sides.encode found.value.0) ∙ ap role_and_sides.encode same in
     let parts : Both Any ManySides (held.role, held.sides) = subst (Both Any ManySides) same is.1 in
-    (spelled, record { held = judged.1; each = parts.1.0; few = parts.1.1 })
+    (encoded, record { held = judged.1; each = parts.1.0; few = parts.1.1 })
 
 -- The bytes are the version, `octets`, and the digest of both.
 abbrev IsSealed : List ℕ → List ℕ → Type 0
@@ -266,10 +267,10 @@ unsealed_is bytes octets fits e =
     not_not false e = absurd cc
 
 -- If bytes not of version 1 are read as sides, they are their encoding, and the sides may be saved.
-pub spelled : OneRecord → (bytes : List ℕ) (held : SidesOf) → IsBytes bytes → is_version_1 bytes ≡ false
-    → records_at bytes ≡ Ok held → (bytes ≡ sides_spelling held) × AreSides held
-unfolding records_at sides_spelling
-spelled one bytes held fits another e =
+pub encoded : OneRecord → (bytes : List ℕ) (held : SidesOf) → IsBytes bytes → is_version_1 bytes ≡ false
+    → records_at bytes ≡ Ok held → (bytes ≡ sides_encoding held) × AreSides held
+unfolding records_at sides_encoding
+encoded one bytes held fits another e =
     let many : (unsealed bytes >>= sides_at) ≡ Ok held =
     sym (ap (λ b. cond b (read_alone (record_at bytes)) (unsealed bytes >>= sides_at)) another) ∙ e in
     let octets = bind_ok (unsealed bytes) sides_at held many in
@@ -278,6 +279,6 @@ spelled one bytes held fits another e =
     (sealed.0 ∙ ap (λ (x : List ℕ). (version_2 ++ x) ++ sha256 (version_2 ++ x)) is.0, is.1)
 
 -- If sides that may be saved are read from their encoding, such sides with equal encodings are equal.
-pub one_sides : ((held : SidesOf) → AreSides held → records_at (sides_spelling held) ≡ Ok held)
-    → (a b : SidesOf) → AreSides a → AreSides b → sides_spelling a ≡ sides_spelling b → a ≡ b
+pub one_sides : ((held : SidesOf) → AreSides held → records_at (sides_encoding held) ≡ Ok held)
+    → (a b : SidesOf) → AreSides a → AreSides b → sides_encoding a ≡ sides_encoding b → a ≡ b
 one_sides again a b first second e = ok_is a b (sym (again a first) ∙ ap records_at e ∙ again b second)

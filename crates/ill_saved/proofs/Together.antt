@@ -19,7 +19,7 @@ use Rattle.ill_saved.specs.Side.{role_of, txn_of, is_idle}
 use Rattle.ill_saved.specs.Sides.{SidesOf, side_with, is_same_role, is_begun, are_apart, may_be_held, most_sides, put_refusal}
 use Rattle.ill_saved.specs.Layout.{counted_by, read_all, ended}
 use Rattle.ill_saved.specs.Records.{role, heading, start, has_prefix, has_prefix_after, requester_fields, responder_fields}
-use Rattle.ill_saved.specs.Records.{requester_states, responder_states, read_fields, side_at, side_spelled, record_at}
+use Rattle.ill_saved.specs.Records.{requester_states, responder_states, read_fields, side_at, side_encoded, record_at}
 use Rattle.ill_saved.specs.Records.{begins_as_record, Decodes}
 use Rattle.ill_saved.specs.RecordsV2.{part, side_count, role_and_sides, unsealed, together, consistent_sides, sides_at}
 use Rattle.ill_saved.specs.RecordsV2.{read_alone}
@@ -124,9 +124,9 @@ fields_begin roles.Responder left side e =
 
 -- If bytes are read as a side, they begin as a record.
 read_begins : (bytes : List ℕ) (side : Side) → record_at bytes ≡ Ok side → begins_as_record bytes ≡ true
-unfolding record_at side_spelled begins_as_record
+unfolding record_at side_encoded begins_as_record
 read_begins bytes side e =
-    let read = judged_ok (side_spelled bytes) side e in
+    let read = judged_ok (side_encoded bytes) side e in
     let begun = bind_ok (start.read (cursor_at 0 bytes)) (λ start. side_at start.0.1 start.1) side read.0 in
     let version_and_role = begun.value.0 in
     ap has_prefix_after begun.given ∙ fields_begin version_and_role.1 begun.value.1 side begun.follows

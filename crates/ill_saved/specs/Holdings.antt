@@ -4,7 +4,7 @@ use Rattle.std.specs.Prelude.{Err}
 use Rattle.std.specs.Prelude.{MatchResult}
 use Rattle.ill_values.specs.declared.apdu.Apdu.{Apdu}
 use Rattle.ill_values.specs.Apdu.{IsApdu}
-use Rattle.ill_der.specs.ShortForm.{spelling}
+use Rattle.ill_der.specs.ShortForm.{encoding}
 use Rattle.ill_core.specs.declared.taking.Taking.{Taking}
 use Rattle.ill_core.specs.declared.taking.Taking.TheVariants.{Taken}
 use Rattle.ill_core.specs.Issued.{message}
@@ -49,7 +49,7 @@ pub record Effects (L K : Type 0) : Type 0 where
   -- Returns the sides to which the desk goes back if nothing has landed.
   pub unsaved : L → L
   -- Returns the bytes of the record of the sides.
-  pub spelling : L → List ℕ
+  pub encoding : L → List ℕ
   -- Returns the sides that a record encodes, with all of their messages released, or the fault of the record.
   pub read : List ℕ → Result L RecordFault
   -- Returns true if the bytes begin as a record, so that reading takes memory.
@@ -103,7 +103,7 @@ abbrev pub Sends : {X : Type 0} → (X → List ℕ) → Option Apdu → Bool �
 Sends view None is_released answer = answer ≡ Err NoSuchMessage
 Sends view (Some a) false answer = answer ≡ Err NotSaved
 Sends view (Some a) true answer =
-    MatchResult answer (λ bytes. IsApdu a × (view bytes ≡ spelling a)) (λ fault. fault ≡ OutOfMemory)
+    MatchResult answer (λ bytes. IsApdu a × (view bytes ≡ encoding a)) (λ fault. fault ≡ OutOfMemory)
 
 -- The answer to a call that asks for message `number` of a side is as `Sends` says, if the side is held.
 -- If it is not held, the answer is `NoSuchTransaction`.
@@ -145,7 +145,7 @@ pub record IsDurablyBacked {L K : Type 0} (effects : Effects L K) (backs : L →
 -- backs the live sides.
 abbrev pub IsBackedInSave : {L K : Type 0} → Effects L K → (L → L → Type 0) → (Option (List ℕ) → Type 0) → L → Type 0
 IsBackedInSave effects backs leaves live =
-    (left : Option (List ℕ)) → leaves left ⊎ (left ≡ Some (effects.spelling live)) → IsBacked effects backs left live
+    (left : Option (List ℕ)) → leaves left ⊎ (left ≡ Some (effects.encoding live)) → IsBacked effects backs left live
 
 -- Message `number` of the side `key` is `a`, and the desk may send it: it is issued and released.
 abbrev pub MaySend : {L K : Type 0} → Effects L K → L → K → ℕ → Apdu → Type 0
@@ -167,13 +167,13 @@ StaysBacked effects backs old new =
 
 -- The record of the live sides is read as these sides, with all messages released.
 abbrev pub IsReadAgain : {L K : Type 0} → Effects L K → L → Type 0
-IsReadAgain effects live = effects.read (effects.spelling live) ≡ Ok (effects.saves live)
+IsReadAgain effects live = effects.read (effects.encoding live) ≡ Ok (effects.saves live)
 
 -- `bytes` are the record of the live sides. They are read as these sides with all messages released.
 -- The sides that are read back the live ones and themselves.
 pub record IsRecordOf {L K : Type 0} (effects : Effects L K) (backs : L → L → Type 0) (bytes : List ℕ) (live : L)
     : Type 0 where
-  pub spelled : bytes ≡ effects.spelling live
+  pub encoded : bytes ≡ effects.encoding live
   pub read : effects.read bytes ≡ Ok (effects.saves live)
   pub backed : backs (effects.saves live) live
   pub saved : backs (effects.saves live) (effects.saves live)

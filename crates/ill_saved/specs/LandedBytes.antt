@@ -1,12 +1,12 @@
 -- The copy of the landed record that a desk of one side has in memory (this profile's own).
 use Rattle.std.specs.Prelude.{◌≡◌, ◌⊎◌, ℕ, ◌+◌, ◌≤◌, Bool, true, false, List, [], ◌++◌, length, take, drop, map, Option, Some}
 use Rattle.std.specs.Prelude.{None}
-use Rattle.ill_der.specs.ShortForm.{spelling}
+use Rattle.ill_der.specs.ShortForm.{encoding}
 use Rattle.ill_saved.specs.declared.side.Side.{Side}
 use Rattle.ill_saved.specs.declared.side.Standing.{Standing}
 use Rattle.ill_saved.specs.declared.landed_record.Place.{Place}
-use Rattle.ill_saved.specs.Layout.{spell_all}
-use Rattle.ill_saved.specs.Records.{record_spelling}
+use Rattle.ill_saved.specs.Layout.{encode_all}
+use Rattle.ill_saved.specs.Records.{record_encoding}
 use Rattle.ill_saved.specs.Ranges.{IsSide}
 use Rattle.ill_saved.specs.Side.{issued_of, standing_of, back_to, is_asked, IsPrefix}
 
@@ -25,9 +25,9 @@ no_landed_record = record { standing = None; bytes = []; messages = []; pieces =
 abbrev pub landed_bytes_of : Side → LandedBytes
 landed_bytes_of side = record {
   standing = Some (standing_of side);
-  bytes = record_spelling side;
-  messages = spell_all spelling (issued_of side);
-  pieces = map spelling (issued_of side);
+  bytes = record_encoding side;
+  messages = encode_all encoding (issued_of side);
+  pieces = map encoding (issued_of side);
 }
 
 -- `landed_record` is the copy of the record of `side`, which is consistent and in range.

@@ -7,7 +7,7 @@ use Rattle.ill_der.specs.declared.fault.DerFault.{DerFault}
 use Rattle.ill_der.specs.declared.fault.DerFault.TheVariants as der
 use Rattle.ill_der.specs.Contents.{Contents, qualifier}
 use Rattle.ill_der.specs.Format.{◌>>=◌, Codec, Cursor, cursor_at, where_yes}
-use Rattle.ill_der.specs.ShortForm.{spelling, apdu_at}
+use Rattle.ill_der.specs.ShortForm.{encoding, apdu_at}
 use Rattle.ill_values.specs.Bodies.{is_ill_request}
 use Rattle.ill_saved.specs.declared.fault.LayoutFault.{LayoutFault}
 use Rattle.ill_saved.specs.declared.fault.LayoutFault.TheVariants.{Short, Bad}
@@ -32,7 +32,7 @@ value_at at None = Err (Bad at)
 -- Returns the field of `n` bytes with these contents. Invalid contents are a fault at their first byte.
 abbrev pub sized : {V : Type 0} → ℕ → Contents V → Field V
 sized n contents = record {
-  spell = contents.spell;
+  encode = contents.encode;
   read = λ left. bytes_at n left >>= λ part.
       value_at left.at (contents.read part.0) >>= λ value. Ok (value, part.1);
 }
@@ -45,7 +45,7 @@ one_octet value_of (n ∷ more ∷ rest) = None
 
 -- Returns the field of one octet, which `code` encodes and `value_of` reads.
 abbrev pub octet : {V : Type 0} → (V → ℕ) → (ℕ → Option V) → Field V
-octet code value_of = sized 1 (record { spell = λ value. code value ∷ []; read = one_octet value_of })
+octet code value_of = sized 1 (record { encode = λ value. code value ∷ []; read = one_octet value_of })
 
 -- Returns the field of the octet `n`. Any other octet is a fault.
 abbrev pub constant : ℕ → Field (Unit {0})
@@ -77,7 +77,7 @@ text_size = octet (λ n. n) (λ n. if nat_le 1 n && nat_le n 64 then Some n else
 -- The field of a qualifier, preceded by its length.
 abbrev pub counted_text : Field (List ℕ)
 counted_text = record {
-  spell = λ text. text_size.spell (length text) ++ text;
+  encode = λ text. text_size.encode (length text) ++ text;
   read = λ left. text_size.read left >>= λ size. (sized size.0 qualifier).read size.1;
 }
 
@@ -91,12 +91,12 @@ apdu_by left (Err other) = Err (Bad left.at)
 
 -- The field of an APDU in its short form.
 abbrev pub apdu : Field Apdu
-apdu = record { spell = spelling; read = λ left. apdu_by left (apdu_at left.bytes) }
+apdu = record { encode = encoding; read = λ left. apdu_by left (apdu_at left.bytes) }
 
 -- The field of an ILL-Request. Any other APDU is a fault at its first byte.
 abbrev pub ill_request : Field Apdu
 ill_request = record {
-  spell = spelling;
+  encode = encoding;
   read = λ left. apdu.read left >>= λ found.
       if is_ill_request found.0.body then Ok found else Err (Bad left.at);
 }
@@ -106,9 +106,9 @@ abbrev pub marked : {V : Type 0} → Field V → Field (Option V)
 marked field = where_yes mark field
 
 -- Returns the encodings of the values, one after another.
-unfoldable pub spell_all : {V : Type 0} → (V → List ℕ) → List V → List ℕ
-spell_all spell [] = []
-spell_all spell (v ∷ values) = spell v ++ spell_all spell values
+unfoldable pub encode_all : {V : Type 0} → (V → List ℕ) → List V → List ℕ
+encode_all encode [] = []
+encode_all encode (v ∷ values) = encode v ++ encode_all encode values
 
 -- Returns the next `n` values and the cursor after them, or the first fault.
 unfoldable pub read_all : {V : Type 0} → Field V → ℕ → Cursor → Result (List V × Cursor) LayoutFault
@@ -120,7 +120,7 @@ read_all field (suc n) left =
 -- Returns the field of a list: its length in the field `size`, followed by each value.
 abbrev pub counted_by : {V : Type 0} → Field ℕ → Field V → Field (List V)
 counted_by size field = record {
-  spell = λ values. size.spell (length values) ++ spell_all field.spell values;
+  encode = λ values. size.encode (length values) ++ encode_all field.encode values;
   read = λ left. size.read left >>= λ n. read_all field n.0 n.1;
 }
 

@@ -19,7 +19,7 @@ use Rattle.ill_saved.specs.declared.fault.DeskFault.TheVariants.{Core, NoSuchTra
 use Rattle.ill_saved.specs.Side.{issued_of, txn_of, idle_side, role_for, begins, acts, takes}
 pub use Rattle.ill_saved.specs.Sides.{found_by, put_by}
 use Rattle.ill_saved.specs.Sides.{SidesOf, is_same_role, most_sides, side_with}
-use Rattle.ill_saved.specs.RecordsV2.{records_at, begins_as_records, sides_spelling}
+use Rattle.ill_saved.specs.RecordsV2.{records_at, begins_as_records, sides_encoding}
 use Rattle.ill_saved.specs.Holdings.{DeskEntry, Effects, ReadsRecord, whole, map_ok, IsBackedBy}
 
 -- The contents of a desk: sides of one role, in the order in which they were begun.
@@ -161,7 +161,7 @@ many_sides = record {
   first_key = None;
   saves = λ live. whole_of (sides_held live);
   unsaved = λ live. no_sides live.role;
-  spelling = λ live. sides_spelling (sides_held live);
+  encoding = λ live. sides_encoding (sides_held live);
   read = λ bytes. map_ok whole_of (records_at bytes);
   begins = begins_as_records;
   has_digest = true;

@@ -6,7 +6,7 @@ use Rattle.ill_saved.specs.declared.fault.DeskFault.{DeskFault}
 use Rattle.ill_saved.specs.declared.fault.DeskFault.TheVariants.{Core}
 use Rattle.ill_saved.specs.declared.side.Side.{Side}
 use Rattle.ill_saved.specs.Side.{role_of, idle_of, acts, takes}
-use Rattle.ill_saved.specs.Records.{record_at, begins_as_record, record_spelling}
+use Rattle.ill_saved.specs.Records.{record_at, begins_as_record, record_encoding}
 use Rattle.ill_saved.specs.Holdings.{DeskEntry, Effects, whole, map_ok, IsBackedBy}
 
 -- Returns the side with none of its messages released.
@@ -39,7 +39,7 @@ one_side = record {
   first_key = Some tt;
   saves = λ held. whole held.side;
   unsaved = λ held. whole (idle_of held.side);
-  spelling = λ held. record_spelling held.side;
+  encoding = λ held. record_encoding held.side;
   read = λ bytes. map_ok whole (record_at bytes);
   begins = begins_as_record;
   has_digest = false;

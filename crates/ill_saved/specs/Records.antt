@@ -82,7 +82,7 @@ due_from text = if bytes_eq text no_date then Some None else found_date (result_
 
 -- The field of a due date, in eight bytes.
 abbrev pub due : Field (Option Date)
-due = sized 8 (record { spell = due_octets; read = due_from })
+due = sized 8 (record { encode = due_octets; read = due_from })
 
 -- Returns the field with which the record of either role begins: the state and the two qualifiers.
 abbrev pub heading : List State → Field (State × (List ℕ × List ℕ))
@@ -125,8 +125,8 @@ abbrev pub start : Field ((Unit {0} × (Unit {0} × (Unit {0} × Unit {0}))) × 
 start = followed_by version role
 
 -- Returns the version and the role, with which a record of this role begins.
-abbrev pub spell_start : Role → List ℕ
-spell_start role = start.spell ((tt, (tt, (tt, tt))), role)
+abbrev pub encode_start : Role → List ℕ
+encode_start role = start.encode ((tt, (tt, (tt, tt))), role)
 
 -- The fields of a requester's record, after the version and the role.
 abbrev pub requester_fields : Field ((State × (List ℕ × List ℕ))
@@ -139,29 +139,29 @@ abbrev pub responder_fields : Field ((State × (List ℕ × List ℕ))
 responder_fields = followed_by (heading responder_states) responder_rest
 
 -- Returns the encoding of requester `x`, after the version and the role.
-abbrev pub spell_requester : RequesterRecord → List ℕ
-spell_requester x =
-    requester_fields.spell (
+abbrev pub encode_requester : RequesterRecord → List ℕ
+encode_requester x =
+    requester_fields.encode (
       (x.state, (x.txn.group, x.txn.transaction)),
       (x.held, (x.checked_in, (x.due, x.issued))),
     )
 
 -- Returns the encoding of responder `y`, after the version and the role.
-abbrev pub spell_responder : ResponderRecord → List ℕ
-spell_responder y =
-    responder_fields.spell (
+abbrev pub encode_responder : ResponderRecord → List ℕ
+encode_responder y =
+    responder_fields.encode (
       (y.state, (y.txn.group, y.txn.transaction)),
       (y.accepted, (y.last_cancel, (y.last_renew, (y.received, (y.request, y.issued))))),
     )
 
 -- Returns the encoding of a side, after the version and the role.
-abbrev pub spell_fields : Side → List ℕ
-spell_fields (sides.Requester x) = spell_requester x
-spell_fields (sides.Responder y) = spell_responder y
+abbrev pub encode_fields : Side → List ℕ
+encode_fields (sides.Requester x) = encode_requester x
+encode_fields (sides.Responder y) = encode_responder y
 
 -- Returns the encoding of a side: the version, the role and its fields. A side has no other encoding.
-unfoldable pub record_spelling : Side → List ℕ
-record_spelling side = spell_start (role_of side) ++ spell_fields side
+unfoldable pub record_encoding : Side → List ℕ
+record_encoding side = encode_start (role_of side) ++ encode_fields side
 
 -- Reads the fields of a requester, and returns its side and the cursor after them.
 abbrev pub read_requester : Cursor → Result (Side × Cursor) LayoutFault
@@ -211,8 +211,8 @@ abbrev pub side_at : Role → Cursor → Result Side LayoutFault
 side_at role left = all_of (read_fields role left)
 
 -- Returns the side that all of the bytes encode, or the first fault. The side need not be consistent.
-unfoldable pub side_spelled : List ℕ → Result Side LayoutFault
-side_spelled bytes = start.read (cursor_at 0 bytes) >>= λ start. side_at start.0.1 start.1
+unfoldable pub side_encoded : List ℕ → Result Side LayoutFault
+side_encoded bytes = start.read (cursor_at 0 bytes) >>= λ start. side_at start.0.1 start.1
 
 -- Returns the side that was read, if it is consistent, and otherwise `Inconsistent`.
 abbrev pub consistent_side : Result Side LayoutFault → Result Side RecordFault
@@ -221,7 +221,7 @@ consistent_side (Err fault) = Err (record_fault fault)
 
 -- Returns the consistent side that all of the bytes encode, or the first fault.
 unfoldable pub record_at : List ℕ → Result Side RecordFault
-record_at bytes = consistent_side (side_spelled bytes)
+record_at bytes = consistent_side (side_encoded bytes)
 
 -- Returns the states of a role.
 abbrev pub states_of : Role → List State

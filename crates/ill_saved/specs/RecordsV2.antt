@@ -19,7 +19,7 @@ use Rattle.ill_saved.specs.Side.{role_of, is_idle}
 use Rattle.ill_saved.specs.Sides.{SidesOf, most_sides, may_be_held, put_refusal, put_last}
 use Rattle.ill_saved.specs.Ranges.{Each, IsSide}
 use Rattle.ill_saved.specs.Layout.{Field, sized, counted_by, record_fault}
-use Rattle.ill_saved.specs.Records.{role, all_of, record_at, record_spelling, begins_as_record}
+use Rattle.ill_saved.specs.Records.{role, all_of, record_at, record_encoding, begins_as_record}
 
 -- The four octets `ILL1`.
 abbrev pub version_1 : List ℕ
@@ -31,7 +31,7 @@ version_2 = 73 ∷ 76 ∷ 76 ∷ 50 ∷ []
 
 -- The field of a number in two octets, the high one first.
 abbrev pub two_octets : Field ℕ
-two_octets = sized 2 (record { spell = to_be_bytes w16; read = λ bytes. Some (from_be_bytes w16 bytes) })
+two_octets = sized 2 (record { encode = to_be_bytes w16; read = λ bytes. Some (from_be_bytes w16 bytes) })
 
 -- Returns `n` if a desk may hold `n` sides.
 abbrev pub few_sides : ℕ → Option ℕ
@@ -40,7 +40,7 @@ few_sides n = if nat_le n most_sides then Some n else None
 -- The field of the number of sides, in two octets. A number over the limit is a fault.
 abbrev pub side_count : Field ℕ
 side_count =
-    sized 2 (record { spell = to_be_bytes w16; read = λ bytes. few_sides (from_be_bytes w16 bytes) })
+    sized 2 (record { encode = to_be_bytes w16; read = λ bytes. few_sides (from_be_bytes w16 bytes) })
 
 -- Returns the result with its fault replaced by one at the offset `at`.
 abbrev pub bad_at : {X : Type 0} → ℕ → Result X LayoutFault → Result X LayoutFault
@@ -49,12 +49,12 @@ bad_at at (Err fault) = Err (Bad at)
 
 -- The contents of a part: the record of one side in version 1.
 abbrev pub one_record : Contents Side
-one_record = record { spell = record_spelling; read = λ bytes. result_ok (record_at bytes) }
+one_record = record { encode = record_encoding; read = λ bytes. result_ok (record_at bytes) }
 
 -- The field of a side: the length of its record, and the record. A fault in the record is at its first byte.
 abbrev pub part : Field Side
 part = record {
-  spell = λ side. two_octets.spell (length (record_spelling side)) ++ record_spelling side;
+  encode = λ side. two_octets.encode (length (record_encoding side)) ++ record_encoding side;
   read = λ left. bad_at left.at (two_octets.read left) >>= λ size.
       bad_at size.1.at ((sized size.0 one_record).read size.1);
 }
@@ -65,11 +65,11 @@ role_and_sides = followed_by role (counted_by side_count part)
 
 -- Returns the encoding of the sides, without the digest.
 abbrev pub body_of : SidesOf → List ℕ
-body_of held = version_2 ++ role_and_sides.spell (held.role, held.sides)
+body_of held = version_2 ++ role_and_sides.encode (held.role, held.sides)
 
 -- Returns the encoding of the sides, followed by its digest. The sides have no other encoding.
-unfoldable pub sides_spelling : SidesOf → List ℕ
-sides_spelling held = body_of held ++ sha256 (body_of held)
+unfoldable pub sides_encoding : SidesOf → List ℕ
+sides_encoding held = body_of held ++ sha256 (body_of held)
 
 -- Returns all bytes but the last 32, which are the digest.
 abbrev pub body : List ℕ → List ℕ

@@ -17,7 +17,7 @@ use std::alloc::Global;
 /// Decodes a saved record, or returns the first fault. The record must take up all of the bytes.
 ///
 /// Decoding allocates as it reads, from the qualifiers on.
-#[tactic(auto, unfolding(crate::specs::Records::record_at, crate::specs::Records::side_spelled, crate::specs::Records::begins_as_record))]
+#[tactic(auto, unfolding(crate::specs::Records::record_at, crate::specs::Records::side_encoded, crate::specs::Records::begins_as_record))]
 pub fn decode_record(alloc: Global, bytes: &[u8]) -> Result<Side, RecordFault>
     ensures { Decodes (record_at bytes.now) (begins_as_record bytes.now) result }
 {

@@ -140,7 +140,7 @@ impl<H: Holdings, S: Store> AnyDesk<H, S> {
     /// this one, or one that it might have left before.
     pub fn save(&mut self, alloc: Global) -> Result<(), DeskFault>
         ensures live { self.new.live ≡ held_after H.effects result self.old.live }
-        ensures store { DeskSaves (H.effects.spelling self.old.live) (S.state self.old.store) result
+        ensures store { DeskSaves (H.effects.encoding self.old.live) (S.state self.old.store) result
             (S.state self.new.store) }
         ensures sides { IfEncoded H.in_range result self.old.live }
         ensures reads { IfEncoded (IsReadAgain H.effects) result self.old.live }
@@ -149,7 +149,7 @@ impl<H: Holdings, S: Store> AnyDesk<H, S> {
         ensures lasts { (S.state self.old.store).is_honest ≡ true →
             OnOk result (LeavesLanded (S.state self.new.store).landed (S.leaves self.new.store)) }
         ensures left { (S.state self.old.store).is_honest ≡ true →
-            LeavesBeforeOr (Some (H.effects.spelling self.old.live)) (S.leaves self.old.store)
+            LeavesBeforeOr (Some (H.effects.encoding self.old.live)) (S.leaves self.old.store)
             (S.leaves self.new.store) }
         ensures faults { IsSaveFault result }
     {

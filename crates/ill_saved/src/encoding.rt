@@ -4,12 +4,12 @@ ghost use Rattle.std.specs.Prelude.{◌≡◌, ◌≤◌, ◌++◌, true, false,
 ghost use Rattle.ill_values.specs.Day.{IsDate};
 ghost use Rattle.ill_values.specs.TxnId.{AreQualifiers};
 ghost use Rattle.ill_values.specs.Apdu.{IsApdu, IsNumber};
-ghost use Rattle.ill_der.specs.ShortForm.{spelling};
+ghost use Rattle.ill_der.specs.ShortForm.{encoding};
 ghost use Rattle.ill_core.specs.Requester.{IsRequester};
 ghost use Rattle.ill_core.specs.Responder.{IsResponder};
 ghost use Rattle.ill_saved.specs.declared.role.Role.TheVariants as roles;
-ghost use Rattle.ill_saved.specs.Layout.{spell_all, number_octet, mark, marked, counted, counted_text, apdu, ill_request};
-ghost use Rattle.ill_saved.specs.Records.{state_code, due, due_octets, heading, requester_states, spell_start, spell_requester, spell_responder, record_spelling};
+ghost use Rattle.ill_saved.specs.Layout.{encode_all, number_octet, mark, marked, counted, counted_text, apdu, ill_request};
+ghost use Rattle.ill_saved.specs.Records.{state_code, due, due_octets, heading, requester_states, encode_start, encode_requester, encode_responder, record_encoding};
 ghost use Rattle.ill_saved.specs.Side.{issued_of};
 ghost use Rattle.ill_saved.specs.Ranges.{Each, RequesterInRange, ResponderInRange, IsSide};
 
@@ -21,7 +21,7 @@ use std::alloc::Global;
 
 /// Encodes `side` as a saved record. Each side has exactly one encoding.
 pub fn encode_record(alloc: Global, side: &Side) -> Result<Vec<u8>, OutOfMemory>
-    ensures bytes { IfOk result (λ bytes. bytes.items ≡ record_spelling side.now) }
+    ensures bytes { IfOk result (λ bytes. bytes.items ≡ record_encoding side.now) }
     ensures side { OnOk result (IsSide side.now) }
 {
     encode_after(alloc, side, &[], side.all_issued())
@@ -35,10 +35,10 @@ pub fn encode_after(
     known: &[u8],
     others: &[Apdu],
 ) -> Result<Vec<u8>, OutOfMemory>
-    requires spelled { known.now ++ spell_all spelling others.now ≡
-        spell_all spelling (issued_of side.now) }
+    requires encoded { known.now ++ encode_all encoding others.now ≡
+        encode_all encoding (issued_of side.now) }
     requires range { Each IsApdu others.now → Each IsApdu (issued_of side.now) }
-    ensures bytes { IfOk result (λ bytes. bytes.items ≡ record_spelling side.now) }
+    ensures bytes { IfOk result (λ bytes. bytes.items ≡ record_encoding side.now) }
     ensures side { OnOk result (IsSide side.now) }
 {
     let mut bytes = Vec::new(alloc);
@@ -47,17 +47,17 @@ pub fn encode_after(
 }
 
 /// Appends the record of `side` to `bytes`, with `known` and `others` as in `encode_after`.
-#[tactic(auto, unfolding(crate::specs::Records::record_spelling))]
+#[tactic(auto, unfolding(crate::specs::Records::record_encoding))]
 pub fn push_record(
     bytes: &mut Vec<u8>,
     side: &Side,
     known: &[u8],
     others: &[Apdu],
 ) -> Result<(), OutOfMemory>
-    requires spelled { known.now ++ spell_all spelling others.now ≡
-        spell_all spelling (issued_of side.now) }
+    requires encoded { known.now ++ encode_all encoding others.now ≡
+        encode_all encoding (issued_of side.now) }
     requires range { Each IsApdu others.now → Each IsApdu (issued_of side.now) }
-    ensures bytes { OnOk result (bytes.new.items ≡ bytes.old.items ++ record_spelling side.now) }
+    ensures bytes { OnOk result (bytes.new.items ≡ bytes.old.items ++ record_encoding side.now) }
     ensures side { OnOk result (IsSide side.now) }
 {
     match side {
@@ -71,8 +71,8 @@ pub fn push_record(
 
 /// Appends all fields of a requester that come before its issued messages.
 fn push_requester(bytes: &mut Vec<u8>, requester: &Requester) -> Result<(), OutOfMemory>
-    ensures bytes { OnOk result (bytes.new.items ++ (counted apdu).spell requester.now.issued ≡
-        bytes.old.items ++ (spell_start roles.Requester ++ spell_requester requester.now)) }
+    ensures bytes { OnOk result (bytes.new.items ++ (counted apdu).encode requester.now.issued ≡
+        bytes.old.items ++ (encode_start roles.Requester ++ encode_requester requester.now)) }
     ensures range { OnOk result (RequesterInRange requester.now) }
     ensures consistent { IsRequester requester.now }
 {
@@ -86,8 +86,8 @@ fn push_requester(bytes: &mut Vec<u8>, requester: &Requester) -> Result<(), OutO
 
 /// Appends all fields of a responder that come before its issued messages.
 fn push_responder(bytes: &mut Vec<u8>, responder: &Responder) -> Result<(), OutOfMemory>
-    ensures bytes { OnOk result (bytes.new.items ++ (counted apdu).spell responder.now.issued ≡
-        bytes.old.items ++ (spell_start roles.Responder ++ spell_responder responder.now)) }
+    ensures bytes { OnOk result (bytes.new.items ++ (counted apdu).encode responder.now.issued ≡
+        bytes.old.items ++ (encode_start roles.Responder ++ encode_responder responder.now)) }
     ensures range { OnOk result (ResponderInRange responder.now) }
     ensures consistent { IsResponder responder.now }
 {
@@ -107,7 +107,7 @@ fn push_responder(bytes: &mut Vec<u8>, responder: &Responder) -> Result<(), OutO
 /// Appends the state and the qualifiers of the transaction.
 fn push_heading(bytes: &mut Vec<u8>, state: State, txn: &TxnId) -> Result<(), OutOfMemory>
     ensures bytes { OnOk result (bytes.new.items ≡ bytes.old.items
-        ++ (heading requester_states).spell (state, (txn.now.group, txn.now.transaction))) }
+        ++ (heading requester_states).encode (state, (txn.now.group, txn.now.transaction))) }
     ensures range { OnOk result (AreQualifiers txn.now) }
 {
     bytes.push(state_code(state))?;
@@ -118,7 +118,7 @@ fn push_heading(bytes: &mut Vec<u8>, state: State, txn: &TxnId) -> Result<(), Ou
 /// Appends the length of a qualifier, and then the qualifier.
 fn push_text(bytes: &mut Vec<u8>, text: &[u8]) -> Result<(), OutOfMemory>
     requires few { length text.now ≤ 64 }
-    ensures { OnOk result (bytes.new.items ≡ bytes.old.items ++ counted_text.spell text.now) }
+    ensures { OnOk result (bytes.new.items ≡ bytes.old.items ++ counted_text.encode text.now) }
 {
     bytes.push(text.len() as u8)?;
     bytes.extend_from_slice(text)?;
@@ -139,7 +139,7 @@ fn push_due_octets(bytes: &mut Vec<u8>, due: Option<Day>) -> Result<(), OutOfMem
 /// Appends the ILL-Request, if there is one.
 fn push_request(bytes: &mut Vec<u8>, request: Option<&Apdu>) -> Result<(), OutOfMemory>
     ensures bytes { OnOk result (bytes.new.items ≡ bytes.old.items
-        ++ (marked ill_request).spell (option_map (λ a. a.now) request.entry)) }
+        ++ (marked ill_request).encode (option_map (λ a. a.now) request.entry)) }
     ensures range { OnOk result (IfSome (option_map (λ a. a.now) request.entry) IsApdu) }
 {
     match request {
@@ -157,7 +157,7 @@ fn push_request(bytes: &mut Vec<u8>, request: Option<&Apdu>) -> Result<(), OutOf
 /// Appends the encodings of `apdus`.
 fn push_apdus(bytes: &mut Vec<u8>, apdus: &[Apdu]) -> Result<(), OutOfMemory>
     ensures bytes { OnOk result (bytes.new.items ≡ bytes.old.items
-        ++ spell_all spelling apdus.now) }
+        ++ encode_all encoding apdus.now) }
     ensures range { OnOk result (Each IsApdu apdus.now) }
 {
     for apdu in apdus {

@@ -1,9 +1,9 @@
 //! Encoding of many sides as one saved record.
 
 ghost use Rattle.std.specs.Prelude.{◌≡◌, ◌<◌, ◌++◌, length, IfOk, OnOk};
-ghost use Rattle.ill_saved.specs.Layout.{spell_all};
+ghost use Rattle.ill_saved.specs.Layout.{encode_all};
 ghost use Rattle.ill_saved.specs.Records.{role_octet};
-ghost use Rattle.ill_saved.specs.RecordsV2.{two_octets, part, sides_spelling, AreSides};
+ghost use Rattle.ill_saved.specs.RecordsV2.{two_octets, part, sides_encoding, AreSides};
 ghost use Rattle.ill_saved.specs.Ranges.{Each, IsSide};
 
 use crate::encoding::push_record;
@@ -18,9 +18,9 @@ use std::alloc::Global;
 /// Encodes the sides as one saved record of version 2. The record ends with the SHA-256 of its other bytes.
 ///
 /// Encodes each side into a buffer, and then appends its length and the buffer.
-#[tactic(auto, unfolding(crate::specs::RecordsV2::sides_spelling))]
+#[tactic(auto, unfolding(crate::specs::RecordsV2::sides_encoding))]
 pub fn encode_record2(alloc: Global, sides: &Sides) -> Result<Vec<u8>, OutOfMemory>
-    ensures bytes { IfOk result (λ bytes. bytes.items ≡ sides_spelling sides.now) }
+    ensures bytes { IfOk result (λ bytes. bytes.items ≡ sides_encoding sides.now) }
     ensures sides { OnOk result (AreSides sides.now) }
 {
     let mut bytes = Vec::new(alloc);
@@ -36,7 +36,7 @@ pub fn encode_record2(alloc: Global, sides: &Sides) -> Result<Vec<u8>, OutOfMemo
 /// Appends the length and the record of each side.
 fn push_parts(alloc: Global, bytes: &mut Vec<u8>, sides: &Sides) -> Result<(), OutOfMemory>
     ensures bytes { OnOk result (bytes.new.items ≡ bytes.old.items
-        ++ spell_all part.spell sides.now.sides) }
+        ++ encode_all part.encode sides.now.sides) }
     ensures sides { OnOk result (Each IsSide sides.now.sides) }
 {
     let mut record = Vec::new(alloc);
@@ -50,7 +50,7 @@ fn push_parts(alloc: Global, bytes: &mut Vec<u8>, sides: &Sides) -> Result<(), O
 
 /// Appends the length and the record of `side`. Clears the buffer `record` first, and encodes `side` into it.
 fn push_part(bytes: &mut Vec<u8>, record: &mut Vec<u8>, side: &Side) -> Result<(), OutOfMemory>
-    ensures bytes { OnOk result (bytes.new.items ≡ bytes.old.items ++ part.spell side.now) }
+    ensures bytes { OnOk result (bytes.new.items ≡ bytes.old.items ++ part.encode side.now) }
     ensures side { OnOk result (IsSide side.now) }
 {
     laws::record_is_short();
@@ -74,7 +74,7 @@ fn role_octet(role: Role) -> u8
 /// Returns the two octets of a number, the high one first.
 fn two_octets(n: usize) -> [u8; 2]
     requires few { n < 65536 }
-    ensures { result ≡ two_octets.spell n }
+    ensures { result ≡ two_octets.encode n }
 {
     (n as u16).to_be_bytes()
 }

@@ -2,10 +2,10 @@
 
 ghost use Rattle.std.specs.Prelude.{◌≡◌, ◌++◌, ◌-◌, ◌≤◌, length, map, drop, Some, IfOk};
 ghost use Rattle.std.specs.List.{All, slice_get};
-ghost use Rattle.ill_der.specs.ShortForm.{spelling};
-ghost use Rattle.ill_saved.specs.Layout.{spell_all};
+ghost use Rattle.ill_der.specs.ShortForm.{encoding};
+ghost use Rattle.ill_saved.specs.Layout.{encode_all};
 ghost use Rattle.ill_saved.specs.Side.{issued_of};
-ghost use Rattle.ill_saved.specs.Records.{record_spelling};
+ghost use Rattle.ill_saved.specs.Records.{record_encoding};
 ghost use Rattle.ill_saved.specs.LandedBytes.{LandedBytes, no_landed_record, landed_bytes_of, IsLandedRecord, HoldsReleased, GoesBackTo, piece_at, IsWithin, EndsWith};
 
 use crate::encoding::encode_after;
@@ -61,7 +61,7 @@ impl LandedRecord {
 
     /// Returns the copy of the record of `side`. `bytes` must be that record. Allocates the places.
     pub fn of(alloc: Global, bytes: Vec<u8>, side: &Side) -> Result<LandedRecord, OutOfMemory>
-        requires spelled { bytes.items ≡ record_spelling side.now }
+        requires encoded { bytes.items ≡ record_encoding side.now }
         ensures { IfOk result (λ landed_record. landed_record ≡ landed_bytes_of side.now) }
     {
         LandedRecord::none(alloc).followed_by(alloc, side.standing(), bytes, side.all_issued())
@@ -91,12 +91,12 @@ impl LandedRecord {
         bytes: Vec<u8>,
         apdus: &[Apdu],
     ) -> Result<LandedRecord, OutOfMemory>
-        requires ends { EndsWith (self.now.messages ++ spell_all spelling apdus.now) bytes.items }
+        requires ends { EndsWith (self.now.messages ++ encode_all encoding apdus.now) bytes.items }
         ensures { IfOk result (λ landed_record. landed_record ≡ record {
           standing = Some standing;
           bytes = bytes.items;
-          messages = self.now.messages ++ spell_all spelling apdus.now;
-          pieces = self.now.pieces ++ map spelling apdus.now;
+          messages = self.now.messages ++ encode_all encoding apdus.now;
+          pieces = self.now.pieces ++ map encoding apdus.now;
         }) }
     {
         let mut places = Vec::from_slice(alloc, &self.places)?;

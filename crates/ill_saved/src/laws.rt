@@ -19,8 +19,8 @@ ghost use Rattle.ill_saved.specs.OneSide.{OneBacks, one_side};
 ghost use Rattle.ill_saved.specs.ManySides.{DeskContents, ManyBack, many_sides};
 ghost use Rattle.ill_saved.specs.Desk.{DeskFailsCounted, DeskLoads, DeskTakes, IsCreateAnswer, IsLoadFault, IsSaveFault, LeavesBeforeOr, LeavesLanded, PlanAfter, RestartLeaves, SaveLands};
 ghost use Rattle.ill_saved.specs.Side.{issued_of, is_idle, acts, takes, IsSideTransition, Grows, KeepsRequest, IsAfterTransitions, IsPrefix};
-ghost use Rattle.ill_saved.specs.Records.{side_spelled, record_at, record_spelling};
-ghost use Rattle.ill_saved.specs.RecordsV2.{sides_spelling, is_version_1, records_at, AreSides};
+ghost use Rattle.ill_saved.specs.Records.{side_encoded, record_at, record_encoding};
+ghost use Rattle.ill_saved.specs.RecordsV2.{sides_encoding, is_version_1, records_at, AreSides};
 ghost use Rattle.ill_saved.specs.Ranges.{IsInRange, IsSide};
 ghost use Rattle.ill_saved.specs.Sides.{SidesOf};
 
@@ -30,7 +30,7 @@ use ill_store::Store;
 /// Each side that is consistent and in range is read from its encoding. So `decode_record` returns the side that
 /// `encode_record` encoded.
 pub fn read_again()
-    ensures { (side : Side) → IsSide side → record_at (record_spelling side) ≡ Ok side }
+    ensures { (side : Side) → IsSide side → record_at (record_encoding side) ≡ Ok side }
 {
     ill_values::laws::date_texts();
     ill_values::laws::text_sizes();
@@ -39,11 +39,11 @@ pub fn read_again()
 }
 
 /// If bytes are read as a side, they are its encoding, even if the side is not consistent.
-pub fn spelled()
+pub fn encoded()
     ensures side { (bytes : List ℕ) (side : Side) → IsBytes bytes → record_at bytes ≡ Ok side →
-        (bytes ≡ record_spelling side) × IsSide side }
-    ensures layout { (bytes : List ℕ) (side : Side) → IsBytes bytes → side_spelled bytes ≡ Ok side →
-        (bytes ≡ record_spelling side) × IsInRange side }
+        (bytes ≡ record_encoding side) × IsSide side }
+    ensures layout { (bytes : List ℕ) (side : Side) → IsBytes bytes → side_encoded bytes ≡ Ok side →
+        (bytes ≡ record_encoding side) × IsInRange side }
 {
     ill_values::laws::date_texts();
     ill_values::laws::text_sizes();
@@ -53,7 +53,7 @@ pub fn spelled()
 
 /// Two sides with equal encodings are equal.
 pub fn one_side()
-    ensures { (s t : Side) → IsSide s → IsSide t → record_spelling s ≡ record_spelling t → s ≡ t }
+    ensures { (s t : Side) → IsSide s → IsSide t → record_encoding s ≡ record_encoding t → s ≡ t }
 {
     read_again();
 }
@@ -61,7 +61,7 @@ pub fn one_side()
 /// The record of one side has at most 41,811 bytes, so a store that takes 65,535 takes every such record. A
 /// responder has 501 bytes besides at most 255 issued messages of at most 162 bytes each.
 pub fn record_is_short()
-    ensures { (side : Side) → IsSide side → length (record_spelling side) ≤ 41811 }
+    ensures { (side : Side) → IsSide side → length (record_encoding side) ≤ 41811 }
 {
     ill_values::laws::text_sizes();
     ill_der::laws::longest();
@@ -71,33 +71,33 @@ pub fn record_is_short()
 /// The record of many sides has at most 41,813,039 bytes. So a store that takes `RECORD_LIMIT` takes every record of
 /// a desk. It has 39 bytes besides at most 1,000 sides, and each side has two bytes for its length.
 pub fn sides_record_is_short()
-    ensures { (held : SidesOf) → AreSides held → length (sides_spelling held) ≤ 41813039 }
+    ensures { (held : SidesOf) → AreSides held → length (sides_encoding held) ≤ 41813039 }
 {
     record_is_short();
 }
 
 /// Sides of a desk are read from their encoding. So `decode_record2` returns the sides that `encode_record2` encoded.
 pub fn sides_read_again()
-    ensures { (held : SidesOf) → AreSides held → records_at (sides_spelling held) ≡ Ok held }
+    ensures { (held : SidesOf) → AreSides held → records_at (sides_encoding held) ≡ Ok held }
 {
     read_again();
-    spelled();
+    encoded();
     record_is_short();
 }
 
 /// If bytes are read as sides, and are no record of version 1, they are the encoding of these sides.
-pub fn sides_spelled()
+pub fn sides_encoded()
     ensures { (bytes : List ℕ) (held : SidesOf) → IsBytes bytes → is_version_1 bytes ≡ false →
-        records_at bytes ≡ Ok held → (bytes ≡ sides_spelling held) × AreSides held }
+        records_at bytes ≡ Ok held → (bytes ≡ sides_encoding held) × AreSides held }
 {
     read_again();
-    spelled();
+    encoded();
     record_is_short();
 }
 
 /// If the sides of two desks have equal encodings, they are equal, and their roles are equal.
 pub fn one_sides()
-    ensures { (a b : SidesOf) → AreSides a → AreSides b → sides_spelling a ≡ sides_spelling b → a ≡ b }
+    ensures { (a b : SidesOf) → AreSides a → AreSides b → sides_encoding a ≡ sides_encoding b → a ≡ b }
 {
     sides_read_again();
 }
@@ -168,7 +168,7 @@ pub fn what_may_be_sent_outlasts_the_power<S: Store>(desk: &Desk<S>)
         ReadHas many_sides (landed_live many_sides left desk.now.live) txn number a }
     ensures left_in_save { IsBackedInSave many_sides ManyBack (S.leaves desk.now.store) desk.now.live →
         (left : Option (List ℕ)) (txn : Qualifiers) (number : ℕ) (a : Apdu) →
-        S.leaves desk.now.store left ⊎ (left ≡ Some (many_sides.spelling desk.now.live)) →
+        S.leaves desk.now.store left ⊎ (left ≡ Some (many_sides.encoding desk.now.live)) →
         MaySend many_sides desk.now.live txn number a →
         ReadHas many_sides (landed_live many_sides left desk.now.live) txn number a }
 {

@@ -268,8 +268,8 @@ fn read_sides(alloc: Global, bytes: &[u8]) -> Result<ManySides, DeskFault>
     ensures backed { IfOk result (λ held. ManyBack held held) }
     ensures faults { IfErr result (IsReadFault true) }
 {
-    laws::spelled();
-    laws::sides_spelled();
+    laws::encoded();
+    laws::sides_encoded();
     let sides = decode_record2(alloc, bytes)?;
     Ok(ManySides::whole(alloc, sides)?)
 }

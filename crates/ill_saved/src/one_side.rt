@@ -2,7 +2,7 @@
 
 ghost use Rattle.std.specs.Prelude.{◌≡◌, ◌≤◌, length, IfOk};
 ghost use Rattle.ill_saved.specs.Side.{issued_of, idle_of, idle_side};
-ghost use Rattle.ill_saved.specs.Records.{record_spelling, record_at, begins_as_record, Decodes};
+ghost use Rattle.ill_saved.specs.Records.{record_encoding, record_at, begins_as_record, Decodes};
 ghost use Rattle.ill_saved.specs.Ranges.{IsSide};
 ghost use Rattle.ill_saved.specs.Holdings.{DeskEntry};
 ghost use Rattle.ill_saved.specs.OneSide.{OneBacks, alone, one_side};
@@ -191,8 +191,8 @@ impl Holdings for OneSide {
 /// Decodes the side that `bytes` encode.
 fn read_side(alloc: Global, bytes: &[u8]) -> Result<Side, RecordFault>
     ensures decodes { Decodes (record_at bytes.now) (begins_as_record bytes.now) result }
-    ensures spelled { IfOk result (λ side. IsSide side × (bytes.now ≡ record_spelling side)) }
+    ensures encoded { IfOk result (λ side. IsSide side × (bytes.now ≡ record_encoding side)) }
 {
-    laws::spelled();
+    laws::encoded();
     decode_record(alloc, bytes)
 }

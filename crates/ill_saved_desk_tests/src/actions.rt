@@ -6,7 +6,7 @@ use ill_test_kit::named;
 use ill_values::{AnswerResult, Day, Item};
 use std::alloc::Global;
 
-/// Returns the action that `words` spell: a deed after its day, or a wish.
+/// Returns the action that `words` encode: a deed after its day, or a wish.
 pub fn action(alloc: Global, words: &str) -> Option<Action> {
     let (first, others) = words.split_once(' ').unwrap_or((words, ""));
     match day(first) {
@@ -15,7 +15,7 @@ pub fn action(alloc: Global, words: &str) -> Option<Action> {
     }
 }
 
-/// Returns the wish that `words` spell.
+/// Returns the wish that `words` encode.
 fn wish(alloc: Global, words: &str) -> Option<Wish> {
     match words {
         "cancel" => Some(Wish::Cancel),
@@ -27,7 +27,7 @@ fn wish(alloc: Global, words: &str) -> Option<Wish> {
     }
 }
 
-/// Returns the wish Request that `words` spell, without an expiry date.
+/// Returns the wish Request that `words` encode, without an expiry date.
 fn request(alloc: Global, words: &str) -> Option<Wish> {
     let text = words.strip_prefix("request none ")?.as_bytes();
     let item = Item::new(alloc, text).ok()?;
@@ -50,12 +50,12 @@ const DEEDS: [(&str, Deed); 9] = [
     ("expire", Deed::Expire),
 ];
 
-/// Returns the deed that `words` spell.
+/// Returns the deed that `words` encode.
 fn deed(words: &str) -> Option<Deed> {
     named(&DEEDS, words).or(dated_deed(words))
 }
 
-/// Returns the deed with a due date that `words` spell.
+/// Returns the deed with a due date that `words` encode.
 fn dated_deed(words: &str) -> Option<Deed> {
     if let Some(digits) = words.strip_prefix("ship ") {
         return Some(Deed::Ship { due: day(digits)? });
@@ -64,7 +64,7 @@ fn dated_deed(words: &str) -> Option<Deed> {
     Some(Deed::RenewAnswer { granted })
 }
 
-/// Returns the day that `digits` spell.
+/// Returns the day that `digits` encode.
 fn day(digits: &str) -> Option<Day> {
     Day::read(digits.as_bytes()).ok()
 }

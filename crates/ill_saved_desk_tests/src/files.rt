@@ -43,7 +43,7 @@ fn damaged<H: DeskKind>(
     restarts.write_damaged::<H>(line, &damage)
 }
 
-/// Returns the damage that `words` spell.
+/// Returns the damage that `words` encode.
 fn damage_of(names: &Names, words: &str) -> Option<Damage> {
     match words {
         "folder" => Some(Damage::Folder),

@@ -104,7 +104,7 @@ fn go_on<H: DeskKind>(alloc: Global, desk: &mut MemoryDesk<H>, txn: &TxnId) -> O
     act(alloc, desk, txn, words)
 }
 
-/// Performs the action that `words` spell.
+/// Performs the action that `words` encode.
 fn act<H: DeskKind>(
     alloc: Global,
     desk: &mut MemoryDesk<H>,

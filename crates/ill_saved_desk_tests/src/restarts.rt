@@ -111,7 +111,7 @@ impl<'a, 'p> Restarts<'a, 'p> {
         desk.save(self.alloc).ok()
     }
 
-    /// Performs the action that `words` spell.
+    /// Performs the action that `words` encode.
     fn act<H: DeskKind>(&self, desk: &mut HostDesk<'a, H>, words: &str) -> Option<()> {
         let (txn, action) = self.txn().zip(action(self.alloc, words))?;
         desk.act_on(self.alloc, H::key(&txn), &action).ok()

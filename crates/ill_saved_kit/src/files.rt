@@ -42,7 +42,7 @@ impl<'a> Folder<'a> {
         Folder { rt, alloc, path }
     }
 
-    /// Returns the call that `words` spell: its word, the name of a file, and other words.
+    /// Returns the call that `words` encode: its word, the name of a file, and other words.
     pub fn call<'w>(&self, words: &'w str) -> Option<FileCall<'w>> {
         let (word, words) = words.split_once(' ').unwrap_or((words, ""));
         let (name, words) = words.split_once(' ').unwrap_or((words, ""));

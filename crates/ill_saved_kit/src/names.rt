@@ -44,7 +44,7 @@ impl Names {
         self.names.push(name).ok()
     }
 
-    /// Returns the values that `words` spell, with `|` between them.
+    /// Returns the values that `words` encode, with `|` between them.
     fn values(&self, words: &str) -> Option<Vec<Vec<u8>>> {
         let mut values = Vec::new(self.alloc);
         values.push(Vec::new(self.alloc)).ok()?;
@@ -89,7 +89,7 @@ impl Names {
         }
     }
 
-    /// Replaces the octet at `place` by the octet that `piece` spells.
+    /// Replaces the octet at `place` by the octet that `piece` encodes.
     fn put_octet(&self, bytes: &mut Vec<u8>, place: &str, piece: &str, case: usize) -> Option<()> {
         let place = count_in(place)?;
         self.push_piece(bytes, piece, case)?;
@@ -98,7 +98,7 @@ impl Names {
         Some(())
     }
 
-    /// Adds the bytes that `piece` spells.
+    /// Adds the bytes that `piece` encodes.
     fn push_piece(&self, bytes: &mut Vec<u8>, piece: &str, case: usize) -> Option<()> {
         if let Some(text) = piece.strip_prefix('"') {
             return bytes

@@ -42,7 +42,7 @@ pub struct CaseWords<'a> {
 }
 
 impl CaseWords<'_> {
-    /// Returns the bytes that the words spell.
+    /// Returns the bytes that the words encode.
     pub fn bytes(&self) -> Option<Vec<u8>> {
         self.names.bytes(self.text, self.number)
     }

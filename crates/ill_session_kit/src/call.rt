@@ -68,7 +68,7 @@ impl<'a> Parts<'a> {
 }
 
 impl<'a> Call<'a> {
-    /// Returns the call that `WORDS [< READER] [> WRITER] [2> WRITER]` spells.
+    /// Returns the call that `WORDS [< READER] [> WRITER] [2> WRITER]` encodes.
     pub fn of(alloc: Global, phrase: Phrase<'a>) -> Option<Call<'a>> {
         let parts = Parts::of(phrase.words);
         let source = reader_of(alloc, phrase.names, parts.input.unwrap_or(&[]));

@@ -18,7 +18,7 @@ pub trait Performs {
     /// Begins a case: removes all that the cases before it have made.
     fn begin(&mut self) -> Option<()>;
 
-    /// Performs the call that `word` and the words of `phrase` after it spell, and prints its answer.
+    /// Performs the call that `word` and the words of `phrase` after it encode, and prints its answer.
     fn perform(&mut self, page: &mut Page, word: &str, phrase: Phrase<'_>) -> Option<()>;
 
     /// Ends the last case.

@@ -18,7 +18,7 @@ const KINDS: [(&str, Option<ErrorKind>); 4] = [
     ("nothing", None),
 ];
 
-/// Returns the failure that the words spell: `broken`, `interrupted`, `full` or `nothing`, and perhaps `once`.
+/// Returns the failure that the words encode: `broken`, `interrupted`, `full` or `nothing`, and perhaps `once`.
 fn failure_of(words: &[Word]) -> Option<Failure> {
     let (first, others) = words.split_first()?;
     let kind = named(&KINDS, first.text.as_str())?;
@@ -29,7 +29,7 @@ fn failure_of(words: &[Word]) -> Option<Failure> {
     }
 }
 
-/// Returns the reader that `[slow] BYTES [| BYTES] [then FAILURE [then BYTES]]` spells.
+/// Returns the reader that `[slow] BYTES [| BYTES] [then FAILURE [then BYTES]]` encodes.
 pub fn reader_of(alloc: Global, names: &Names, words: &[Word]) -> Option<TestReader> {
     let is_slow = is_slow(words);
     let words = words.get(usize::from(is_slow)..)?;
@@ -82,7 +82,7 @@ fn is_slow(words: &[Word]) -> bool {
     words.first().is_some_and(|word| word.is("slow"))
 }
 
-/// Returns the writer that `[slow | any | first COUNT] [flush FAILURE | ROOM then FAILURE]` spells. ROOM is `COUNT` or
+/// Returns the writer that `[slow | any | first COUNT] [flush FAILURE | ROOM then FAILURE]` encodes. ROOM is `COUNT` or
 /// `COUNT of BYTES`. Also returns the part of its bytes that is printed.
 pub fn writer_of(
     alloc: Global,
@@ -147,7 +147,7 @@ fn set_room(
     }
 }
 
-/// Returns the count that `word` spells.
+/// Returns the count that `word` encodes.
 fn count(word: &Word) -> Option<usize> {
     count_in(word.text.as_str())
 }

@@ -9,7 +9,7 @@ use Rattle.ill_text.specs.declared.form.Form.TheVariants.{Lines}
 use Rattle.ill_shelf.specs.declared.visit.Visit.{Visit}
 use Rattle.ill_shelf.specs.declared.visit.Visit.TheVariants as visits
 use Rattle.ill_der.specs.Handling.{Handles}
-use Rattle.ill_der.specs.ShortForm.{spelling}
+use Rattle.ill_der.specs.ShortForm.{encoding}
 use Rattle.ill_commands.specs.AtFile.{ShowsFile, TakesAtFile}
 use Rattle.ill_commands.specs.Streams.{Streams, streams_of}
 use Rattle.ill_files.specs.Opening.{FailsToOpen}
@@ -129,11 +129,11 @@ pub record ShelfTaking : Type 0 where
 abbrev pub TakesAtHome : Handles ShelfTaking ToolFault
 TakesAtHome old a (Ok done) new =
     (is_well : Bool) × (rest : Option (List ℕ))
-    × TakesAtFile old.form (streams_of (Some (spelling a)) old.written) (Ok is_well) (streams_of rest new.written)
+    × TakesAtFile old.form (streams_of (Some (encoding a)) old.written) (Ok is_well) (streams_of rest new.written)
     × (new ≡ record old { all_fine = old.all_fine && is_well; written = new.written })
 TakesAtHome old a (Err fault) new =
     (rest : Option (List ℕ))
-    × TakesAtFile old.form (streams_of (Some (spelling a)) old.written) (Err fault) (streams_of rest new.written)
+    × TakesAtFile old.form (streams_of (Some (encoding a)) old.written) (Err fault) (streams_of rest new.written)
 
 -- Returns the state before the first APDU.
 abbrev pub shelf_taking : TakeForm → Option (List ℕ) → ShelfTaking

@@ -1,7 +1,7 @@
 //! The command `take` on a shelf: each APDU of the input is taken at the desk of its group.
 
 ghost use Rattle.std.specs.Prelude.{◌≡◌, IfErr, IfOk, option_map};
-ghost use Rattle.ill_der.specs.ShortForm.{spelling};
+ghost use Rattle.ill_der.specs.ShortForm.{encoding};
 ghost use Rattle.ill_commands.specs.Letters.{TakesSealed, TakesWith};
 ghost use Rattle.ill_commands.specs.Streams.{streams_of};
 ghost use Rattle.ill_shelf.specs.Shelf.{TakesAtShelf, TakesAtHome};
@@ -110,7 +110,7 @@ impl<T: LockFiles, W: Write, E: Write> Handler<Machine<'_, T, W, E>> for TakesHo
             Ok(file) => file,
             Err(fault) => return Err(fault),
         };
-        let bytes = match spelled(alloc, apdu) {
+        let bytes = match encoded(alloc, apdu) {
             Ok(bytes) => bytes,
             Err(_) => return Err(ToolFault::OutOfMemory),
         };
@@ -126,8 +126,8 @@ impl<T: LockFiles, W: Write, E: Write> Handler<Machine<'_, T, W, E>> for TakesHo
 }
 
 /// Returns the bytes of `apdu`.
-fn spelled(alloc: Global, apdu: &ApduView<'_>) -> Result<Vec<u8>, OutOfMemory>
-    ensures { IfOk result (λ bytes. bytes.items ≡ spelling apdu.now) }
+fn encoded(alloc: Global, apdu: &ApduView<'_>) -> Result<Vec<u8>, OutOfMemory>
+    ensures { IfOk result (λ bytes. bytes.items ≡ encoding apdu.now) }
 {
     let apdu = apdu.to_apdu(alloc)?;
     encode(alloc, &apdu)

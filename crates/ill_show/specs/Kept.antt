@@ -4,7 +4,7 @@ use Rattle.std.specs.List.{flat_map, list_any}
 use Rattle.std.specs.Str.{bytes_eq}
 use Rattle.ill_values.specs.TxnId.{Qualifiers}
 use Rattle.ill_values.specs.declared.apdu.Apdu.{Apdu}
-use Rattle.ill_der.specs.ShortForm.{spelling}
+use Rattle.ill_der.specs.ShortForm.{encoding}
 use Rattle.ill_core.specs.Issued.{is_same_txn}
 use Rattle.ill_saved.specs.Holdings.{DeskEntry}
 use Rattle.ill_show.specs.LoanLines.{loan_lines, marked_lines}
@@ -13,7 +13,7 @@ use Rattle.ill_show.specs.LoanLines.{loan_lines, marked_lines}
 
 -- Returns true if `a` and `b` have equal bytes.
 abbrev pub is_same : Apdu → Apdu → Bool
-is_same a b = bytes_eq (spelling a) (spelling b)
+is_same a b = bytes_eq (encoding a) (encoding b)
 
 -- Returns true if a message of `kept` has the bytes of `a`.
 abbrev pub is_among : List Apdu → Apdu → Bool

@@ -11,14 +11,14 @@ use Rattle.ill_values.specs.declared.apdu.Apdu.{Apdu}
 use Rattle.ill_values.specs.Apdu.{IsApdu}
 use Rattle.ill_der.specs.declared.fault.DerFault.{DerFault}
 use Rattle.ill_der.specs.declared.fault.DerFault.TheVariants.{Short, Tag, Length, Field, OutOfMemory}
-use Rattle.ill_der.specs.ShortForm.{spelling, header_at, outer_at, apdu_at}
+use Rattle.ill_der.specs.ShortForm.{encoding, header_at, outer_at, apdu_at}
 use Rattle.ill_der.specs.Stream.{IsUnfinished, IfShort}
 use Rattle.ill_der.specs.Feed.{Begins, FeedState, Leaves, fault_of, end_of}
 use Rattle.ill_der.specs.Handling.{Handles, Handled, FailsAt, HandlesEach}
 use Rattle.ill_text.specs.declared.fault.ToolFault.{ToolFault}
 use Rattle.ill_text.specs.declared.input.Counted.{Counted}
 use Rattle.ill_text.specs.declared.fault.ToolFault.TheVariants.{Der, Read}
-use Rattle.ill_text.specs.Input.{spellings, Rest, rest_of, Ends, ReadsInput, answer_at_end, CountsOn}
+use Rattle.ill_text.specs.Input.{encodings, Rest, rest_of, Ends, ReadsInput, answer_at_end, CountsOn}
 
 -- ---- APDUs handled one after another
 -- `handles` relates states, and `seen` relates their views. `as_seen` says that each step by `handles` is one by
@@ -53,7 +53,7 @@ reads_on_views handles seen view as_seen old new before after result is = record
   bytes = is.bytes;
   ahead = is.ahead;
   last = view is.last;
-  spelled = is.spelled;
+  encoded = is.encoded;
   most = is.most;
   few = is.few;
   read = is.read;
@@ -172,11 +172,11 @@ last_of [] apdu all = (tt, all.0)
 last_of (first ∷ apdus) apdu all = (let others = last_of apdus apdu all.1 in ((all.0, others.0), others.1))
 
 -- The encodings of `prefix`, and then those of `more`, are the encodings of their join.
-spelled_join : (prefix more : List Apdu) (rest : List ℕ)
-    → spellings prefix ++ (spellings more ++ rest) ≡ spellings (prefix ++ more) ++ rest
-spelled_join prefix more rest =
-    sym (append_assoc (spellings prefix) (spellings more) rest)
-    ∙ ap (λ (x : List ℕ). x ++ rest) (sym (flat_map-append spelling prefix more))
+encoded_join : (prefix more : List Apdu) (rest : List ℕ)
+    → encodings prefix ++ (encodings more ++ rest) ≡ encodings (prefix ++ more) ++ rest
+encoded_join prefix more rest =
+    sym (append_assoc (encodings prefix) (encodings more) rest)
+    ∙ ap (λ (x : List ℕ). x ++ rest) (sym (flat_map-append encoding prefix more))
 
 -- ---- the APDUs so far
 
@@ -185,10 +185,10 @@ spelled_join prefix more rest =
 pub record SoFar {S : Type 0} (handles : Handles S ToolFault) (old now : Option (List ℕ)) (before : S) (count : ℕ)
     (feed : FeedState)
     (after : S) (apdus : List Apdu) (held : List ℕ) : Type 0 where
-  pub spelled : AllByRecursion IsApdu apdus
+  pub encoded : AllByRecursion IsApdu apdus
   pub counted : length apdus ≡ count
   pub few : count ≤ 100000
-  pub read : Consumes old now (spellings apdus ++ held)
+  pub read : Consumes old now (encodings apdus ++ held)
   pub handled : Handled handles before apdus after
   pub opened : feed ≡ Ok held
   pub unfinished : IsUnfinished held
@@ -206,7 +206,7 @@ none_read handles old before count feed none empty = (
   [],
   [],
   record {
-    spelled = tt;
+    encoded = tt;
     counted = sym none;
     few = omega (arith, none);
     read = Consumes-nil old;
@@ -226,18 +226,18 @@ few_held law held is = (law held (length held) is).1
 
 -- If `piece` is read after `held`, the bytes read end with `held` and then `piece`.
 piece_read : (old now new : Option (List ℕ)) (apdus : List Apdu) (held piece : List ℕ)
-    → Consumes old now (spellings apdus ++ held) → Consumes now new piece
-    → Consumes old new (spellings apdus ++ (held ++ piece))
+    → Consumes old now (encodings apdus ++ held) → Consumes now new piece
+    → Consumes old new (encodings apdus ++ (held ++ piece))
 piece_read old now new apdus held piece read more =
-    subst (Consumes old new) (append_assoc (spellings apdus) held piece)
-    (Consumes-trans old now new (spellings apdus ++ held) piece read more)
+    subst (Consumes old new) (append_assoc (encodings apdus) held piece)
+    (Consumes-trans old now new (encodings apdus ++ held) piece read more)
 
 -- If `held` and `piece` together are the encodings of `more` and a `rest`, all bytes read end with these.
 apdus_read : (old now new : Option (List ℕ)) (apdus more : List Apdu) (held piece rest : List ℕ)
-    → Consumes old now (spellings apdus ++ held) → Consumes now new piece → Begins (held ++ piece) more rest
-    → Consumes old new (spellings (apdus ++ more) ++ rest)
+    → Consumes old now (encodings apdus ++ held) → Consumes now new piece → Begins (held ++ piece) more rest
+    → Consumes old new (encodings (apdus ++ more) ++ rest)
 apdus_read old now new apdus more held piece rest read piece_is begins =
-    subst (Consumes old new) (ap (λ (x : List ℕ). spellings apdus ++ x) begins.parts ∙ spelled_join apdus more rest)
+    subst (Consumes old new) (ap (λ (x : List ℕ). encodings apdus ++ x) begins.parts ∙ encoded_join apdus more rest)
     (piece_read old now new apdus held piece read piece_is)
 
 -- ---- one piece more
@@ -262,7 +262,7 @@ more_room n k size more left m grown is few held rest some = elim grown [
 ]
 
 -- `piece` either completes an APDU or only makes the held bytes longer.
-longer_or_handed : (more : List Apdu) (held piece rest : List ℕ) → held ++ piece ≡ spellings more ++ rest
+longer_or_handed : (more : List Apdu) (held piece rest : List ℕ) → held ++ piece ≡ encodings more ++ rest
     → ((length more ≡ 0) × (length rest ≡ length held + length piece)) ⊎ (0 < length more)
 longer_or_handed [] held piece rest e = inl (refl, omega (arith, ap length e, length-append held piece))
 longer_or_handed (apdu ∷ more) held piece rest e = inr (omega arith)
@@ -274,7 +274,7 @@ rest_within held piece text rest e = omega (arith, ap length e, length-append he
 
 -- A piece that is not empty makes `most_bytes_left` smaller.
 room_falls : ShortLaw → (count m : ℕ) (feed next : FeedState) (held now piece : List ℕ) (more : List Apdu)
-    → feed ≡ Ok held → next ≡ Ok now → held ++ piece ≡ spellings more ++ now
+    → feed ≡ Ok held → next ≡ Ok now → held ++ piece ≡ encodings more ++ now
     → m ≡ count + length more → m ≤ 100000 → IsUnfinished held → IsUnfinished now → 0 < length piece
     → most_bytes_left m next < most_bytes_left count feed
 room_falls law count m feed next held now piece more was is parts counted few unfinished still some =
@@ -308,7 +308,7 @@ one_piece_more {H = H} {C = C} handles law old now new before middle after feed 
         apdus ++ more,
         rest,
         record {
-          spelled = all_join apdus more is.spelled begins.spelled;
+          encoded = all_join apdus more is.encoded begins.encoded;
           counted = omega (arith, length-append apdus more, is.counted, on.0);
           few = on.1;
           read = apdus_read old now new apdus more held piece rest is.read read begins;
@@ -335,10 +335,10 @@ ends_held handles law old new before after count feed result apdus held is ended
   bytes = held;
   ahead = [];
   last = after;
-  spelled = is.spelled;
+  encoded = is.encoded;
   most = omega (arith, is.counted, is.few);
   few = omega (arith, few_held law held is.unfinished);
-  read = subst (λ (x : List ℕ). Consumes old new (spellings apdus ++ x)) (sym (append-nil held)) is.read;
+  read = subst (λ (x : List ℕ). Consumes old new (encodings apdus ++ x)) (sym (append-nil held)) is.read;
   handled = is.handled;
   ended = subst (λ (n : ℕ). Ends handles result n (rest_of held [] new) after after) (sym is.counted) ended;
 }
@@ -379,11 +379,11 @@ read_nothing handles old now new before after count feed so_far read =
       apdus,
       held,
       record {
-        spelled = is.spelled;
+        encoded = is.encoded;
         counted = is.counted;
         few = is.few;
-        read = subst (Consumes old new) (append-nil (spellings apdus ++ held))
-            (Consumes-trans old now new (spellings apdus ++ held) [] is.read read);
+        read = subst (Consumes old new) (append-nil (encodings apdus ++ held))
+            (Consumes-trans old now new (encodings apdus ++ held) [] is.read read);
         handled = is.handled;
         opened = is.opened;
         unfinished = is.unfinished;
@@ -441,10 +441,10 @@ ends_closed {H = H} {C = C} handles law old now new before middle after feed nex
       bytes = rest;
       ahead = [];
       last = (after.0.handler, after.1);
-      spelled = all_join apdus more is.spelled begins.spelled;
+      encoded = all_join apdus more is.encoded begins.encoded;
       most = omega (arith, length-append apdus more, is.counted, on.0, on.1);
-      few = omega (arith, rest_within held piece (spellings more) rest begins.parts, few_held law held is.unfinished, small);
-      read = subst (λ (x : List ℕ). Consumes old new (spellings (apdus ++ more) ++ x)) (sym (append-nil rest))
+      few = omega (arith, rest_within held piece (encodings more) rest begins.parts, few_held law held is.unfinished, small);
+      read = subst (λ (x : List ℕ). Consumes old new (encodings (apdus ++ more) ++ x)) (sym (append-nil rest))
           (apdus_read old now new apdus more held piece rest is.read read begins);
       handled = handled_join handles before first (after.0.handler, after.1) apdus more is.handled on.2;
       ended = inl ((leaves.0, not_short fault _ leaves.1), refl);
@@ -455,10 +455,10 @@ ends_in_hand : {S : Type 0} (handles : Handles S ToolFault) (state after : ℕ �
     (ahead : List ℕ) (left : Option (List ℕ))
     → IsApdu apdu → count ≡ state.0
     → state.0 ≤ 100000 → CountsOn handles state apdu (Err fault) after
-    → Ends handles (Err fault) count (rest_of (spelling apdu) ahead left) state.1 after.1
+    → Ends handles (Err fault) count (rest_of (encoding apdu) ahead left) state.1 after.1
 ends_in_hand handles state after apdu fault count ahead left is counted few on = elim on [
   | inl many ↦
-      subst (λ (f : ToolFault). Ends handles (Err f) count (rest_of (spelling apdu) ahead left) state.1 after.1) (sym many.1)
+      subst (λ (f : ToolFault). Ends handles (Err f) count (rest_of (encoding apdu) ahead left) state.1 after.1) (sym many.1)
       (inl ((omega (arith, many.0, few, counted), (apdu, is, refl)), many.2))
   | inr fails ↦ inr (apdu, is, refl, omega (arith, fails.0, counted), fails.1)
 ]
@@ -483,29 +483,29 @@ ends_failing {H = H} {C = C} handles law old now new before middle after feed ne
     let rest = failed.2 in
     let state = failed.3 in
     let begins = failed.4 in
-    let text = spelling apdu in
+    let text = encoding apdu in
     let on = counted_on handles (middle.0.count, first) state more is.few failed.5 in
-    let all = last_of more apdu begins.spelled in
-    let spelled : spellings (more ++ apdu ∷ []) ≡ spellings more ++ text =
-    flat_map-append spelling more (apdu ∷ []) ∙ ap (λ (x : List ℕ). spellings more ++ x) (append-nil text) in
-    let parts : held ++ piece ≡ spellings more ++ (text ++ rest) =
-    begins.parts ∙ ap (λ (x : List ℕ). x ++ rest) spelled ∙ append_assoc (spellings more) text rest in
+    let all = last_of more apdu begins.encoded in
+    let encoded : encodings (more ++ apdu ∷ []) ≡ encodings more ++ text =
+    flat_map-append encoding more (apdu ∷ []) ∙ ap (λ (x : List ℕ). encodings more ++ x) (append-nil text) in
+    let parts : held ++ piece ≡ encodings more ++ (text ++ rest) =
+    begins.parts ∙ ap (λ (x : List ℕ). x ++ rest) encoded ∙ append_assoc (encodings more) text rest in
     let counted : length (apdus ++ more) ≡ state.0 = omega (arith, length-append apdus more, is.counted, on.0) in record {
       apdus = apdus ++ more;
       bytes = text;
       ahead = rest;
       last = state.1;
-      spelled = all_join apdus more is.spelled all.0;
+      encoded = all_join apdus more is.encoded all.0;
       most = omega (arith, counted, on.1);
       few = omega (
         arith,
-        rest_within held piece (spellings more) (text ++ rest) parts,
+        rest_within held piece (encodings more) (text ++ rest) parts,
         length-append text rest,
         few_held law held is.unfinished,
         small,
       );
       read = apdus_read old now new apdus more held piece (text ++ rest) is.read read
-          (record { spelled = all.0; parts = parts });
+          (record { encoded = all.0; parts = parts });
       handled = handled_join handles before first state.1 apdus more is.handled on.2;
       ended = ends_in_hand handles state (after.0.count, (after.0.handler, after.1)) apdu fault (length (apdus ++ more)) rest
           new all.1 counted on.1 failed.6;

@@ -5,16 +5,16 @@ use Rattle.std.specs.Io.KnownBytes.{Consumes, IsAtEnd}
 use Rattle.ill_values.specs.declared.apdu.Apdu.{Apdu}
 use Rattle.ill_values.specs.Apdu.{IsApdu}
 use Rattle.ill_der.specs.declared.fault.DerFault.{DerFault}
-use Rattle.ill_der.specs.ShortForm.{spelling, apdu_at}
-use Rattle.ill_der.specs.Stream.{IsUnfinished, SpellsOne, IfShort}
+use Rattle.ill_der.specs.ShortForm.{encoding, apdu_at}
+use Rattle.ill_der.specs.Stream.{IsUnfinished, EncodesOne, IfShort}
 use Rattle.ill_der.specs.Handling.{Handles, Handled}
 use Rattle.ill_text.specs.declared.fault.ToolFault.{ToolFault}
 use Rattle.ill_text.specs.declared.fault.ToolFault.TheVariants.{Der, TooMany, Read, OutOfMemory}
 use Rattle.ill_der.specs.Feed as feeds
 
 -- Returns the encodings of `apdus`, one after another.
-abbrev pub spellings : List Apdu → List ℕ
-spellings apdus = flat_map spelling apdus
+abbrev pub encodings : List Apdu → List ℕ
+encodings apdus = flat_map encoding apdus
 
 -- ---- the end of an input
 
@@ -37,14 +37,14 @@ IsOver rest = (rest.ahead ≡ []) × IsAtEnd rest.unread
 -- many, or the reader failed before their end.
 abbrev pub StopsReading : ToolFault → ℕ → Rest → Type 0
 StopsReading (Der fault) count rest = (apdu_at rest.bytes ≡ Err fault) × IfShort fault (IsOver rest)
-StopsReading TooMany count rest = (count ≡ 100000) × SpellsOne rest.bytes
+StopsReading TooMany count rest = (count ≡ 100000) × EncodesOne rest.bytes
 StopsReading Read count rest = IsUnfinished rest.bytes × (rest.ahead ≡ [])
 StopsReading other count rest = ⊥
 
 -- `bytes` are an APDU, within the most that an input may have, and its handling failed.
 abbrev pub FailsInHand : {S : Type 0} → Handles S ToolFault → ToolFault → ℕ → List ℕ → S → S → Type 0
 FailsInHand handles fault count bytes before after =
-    (apdu : Apdu) × IsApdu apdu × (bytes ≡ spelling apdu) × (count < 100000)
+    (apdu : Apdu) × IsApdu apdu × (bytes ≡ encoding apdu) × (count < 100000)
     × handles before apdu (Err fault) after
 
 -- An input ended with this result. All `count` APDUs were handled, and this number is the answer. Or the
@@ -66,10 +66,10 @@ pub record ReadsInput {S : Type 0} (handles : Handles S ToolFault) (old new : Op
   pub bytes : List ℕ
   pub ahead : List ℕ
   pub last : S
-  pub spelled : AllByRecursion IsApdu apdus
+  pub encoded : AllByRecursion IsApdu apdus
   pub most : length apdus ≤ 100000
   pub few : length bytes + length ahead < 359 + 4096
-  pub read : Consumes old new (spellings apdus ++ (bytes ++ ahead))
+  pub read : Consumes old new (encodings apdus ++ (bytes ++ ahead))
   pub handled : Handled handles before apdus last
   pub ended : Ends handles result (length apdus) (rest_of bytes ahead new) last after
 

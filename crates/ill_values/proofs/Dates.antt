@@ -72,14 +72,14 @@ digit_range x rest e =
     (between 48 57 x p.0, p.1)
 
 -- Eight ASCII digits are the date text of the year, the month and the day with these values.
-eight_spelled : (a b c e f g h i : ℕ) → list_all is_ascii_digit (a ∷ b ∷ c ∷ e ∷ f ∷ g ∷ h ∷ i ∷ []) ≡ true
+eight_encoded : (a b c e f g h i : ℕ) → list_all is_ascii_digit (a ∷ b ∷ c ∷ e ∷ f ∷ g ∷ h ∷ i ∷ []) ≡ true
     → a ∷ b ∷ c ∷ e ∷ f ∷ g ∷ h ∷ i ∷ []
     ≡ date_text (record {
       year = (10 * (a - 48) + (b - 48)) * 100 + (10 * (c - 48) + (e - 48));
       month = 10 * (f - 48) + (g - 48);
       day = 10 * (h - 48) + (i - 48);
     })
-eight_spelled a b c e f g h i digits =
+eight_encoded a b c e f g h i digits =
     let pa = digit_range a (b ∷ c ∷ e ∷ f ∷ g ∷ h ∷ i ∷ []) digits in
     let pb = digit_range b (c ∷ e ∷ f ∷ g ∷ h ∷ i ∷ []) pa.1 in
     let pc = digit_range c (e ∷ f ∷ g ∷ h ∷ i ∷ []) pb.1 in
@@ -117,7 +117,7 @@ eight_read d a b c e f g h i found =
     let tested = passed (eight_digits text) (date_of year month day) NotDigits d found in
     let digits = and_parts (eqb (length text) 8) (list_all is_ascii_digit text) tested.0 in
     let made = date_found year month day d tested.1 in
-    (made.0, eight_spelled a b c e f g h i digits.1 ∙ ap date_text made.1)
+    (made.0, eight_encoded a b c e f g h i digits.1 ∙ ap date_text made.1)
 
 -- If `text` is read as `d`, it is the date text of `d`, which is in range.
 pub date_read : (text : List ℕ) (d : Date) → IsRead d text

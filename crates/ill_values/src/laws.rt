@@ -72,7 +72,7 @@ pub fn text_sizes()
 
 /// The date text of a day is read as that day. Any text that is read as a day is its date text.
 pub fn date_texts()
-    ensures spelled { (d : Date) → IsDate d → read_date (date_text d) ≡ Ok d }
+    ensures encoded { (d : Date) → IsDate d → read_date (date_text d) ≡ Ok d }
     ensures read { (text : List ℕ) (d : Date) → read_date text ≡ Ok d →
         IsDate d × (text ≡ date_text d) }
 {}

@@ -83,7 +83,7 @@ fn days_are_made_of_their_parts(rt: HostRuntime) {
     }
 }
 
-/// A day in three spellings: its digits, its parts, and the ISO text with hyphens.
+/// A day in three encodings: its digits, its parts, and the ISO text with hyphens.
 struct IsoRow {
     /// The digits of the day.
     digits: &'static str,
@@ -93,7 +93,7 @@ struct IsoRow {
     iso: &'static str,
 }
 
-/// The cases of the spellings of a day.
+/// The cases of the encodings of a day.
 const ISO: [IsoRow; 3] = [
     IsoRow {
         digits: "20250315",

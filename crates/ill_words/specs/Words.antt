@@ -77,7 +77,7 @@ is_number n = nat_le 1 n && nat_le n 255
 abbrev pub number_of : List ℕ → Option ℕ
 number_of word = if is_numeral 3 word && is_number (decimal_value word) then Some (decimal_value word) else None
 
--- Returns the bytes that hexadecimal digits spell, two for each byte. The word `none` spells no bytes.
+-- Returns the bytes that hexadecimal digits encode, two for each byte. The word `none` encodes no bytes.
 abbrev pub bytes_of : List ℕ → Option (List ℕ)
 bytes_of word = if bytes_eq word (codes "none") then Some [] else result_ok (decode_of word)
 

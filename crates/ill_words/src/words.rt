@@ -71,7 +71,7 @@ pub fn landed(word: &[u8]) -> Option<bool>
     }
 }
 
-/// Returns the day that the word spells as eight digits, if it spells one.
+/// Returns the day that the word encodes as eight digits, if it encodes one.
 pub fn day(word: &[u8]) -> Option<Day>
     ensures { result ≡ day_of word.now }
 {
@@ -100,7 +100,7 @@ fn days_after(from: Day, digits: &[u8]) -> Option<Day>
     }
 }
 
-/// Returns a day or None, if the word spells a day or is `none`.
+/// Returns a day or None, if the word encodes a day or is `none`.
 pub(crate) fn optional_day(word: &[u8]) -> Option<Option<Day>>
     ensures { result ≡ optional_day_of word.now }
 {
@@ -111,7 +111,7 @@ pub(crate) fn optional_day(word: &[u8]) -> Option<Option<Day>>
     }
 }
 
-/// Returns the number that one to three decimal digits spell, if it is 1 to 255. They may begin with zeros.
+/// Returns the number that one to three decimal digits encode, if it is 1 to 255. They may begin with zeros.
 pub fn number(word: &[u8]) -> Option<Number>
     ensures { result ≡ number_of word.now }
 {
@@ -153,8 +153,8 @@ fn decimal(digits: &[u8]) -> u32
     value
 }
 
-/// Returns the bytes that the word spells, if it does. Each byte has two hexadecimal digits of either case. The word
-/// `none` spells no bytes.
+/// Returns the bytes that the word encodes, if it does. Each byte has two hexadecimal digits of either case. The word
+/// `none` encodes no bytes.
 pub fn bytes(alloc: Global, word: &[u8]) -> Result<Option<Bytes>, OutOfMemory>
     ensures { IfOk result (λ bytes. bytes ≡ bytes_of word.now) }
 {

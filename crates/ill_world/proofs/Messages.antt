@@ -7,26 +7,26 @@ use Rattle.ill_core.specs.Issued.{is_same_txn}
 use Rattle.ill_values.specs.declared.apdu.Apdu.{Apdu}
 use Rattle.ill_values.specs.Apdu.{IsApdu}
 use Rattle.ill_der.specs.declared.fault.DerFault.{DerFault}
-use Rattle.ill_der.specs.ShortForm.{spelling, apdu_at, Decodes}
+use Rattle.ill_der.specs.ShortForm.{encoding, apdu_at, Decodes}
 use Rattle.ill_world.specs.PartyRefinement.{apdu_of, is_of}
 
--- An APDU is read from its spelling, and all bytes after the spelling are left.
+-- An APDU is read from its encoding, and all bytes after the encoding are left.
 abbrev pub ReadAgain : Type 0
-ReadAgain = (a : Apdu) (rest : List ℕ) → IsApdu a → apdu_at (spelling a ++ rest) ≡ Ok (a, rest)
+ReadAgain = (a : Apdu) (rest : List ℕ) → IsApdu a → apdu_at (encoding a ++ rest) ≡ Ok (a, rest)
 
--- Bytes that spell an APDU are read as this APDU, and no byte is left.
-pub spelled_whole : ReadAgain → (bytes : List ℕ) (a : Apdu) → IsApdu a → bytes ≡ spelling a → apdu_at bytes ≡ Ok (a, [])
-spelled_whole again bytes a is spelled = ap apdu_at (spelled ∙ sym (append-nil (spelling a))) ∙ again a [] is
+-- Bytes that encode an APDU are read as this APDU, and no byte is left.
+pub encoded_whole : ReadAgain → (bytes : List ℕ) (a : Apdu) → IsApdu a → bytes ≡ encoding a → apdu_at bytes ≡ Ok (a, [])
+encoded_whole again bytes a is encoded = ap apdu_at (encoded ∙ sym (append-nil (encoding a))) ∙ again a [] is
 
--- The APDU of bytes is the APDU that they spell.
-pub apdu_is : ReadAgain → (bytes : List ℕ) (a : Apdu) → IsApdu a → bytes ≡ spelling a → apdu_of (apdu_at bytes) ≡ a
-apdu_is again bytes a is spelled = ap apdu_of (spelled_whole again bytes a is spelled)
+-- The APDU of bytes is the APDU that they encode.
+pub apdu_is : ReadAgain → (bytes : List ℕ) (a : Apdu) → IsApdu a → bytes ≡ encoding a → apdu_of (apdu_at bytes) ≡ a
+apdu_is again bytes a is encoded = ap apdu_of (encoded_whole again bytes a is encoded)
 
--- Bytes that spell an APDU are read as their APDU, and no byte is left.
-pub is_whole : ReadAgain → (bytes : List ℕ) (a : Apdu) → IsApdu a → bytes ≡ spelling a
+-- Bytes that encode an APDU are read as their APDU, and no byte is left.
+pub is_whole : ReadAgain → (bytes : List ℕ) (a : Apdu) → IsApdu a → bytes ≡ encoding a
     → apdu_at bytes ≡ Ok (apdu_of (apdu_at bytes), [])
-is_whole again bytes a is spelled =
-    spelled_whole again bytes a is spelled ∙ ap (λ x. Ok (x, [])) (sym (apdu_is again bytes a is spelled))
+is_whole again bytes a is encoded =
+    encoded_whole again bytes a is encoded ∙ ap (λ x. Ok (x, [])) (sym (apdu_is again bytes a is encoded))
 
 -- ---- bytes that are exactly one APDU
 

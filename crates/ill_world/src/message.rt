@@ -3,7 +3,7 @@
 ghost use Rattle.std.specs.Prelude.{◌≡◌, [], Ok};
 ghost use Rattle.ill_values.specs.declared.apdu.Apdu.{Apdu};
 ghost use Rattle.ill_values.specs.Apdu.{IsApdu};
-ghost use Rattle.ill_der.specs.ShortForm.{spelling, apdu_at};
+ghost use Rattle.ill_der.specs.ShortForm.{encoding, apdu_at};
 ghost use Rattle.ill_world.specs.PartyRefinement.{apdu_of};
 
 use std::marker::Model;
@@ -26,8 +26,8 @@ impl Model for Message {
 impl Message {
     /// Returns the message with these bytes.
     pub fn new(bytes: Vec<u8>) -> Message
-        requires spelled { (a : Apdu) × IsApdu a × (bytes.items ≡ spelling a) }
-        ensures { (a : Apdu) → IsApdu a → bytes.items ≡ spelling a → result ≡ a }
+        requires encoded { (a : Apdu) × IsApdu a × (bytes.items ≡ encoding a) }
+        ensures { (a : Apdu) → IsApdu a → bytes.items ≡ encoding a → result ≡ a }
     {
         ill_der::laws::read_again();
         Message { bytes }

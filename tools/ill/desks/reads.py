@@ -35,7 +35,7 @@ import tempfile
 
 from ill import harness
 from ill.counting import FIELDS, Figures, diary_line, messages
-from ill.der import ASKED, shipped, spelled
+from ill.der import ASKED, shipped, encoded
 from ill.harness import CLOSED, FULL, read, write
 from ill.model import REQUESTER, RESPONDER, ROLES, FORMS, Fault, Side
 from ill.morning import AHEAD, Loan, Morning, work_with, works
@@ -474,7 +474,7 @@ def check_news(judge, path, sides):
     """Compares `news` of what came to a desk. Its file has each message once, then twice, then with what no record shows:
     messages of other loans, some of its own role, and a part of one. Without the file there is no news."""
     came = came_bytes(sides)
-    none = shipped(b"no loan") + b"".join(spelled(side.txn, side.issued[0]) for side in sides[:9] if side.issued)
+    none = shipped(b"no loan") + b"".join(encoded(side.txn, side.issued[0]) for side in sides[:9] if side.issued)
     for kept in [came] if is_longest(sides) else [came, came * 2, none + came + none + shipped(b"torn")[:-1]]:
         write(f"{path}.came", kept)
         for last in (None, 1, 7, 255):
@@ -551,7 +551,7 @@ def check_since(judge, path, sides):
     days, again = days_of(sides)
     lines = [(day, txn, what, number) for (txn, what, number), of in days.items() for day in of]
     last_days = {txn: day for day, txn, _, _ in lines}
-    write(f"{path}.came", came_bytes(sides) + b"".join(spelled(side.txn, apdu) for side, apdu in again))
+    write(f"{path}.came", came_bytes(sides) + b"".join(encoded(side.txn, apdu) for side, apdu in again))
     write(f"{path}.diary", b"".join(diary_line(day, "-", txn, what, number) for day, txn, what, number in lines))
     for day in ("20250228", "20250304", "20250309", "20250401"):
         since = Since(day, days, again)

@@ -6,7 +6,7 @@ use Rattle.ill_der.specs.Adding.{AddsPrefix}
 use Rattle.ill_values.specs.Types.{type_of}
 use Rattle.ill_der.specs.Types.{identifier_of}
 use Rattle.ill_der.specs.Format.{element, length_octets}
-use Rattle.ill_der.specs.ShortForm.{head_of, spell_body, contents_of, spelling}
+use Rattle.ill_der.specs.ShortForm.{head_of, encode_body, contents_of, encoding}
 use Rattle.ill_der.proofs.AddingLemmas.{adds_first, adds_second, adds_last, at_err}
 use Rattle.ill_der.proofs.encoding.encode_onto.Goals as goal
 
@@ -15,24 +15,24 @@ abbrev start_of : Apdu → List ℕ
 start_of apdu = identifier_of (type_of apdu.body) ∷ length_octets (length (contents_of apdu))
 
 pub returns-in_err-push_start-clause-prefix : goal.returns-in_err-push_start-clause-prefix
-unfolding spelling element
+unfolding encoding element
 returns-in_err-push_start-clause-prefix c =
     let apdu = c.args.apdu.now in
     let start : AddsPrefix c.args.bytes.now.items c.push_start.new.bytes.items (start_of apdu) = search rules in
     at_err c.from_residual.result (adds_first _ _ (start_of apdu) (contents_of apdu) start)
 
 pub returns-in_err-push_head-clause-prefix : goal.returns-in_err-push_head-clause-prefix
-unfolding spelling element
+unfolding encoding element
 returns-in_err-push_head-clause-prefix c =
     let apdu = c.args.apdu.now in
     let middle = c.push_start.new.bytes.items in
     let start : middle ≡ c.args.bytes.now.items ++ start_of apdu = search rules in
     at_err c.from_residual-in_err-push_head.result
     (adds_second _ middle _ (start_of apdu) (contents_of apdu) start
-    (adds_first _ _ (head_of apdu) (spell_body apdu.body) c.in_err-push_head.ensures.prefix))
+    (adds_first _ _ (head_of apdu) (encode_body apdu.body) c.in_err-push_head.ensures.prefix))
 
 pub returns-clause-prefix : goal.returns-clause-prefix
-unfolding spelling element
+unfolding encoding element
 returns-clause-prefix c =
     let apdu = c.args.apdu.now in
     let result = c.push_body.result in
@@ -40,5 +40,5 @@ returns-clause-prefix c =
     let second = c.push_head.new.bytes.items in
     let start : first ≡ c.args.bytes.now.items ++ start_of apdu = search rules in
     adds_last result _ first _ (start_of apdu) (contents_of apdu) start
-    (adds_last result first second _ (head_of apdu) (spell_body apdu.body) c.in_ok-push_head.ensures.bytes
+    (adds_last result first second _ (head_of apdu) (encode_body apdu.body) c.in_ok-push_head.ensures.bytes
     c.push_body.ensures.prefix)

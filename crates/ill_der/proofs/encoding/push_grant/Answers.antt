@@ -12,8 +12,8 @@ returns-in_err-push_reply-clause-prefix c =
     let old = c.args.bytes.now.items in
     let new = c.push_reply.new.bytes.items in
     let answers = element 131 (number_octets c.args.answers) in
-    let yes = element 132 (yes_no.spell (is_some c.args.granted)) in
-    let day = (optional 133 date).spell c.args.granted in
+    let yes = element 132 (yes_no.encode (is_some c.args.granted)) in
+    let day = (optional 133 date).encode c.args.granted in
     let prefix : AddsPrefix old new (answers ++ yes) = search rules in
     at_err c.from_residual.result (subst (AddsPrefix old new) (append_assoc answers yes day)
     (adds_first old new (answers ++ yes) day prefix))
@@ -25,8 +25,8 @@ returns-clause-prefix c =
     let new = c.push_optional_date.new.bytes.items in
     let result = c.push_optional_date.result in
     let answers = element 131 (number_octets c.args.answers) in
-    let yes = element 132 (yes_no.spell (is_some c.args.granted)) in
-    let day = (optional 133 date).spell c.args.granted in
+    let yes = element 132 (yes_no.encode (is_some c.args.granted)) in
+    let day = (optional 133 date).encode c.args.granted in
     let all : middle ≡ old ++ (answers ++ yes) = search rules in
     subst (λ text. OnErr result (AddsPrefix old new text)) (append_assoc answers yes day)
     (adds_last result old middle new (answers ++ yes) day all c.push_optional_date.ensures.prefix)

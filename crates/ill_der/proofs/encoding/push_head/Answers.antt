@@ -14,7 +14,7 @@ version_field = element 128 (1 ∷ [])
 
 -- Returns the encoding of the transaction id.
 abbrev txn_field : Apdu → List ℕ
-txn_field apdu = txn_id.spell (apdu.txn.group, apdu.txn.transaction)
+txn_field apdu = txn_id.encode (apdu.txn.group, apdu.txn.transaction)
 
 -- Returns the encoding of the number.
 abbrev number_field : Apdu → List ℕ

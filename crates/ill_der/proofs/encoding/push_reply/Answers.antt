@@ -10,12 +10,12 @@ use Rattle.ill_der.proofs.encoding.push_reply.Goals as goal
 pub returns-in_err-push_number-clause-prefix : goal.returns-in_err-push_number-clause-prefix
 returns-in_err-push_number-clause-prefix c =
     at_err c.from_residual.result (adds_first _ _ (element 131 (number_octets c.args.answers))
-    (element 132 (yes_no.spell c.args.yes)) c.in_err-push_number.ensures.prefix)
+    (element 132 (yes_no.encode c.args.yes)) c.in_err-push_number.ensures.prefix)
 
 pub returns-clause-prefix : goal.returns-clause-prefix
 returns-clause-prefix c =
     let result = c.push_element.result in
     let yes : OnErr result (AddsPrefix c.push_number.new.bytes.items c.push_element.new.bytes.items
-    (element 132 (yes_no.spell c.args.yes))) = search rules in
-    adds_last result _ _ _ (element 131 (number_octets c.args.answers)) (element 132 (yes_no.spell c.args.yes))
+    (element 132 (yes_no.encode c.args.yes))) = search rules in
+    adds_last result _ _ _ (element 131 (number_octets c.args.answers)) (element 132 (yes_no.encode c.args.yes))
     c.in_ok-push_number.ensures.bytes yes

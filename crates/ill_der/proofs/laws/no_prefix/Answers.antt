@@ -1,5 +1,5 @@
 -- Proves the law `laws::no_prefix`: no encoding is a proper prefix of another.
-use Rattle.ill_der.proofs.SpellingLaws.{no_prefix}
+use Rattle.ill_der.proofs.EncodingLaws.{no_prefix}
 use Rattle.ill_der.proofs.laws.no_prefix.Goals as goal
 
 pub returns : goal.returns

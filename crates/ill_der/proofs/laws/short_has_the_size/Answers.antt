@@ -8,7 +8,7 @@ use Rattle.ill_der.proofs.laws.short_has_the_size.Goals as goal
 pub returns : goal.returns
 returns c bytes n e =
     let values : Values = record {
-      day_spelled = c.date_texts.ensures.spelled;
+      day_encoded = c.date_texts.ensures.encoded;
       day_read = c.date_texts.ensures.read;
       qualifier_size = c.text_sizes.ensures.qualifier;
       item_size = c.text_sizes.ensures.item;

@@ -2,25 +2,25 @@
 -- The proper prefixes are unfinished, so an APDU with which the bytes begin has all of them.
 use Rattle.std.proofs.Common.{arith}
 use Rattle.ill_der.proofs.ContentsLaws.{Values}
-use Rattle.ill_der.proofs.StreamLemmas.{spelled_exactly}
+use Rattle.ill_der.proofs.StreamLemmas.{encoded_exactly}
 use Rattle.ill_der.proofs.MissingLemmas.{handed_on}
 use Rattle.ill_der.proofs.reading.judge.Goals as goal
 
 pub returns : goal.returns
 returns c =
     let values : Values = record {
-      day_spelled = c.date_texts.ensures.spelled;
+      day_encoded = c.date_texts.ensures.encoded;
       day_read = c.date_texts.ensures.read;
       qualifier_size = c.text_sizes.ensures.qualifier;
       item_size = c.text_sizes.ensures.item;
     } in
-    spelled_exactly values c.args.bytes.now (c.in_ok-apdu.apdu, c.in_ok-apdu.field-0-1) (λ i. omega (arith, c.type_inv.bytes i))
+    encoded_exactly values c.args.bytes.now (c.in_ok-apdu.apdu, c.in_ok-apdu.field-0-1) (λ i. omega (arith, c.type_inv.bytes i))
     c.requires.unfinished c.in_ok-apdu.ensures.read
 
 pub returns-in_err-apdu : goal.returns-in_err-apdu
 returns-in_err-apdu c =
     let values : Values = record {
-      day_spelled = c.date_texts.ensures.spelled;
+      day_encoded = c.date_texts.ensures.encoded;
       day_read = c.date_texts.ensures.read;
       qualifier_size = c.text_sizes.ensures.qualifier;
       item_size = c.text_sizes.ensures.item;

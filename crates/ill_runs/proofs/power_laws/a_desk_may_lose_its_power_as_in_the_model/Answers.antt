@@ -26,7 +26,7 @@ returns-clause-after_save g c who landed p answer is again saves lasts either =
     let after = g.S.Store.state c.args.after.now in
     let honest = known_honest state.is_honest state.landed p.desk.landed is.desk.landed in
     left_after_save (view_of g.S.Store.state desk) (g.S.Store.leaves desk.store) p is again who landed answer after.landed
-    (g.S.Store.leaves c.args.after.now) (saved_lands (many_sides.spelling desk.live) state after answer saves honest) lasts
+    (g.S.Store.leaves c.args.after.now) (saved_lands (many_sides.encoding desk.live) state after answer saves honest) lasts
     either
 
 -- A desk starts from each of them.

@@ -1,7 +1,7 @@
 use Rattle.std.proofs.Common.{◌≡◌, ◌++◌, drop}
 use Rattle.ill_values.specs.Apdu.{IsApdu}
-use Rattle.ill_der.specs.ShortForm.{spelling}
-use Rattle.ill_saved.specs.Layout.{spell_all}
+use Rattle.ill_der.specs.ShortForm.{encoding}
+use Rattle.ill_saved.specs.Layout.{encode_all}
 use Rattle.ill_saved.specs.Ranges.{Each}
 use Rattle.ill_saved.proofs.encoding.push_apdus.Given as goal
 
@@ -9,6 +9,6 @@ use Rattle.ill_saved.proofs.encoding.push_apdus.Given as goal
 -- If the APDUs from `apdu-index` on are in range, all APDUs are in range.
 abbrev pub invariant-loop-apdu : goal.invariant-loop-apdu
 invariant-loop-apdu l = record {
-  bytes : l.bytes.items ++ spell_all spelling (drop l.apdu-index l.apdus) ≡ l.fn.bytes.items ++ spell_all spelling l.apdus;
+  bytes : l.bytes.items ++ encode_all encoding (drop l.apdu-index l.apdus) ≡ l.fn.bytes.items ++ encode_all encoding l.apdus;
   range : Each IsApdu (drop l.apdu-index l.apdus) → Each IsApdu l.apdus;
 }

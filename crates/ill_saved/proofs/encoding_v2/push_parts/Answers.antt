@@ -3,10 +3,10 @@
 use Rattle.std.proofs.Common.{◌≡◌, ◌+◌, ◌≤◌, ◌<◌, ◌++◌, length, drop, Some, ap, sym, ◌∙◌, arith, rules}
 use Rattle.std.specs.List.{slice_get}
 use Rattle.std.proofs.lemmas.Option.{get_or_from_slice_get}
-use Rattle.ill_saved.specs.Layout.{spell_all}
+use Rattle.ill_saved.specs.Layout.{encode_all}
 use Rattle.ill_saved.specs.RecordsV2.{part}
 use Rattle.ill_saved.specs.Ranges.{IsSide}
-use Rattle.ill_saved.proofs.Lists.{one_spelled, all_spelled, one_each, none_each, none_past}
+use Rattle.ill_saved.proofs.Lists.{one_encoded, all_encoded, one_each, none_each, none_past}
 use Rattle.ill_saved.proofs.encoding_v2.push_parts.Goals as goal
 use Rattle.ill_saved.proofs.encoding_v2.push_parts.Goals.{in-Some+in_ok-push_part, in_default}
 
@@ -23,8 +23,8 @@ loop-place-preserved c =
           let there = sym (get_or_from_slice_get held place side side found) in
           let pushed = ap (λ b. b.items) w.bytes-is ∙ w.in_ok-push_part.ensures.bytes in
           record {
-            bytes = ap (λ bytes. bytes ++ spell_all part.spell (drop (place + 1) held)) pushed
-                ∙ (one_spelled part.spell c.loop-place.bytes.items held place side inside there ∙ c.loop-place.invariant.bytes);
+            bytes = ap (λ bytes. bytes ++ encode_all part.encode (drop (place + 1) held)) pushed
+                ∙ (one_encoded part.encode c.loop-place.bytes.items held place side inside there ∙ c.loop-place.invariant.bytes);
             sides = λ others. c.loop-place.invariant.sides
                 (one_each IsSide held place side inside there w.in_ok-push_part.ensures.side others);
           }
@@ -36,7 +36,7 @@ pub returns-clause-bytes : goal.returns-clause-bytes
 returns-clause-bytes c =
     let held = c.args.sides.now.sides in
     let all : length held ≤ c.loop-place.place = omega (arith, c.loop-place-test.false, c.len-place-end.ensures.value) in
-    sym (all_spelled part.spell c.loop-place.bytes.items held c.loop-place.place all) ∙ c.loop-place.invariant.bytes
+    sym (all_encoded part.encode c.loop-place.bytes.items held c.loop-place.place all) ∙ c.loop-place.invariant.bytes
 
 -- After the last side, all sides are in range.
 pub returns-clause-sides : goal.returns-clause-sides

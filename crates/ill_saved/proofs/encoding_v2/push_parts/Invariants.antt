@@ -1,5 +1,5 @@
 use Rattle.std.proofs.Common.{◌≡◌, ◌++◌, drop}
-use Rattle.ill_saved.specs.Layout.{spell_all}
+use Rattle.ill_saved.specs.Layout.{encode_all}
 use Rattle.ill_saved.specs.RecordsV2.{part}
 use Rattle.ill_saved.specs.Ranges.{Each, IsSide}
 use Rattle.ill_saved.proofs.encoding_v2.push_parts.Given as goal
@@ -8,7 +8,7 @@ use Rattle.ill_saved.proofs.encoding_v2.push_parts.Given as goal
 -- If the sides from `place` on are in range, all sides are in range.
 abbrev pub invariant-loop-place : goal.invariant-loop-place
 invariant-loop-place l = record {
-  bytes : l.bytes.items ++ spell_all part.spell (drop l.place l.sides.sides)
-      ≡ l.fn.bytes.items ++ spell_all part.spell l.sides.sides;
+  bytes : l.bytes.items ++ encode_all part.encode (drop l.place l.sides.sides)
+      ≡ l.fn.bytes.items ++ encode_all part.encode l.sides.sides;
   sides : Each IsSide (drop l.place l.sides.sides) → Each IsSide l.sides.sides;
 }

@@ -6,7 +6,7 @@ use Rattle.ill_saved.proofs.laws.read_again.Goals as goal
 -- A side in range is read from its encoding.
 pub returns : goal.returns
 returns c = record_again (record {
-  day_spelled = c.date_texts.ensures.spelled;
+  day_encoded = c.date_texts.ensures.encoded;
   day_read = c.date_texts.ensures.read;
   text_size = c.text_sizes.ensures.qualifier;
   apdu_again = c.read_again.ensures;

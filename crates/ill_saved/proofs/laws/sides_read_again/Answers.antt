@@ -6,7 +6,7 @@ use Rattle.ill_saved.proofs.laws.sides_read_again.Goals as goal
 -- Sides that may be saved are read from their encoding.
 pub returns : goal.returns
 returns c = read_again (record {
-  spelled = c.spelled.ensures.side;
+  encoded = c.encoded.ensures.side;
   again = c.read_again.ensures;
   short = c.record_is_short.ensures;
 })

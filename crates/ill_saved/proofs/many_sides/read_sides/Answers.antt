@@ -12,7 +12,7 @@ pub whole-requires : goal.whole-requires
 whole-requires c =
     let bytes = c.args.bytes.now in
     record {
-      rules = read_consistent c.spelled.ensures.side c.sides_spelled.ensures bytes c.in_ok-sides.sides
+      rules = read_consistent c.encoded.ensures.side c.sides_encoded.ensures bytes c.in_ok-sides.sides
           (λ i. omega (arith, c.type_inv.bytes i)) (sym c.in_ok-sides.ensures);
     }
 
@@ -27,6 +27,6 @@ pub returns-clause-backed : goal.returns-clause-backed
 returns-clause-backed c =
     let bytes = c.args.bytes.now in
     let each : Each IsConsistent c.in_ok-sides.sides.sides =
-    read_consistent c.spelled.ensures.side c.sides_spelled.ensures bytes c.in_ok-sides.sides
+    read_consistent c.encoded.ensures.side c.sides_encoded.ensures bytes c.in_ok-sides.sides
     (λ i. omega (arith, c.type_inv.bytes i)) (sym c.in_ok-sides.ensures) in
     subst (λ held. ManyBack held held) (sym c.in_ok-whole.ensures) (whole_back c.in_ok-sides.sides each)

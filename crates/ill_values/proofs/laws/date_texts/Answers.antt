@@ -2,8 +2,8 @@
 use Rattle.ill_values.proofs.Dates.{date_again, date_read}
 use Rattle.ill_values.proofs.laws.date_texts.Goals as goal
 
-pub returns-clause-spelled : goal.returns-clause-spelled
-returns-clause-spelled c = date_again
+pub returns-clause-encoded : goal.returns-clause-encoded
+returns-clause-encoded c = date_again
 
 pub returns-clause-read : goal.returns-clause-read
 returns-clause-read c = date_read

@@ -3,8 +3,8 @@
 use Rattle.std.proofs.Common.{rules, arith, ◌≡◌, ◌+◌, ◌-◌, ◌++◌, ◌∷◌, [], length, map, drop, subst, sym, ap, ◌∙◌}
 use Rattle.std.specs.List.{All}
 use Rattle.std.proofs.lemmas.List.{drop_more, drop_all}
-use Rattle.ill_der.specs.ShortForm.{spelling}
-use Rattle.ill_saved.specs.Layout.{spell_all}
+use Rattle.ill_der.specs.ShortForm.{encoding}
+use Rattle.ill_saved.specs.Layout.{encode_all}
 use Rattle.ill_saved.specs.LandedBytes.{piece_at, IsWithin}
 use Rattle.ill_saved.proofs.Places.{ArePlaced, ArePlacedIn, first_placed, next_placed, all_placed}
 use Rattle.ill_saved.proofs.landed_record.LandedRecord.followed_by.Goals as goal
@@ -28,8 +28,8 @@ loop-apdu-init c =
 pub loop-apdu-preserved : goal.loop-apdu-preserved
 loop-apdu-preserved c =
     let apdus = c.args.apdus.now in
-    let whole = c.args.self.now.messages ++ spell_all spelling apdus in
-    let all = c.args.self.now.pieces ++ map spelling apdus in
+    let whole = c.args.self.now.messages ++ encode_all encoding apdus in
+    let all = c.args.self.now.pieces ++ map encoding apdus in
     let index = c.loop-apdu.apdu-index in
     let a = c.apdu-item.result in
     let left = drop (index + 1) apdus in
@@ -43,15 +43,15 @@ loop-apdu-preserved c =
 -- After the loop, each message has its place in `bytes`.
 all_are_placed : (c : goal.After-len)
     → ArePlacedIn c.args.bytes.items (c.len.result - c.loop-apdu.end)
-    (c.args.self.now.messages ++ spell_all spelling c.args.apdus.now) c.loop-apdu.places.items
-    (c.args.self.now.pieces ++ map spelling c.args.apdus.now)
+    (c.args.self.now.messages ++ encode_all encoding c.args.apdus.now) c.loop-apdu.places.items
+    (c.args.self.now.pieces ++ map encoding c.args.apdus.now)
 all_are_placed c =
     let apdus = c.args.apdus.now in
     let left = drop c.loop-apdu.apdu-index apdus in
     let none : left ≡ [] = drop_all c.loop-apdu.apdu-index apdus (omega (arith, c.loop-apdu-test.false)) in
     let size : c.len.result ≡ length c.args.bytes.items = search rules in
-    all_placed c.args.bytes.items (c.args.self.now.messages ++ spell_all spelling apdus) (c.len.result - c.loop-apdu.end)
-    c.loop-apdu.end c.loop-apdu.places.items left (c.args.self.now.pieces ++ map spelling apdus)
+    all_placed c.args.bytes.items (c.args.self.now.messages ++ encode_all encoding apdus) (c.len.result - c.loop-apdu.end)
+    c.loop-apdu.end c.loop-apdu.places.items left (c.args.self.now.pieces ++ map encoding apdus)
     none c.loop-apdu.invariant.placed c.requires.ends (ap (λ n. n - c.loop-apdu.end) size)
 
 -- The places of the new record are within its messages.

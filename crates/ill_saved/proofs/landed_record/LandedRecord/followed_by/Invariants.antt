@@ -1,12 +1,12 @@
 use Rattle.std.proofs.Common.{◌++◌, map, drop}
-use Rattle.ill_der.specs.ShortForm.{spelling}
-use Rattle.ill_saved.specs.Layout.{spell_all}
+use Rattle.ill_der.specs.ShortForm.{encoding}
+use Rattle.ill_saved.specs.Layout.{encode_all}
 use Rattle.ill_saved.proofs.Places.{ArePlaced}
 use Rattle.ill_saved.proofs.landed_record.LandedRecord.followed_by.Given as goal
 
 -- Each message before offset `end` has its place.
 abbrev pub invariant-loop-apdu : goal.invariant-loop-apdu
 invariant-loop-apdu l = record {
-  placed : ArePlaced (l.self.messages ++ spell_all spelling l.apdus) l.end l.places.items (drop l.apdu-index l.apdus)
-      (l.self.pieces ++ map spelling l.apdus);
+  placed : ArePlaced (l.self.messages ++ encode_all encoding l.apdus) l.end l.places.items (drop l.apdu-index l.apdus)
+      (l.self.pieces ++ map encoding l.apdus);
 }

@@ -1,18 +1,18 @@
 -- Proves the contract of `LandedRecord::next` (`src/landed_record.rt`).
 -- The landed messages are a prefix of the issued ones, which are the last part of a record.
 use Rattle.std.proofs.Common.{◌++◌, ap, sym, ◌∙◌}
-use Rattle.ill_der.specs.ShortForm.{spelling}
-use Rattle.ill_saved.specs.Layout.{spell_all}
+use Rattle.ill_der.specs.ShortForm.{encoding}
+use Rattle.ill_saved.specs.Layout.{encode_all}
 use Rattle.ill_saved.proofs.Places.{landed_continues, ends_with_messages, next_landed}
 use Rattle.ill_saved.proofs.landed_record.LandedRecord.next.Goals as goal
 
 -- The landed messages and the encodings of the others are the messages of the side.
-pub encode_after-requires-clause-spelled : goal.encode_after-requires-clause-spelled
-encode_after-requires-clause-spelled c =
+pub encode_after-requires-clause-encoded : goal.encode_after-requires-clause-encoded
+encode_after-requires-clause-encoded c =
     let others = c.issued_after-others.result.now in
     let more = landed_continues c.args.self.now c.args.side.now c.args.released others c.requires.keeps
     c.issued_after-others.ensures in
-    ap (λ messages. messages ++ spell_all spelling others) c.messages.ensures ∙ more.messages
+    ap (λ messages. messages ++ encode_all encoding others) c.messages.ensures ∙ more.messages
 
 -- If the other messages are in range, all issued messages of the side are in range.
 pub encode_after-requires-clause-range : goal.encode_after-requires-clause-range

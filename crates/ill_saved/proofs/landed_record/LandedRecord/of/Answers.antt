@@ -1,8 +1,8 @@
 -- Proves the contract of `LandedRecord::of` (`src/landed_record.rt`).
 -- The issued messages are the last part of a record.
 use Rattle.std.proofs.Common.{rules, ◌++◌, ◌≡◌, ◌∙◌, ap, sym}
-use Rattle.ill_der.specs.ShortForm.{spelling}
-use Rattle.ill_saved.specs.Layout.{spell_all}
+use Rattle.ill_der.specs.ShortForm.{encoding}
+use Rattle.ill_saved.specs.Layout.{encode_all}
 use Rattle.ill_saved.specs.Side.{issued_of}
 use Rattle.ill_saved.proofs.Places.{ends_with_messages}
 use Rattle.ill_saved.proofs.landed_record.LandedRecord.of.Goals as goal
@@ -11,6 +11,6 @@ use Rattle.ill_saved.proofs.landed_record.LandedRecord.of.Goals as goal
 pub followed_by-requires : goal.followed_by-requires
 followed_by-requires c =
     let ends = ends_with_messages c.args.side.now in
-    let messages : c.none.result.messages ++ spell_all spelling c.all_issued.result.now
-    ≡ spell_all spelling (issued_of c.args.side.now) = search rules in
-    record { ends = (ends.0, c.requires.spelled ∙ (ends.1 ∙ ap (λ t. ends.0 ++ t) (sym messages))) }
+    let messages : c.none.result.messages ++ encode_all encoding c.all_issued.result.now
+    ≡ encode_all encoding (issued_of c.args.side.now) = search rules in
+    record { ends = (ends.0, c.requires.encoded ∙ (ends.1 ∙ ap (λ t. ends.0 ++ t) (sym messages))) }

@@ -15,7 +15,7 @@ returns-in_err-side-clause-faults c =
 pub invariant_of-result : goal.invariant_of-result
 invariant_of-result c =
     let all = c.issued_count-released.ensures in
-    let is = c.in_ok-side.ensures.spelled.0 in (
+    let is = c.in_ok-side.ensures.encoded.0 in (
       omega (arith, all),
       keeps_whole c.in_ok-landed_record.landed_record c.in_ok-side.side c.issued_count-released.result
           (is, c.in_ok-landed_record.ensures) all,
@@ -23,5 +23,5 @@ invariant_of-result c =
 
 -- The side that was read backs itself.
 pub returns-clause-backed : goal.returns-clause-backed
-returns-clause-backed c = itself_backs c.in_ok-side.side c.issued_count-released.result c.in_ok-side.ensures.spelled.0.0
+returns-clause-backed c = itself_backs c.in_ok-side.side c.issued_count-released.result c.in_ok-side.ensures.encoded.0.0
     (omega (arith, c.issued_count-released.ensures))

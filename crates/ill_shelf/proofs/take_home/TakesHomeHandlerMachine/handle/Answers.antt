@@ -1,10 +1,10 @@
 -- Answers the contract of `handle` of `TakesHome` (`src/take_home.rt`).
 use Rattle.std.proofs.Common.{Some, inl, refl}
-use Rattle.ill_der.specs.ShortForm.{spelling}
+use Rattle.ill_der.specs.ShortForm.{encoding}
 use Rattle.ill_shelf.proofs.take_home.TakesHomeHandlerMachine.handle.Goals as goal
 
 pub returns-in-Err : goal.returns-in-Err
-returns-in-Err g c = (Some (spelling c.args.apdu.now), inl ((c.in-Err.ensures, refl), refl))
+returns-in-Err g c = (Some (encoding c.args.apdu.now), inl ((c.in-Err.ensures, refl), refl))
 
-pub returns-in-Err-spelled : goal.returns-in-Err-spelled
-returns-in-Err-spelled g c = (Some (spelling c.args.apdu.now), inl ((tt, refl), refl))
+pub returns-in-Err-encoded : goal.returns-in-Err-encoded
+returns-in-Err-encoded g c = (Some (encoding c.args.apdu.now), inl ((tt, refl), refl))

@@ -11,7 +11,7 @@ use Rattle.ill_world.proofs.desk_party.DeskParty.save.Goals as goal
 pub invariant_of-self : goal.invariant_of-self
 invariant_of-self c =
     let live = c.self.inside.desk.live in
-    let again : AreSides (sides_held live) → many_sides.read (many_sides.spelling live) ≡ Ok (whole_of (sides_held live)) = λ are.
+    let again : AreSides (sides_held live) → many_sides.read (many_sides.encoding live) ≡ Ok (whole_of (sides_held live)) = λ are.
     ap (map_ok whole_of) (c.sides_read_again.ensures (sides_held live) are) in
     let sides = sides_of_whole (sides_held live) in
     search (rules, again, sides)
@@ -20,7 +20,7 @@ invariant_of-self c =
 pub returns : goal.returns
 returns c =
     let live = c.self.inside.desk.live in
-    let again : AreSides (sides_held live) → many_sides.read (many_sides.spelling live) ≡ Ok (whole_of (sides_held live)) = λ are.
+    let again : AreSides (sides_held live) → many_sides.read (many_sides.encoding live) ≡ Ok (whole_of (sides_held live)) = λ are.
     ap (map_ok whole_of) (c.sides_read_again.ensures (sides_held live) are) in
     let sides = sides_of_whole (sides_held live) in
     search (rules, again, sides)

@@ -1,14 +1,14 @@
--- Proves the contract of `spelled` (`src/laws.rt`).
+-- Proves the contract of `encoded` (`src/laws.rt`).
 -- Each field accepts only the encoding of the value that it reads.
 use Rattle.ill_saved.proofs.Fields.{Below}
 use Rattle.ill_saved.proofs.RecordLaws.{side_takes, record_takes}
-use Rattle.ill_saved.proofs.laws.spelled.Goals as goal
+use Rattle.ill_saved.proofs.laws.encoded.Goals as goal
 
 -- Bytes that are read as a side are its encoding.
 pub returns : goal.returns
 returns c =
     let below : Below = record {
-      day_spelled = c.date_texts.ensures.spelled;
+      day_encoded = c.date_texts.ensures.encoded;
       day_read = c.date_texts.ensures.read;
       text_size = c.text_sizes.ensures.qualifier;
       apdu_again = c.read_again.ensures;

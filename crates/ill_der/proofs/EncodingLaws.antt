@@ -16,7 +16,7 @@ use Rattle.ill_values.specs.declared.apdu_type.ApduType.TheVariants.{IllRequest}
 use Rattle.ill_der.specs.Format.{element, length_octets}
 use Rattle.ill_values.specs.Types.{type_of}
 use Rattle.ill_der.specs.Types.{identifier_of}
-use Rattle.ill_der.specs.ShortForm.{contents_of, spelling, apdu_at}
+use Rattle.ill_der.specs.ShortForm.{contents_of, encoding, apdu_at}
 use Rattle.ill_der.specs.Laws.{IsBytes, BeginsWithOne}
 use Rattle.ill_der.proofs.Chains.{ok_is, no_value}
 use Rattle.ill_der.proofs.Lengths.{few_octets}
@@ -26,38 +26,38 @@ use Rattle.ill_der.proofs.ShortFormLaws.{apdu_takes, apdu_again, apdu_memory, co
 
 -- The law of reading again: `apdu_at` reads each APDU in range from its encoding, whatever follows.
 abbrev pub ReadsAgain : Type 0
-ReadsAgain = (apdu : Apdu) (rest : List ℕ) → IsApdu apdu → apdu_at (spelling apdu ++ rest) ≡ Ok (apdu, rest)
+ReadsAgain = (apdu : Apdu) (rest : List ℕ) → IsApdu apdu → apdu_at (encoding apdu ++ rest) ≡ Ok (apdu, rest)
 
 -- `apdu_at` reads each APDU in range from its encoding alone, and leaves no bytes.
-read_alone : ReadsAgain → (apdu : Apdu) → IsApdu apdu → apdu_at (spelling apdu) ≡ Ok (apdu, [])
-read_alone again apdu is = ap apdu_at (sym (append-nil (spelling apdu))) ∙ again apdu [] is
+read_alone : ReadsAgain → (apdu : Apdu) → IsApdu apdu → apdu_at (encoding apdu) ≡ Ok (apdu, [])
+read_alone again apdu is = ap apdu_at (sym (append-nil (encoding apdu))) ∙ again apdu [] is
 
 -- If two APDUs in range have equal encodings, they are equal.
-pub one_apdu : ReadsAgain → (a b : Apdu) → IsApdu a → IsApdu b → spelling a ≡ spelling b → a ≡ b
+pub one_apdu : ReadsAgain → (a b : Apdu) → IsApdu a → IsApdu b → encoding a ≡ encoding b → a ≡ b
 one_apdu again a b first second e =
     let both : (a, []) ≡ (b, []) = ok_is (a, []) (b, [])
     (sym (read_alone again a first) ∙ ap apdu_at e ∙ read_alone again b second) in
     ap (λ (x : Apdu × List ℕ). x.0) both
 
 -- If the encoding of `b` is that of `a` and then `rest`, `rest` is empty.
-pub no_prefix : ReadsAgain → (a b : Apdu) (rest : List ℕ) → IsApdu a → IsApdu b → spelling b ≡ spelling a ++ rest → rest ≡ []
+pub no_prefix : ReadsAgain → (a b : Apdu) (rest : List ℕ) → IsApdu a → IsApdu b → encoding b ≡ encoding a ++ rest → rest ≡ []
 no_prefix again a b rest first second e =
     let both : (a, rest) ≡ (b, []) =
     ok_is (a, rest) (b, []) (sym (again a rest first) ∙ ap apdu_at (sym e) ∙ read_alone again b second) in
     ap (λ (x : Apdu × List ℕ). x.1) both
 
 -- The encoding of an APDU in range has at most 359 bytes.
-pub spelled_most : Values → (apdu : Apdu) → IsApdu apdu → length (spelling apdu) ≤ 359
-unfolding spelling
-spelled_most values apdu is =
+pub encoded_most : Values → (apdu : Apdu) → IsApdu apdu → length (encoding apdu) ≤ 359
+unfolding encoding
+encoded_most values apdu is =
     let contents = contents_of apdu in
     let bound = contents_bound values apdu is in
     omega (arith, element_length (identifier_of (type_of apdu.body)) contents, few_octets (length contents) 355 bound, bound)
 
 -- The encoding of an APDU in range that is no ILL-Request has at most 162 bytes.
-pub spelled_shorter : Values → (apdu : Apdu) → IsApdu apdu → (type_of apdu.body ≡ IllRequest → ⊥) → length (spelling apdu) ≤ 162
-unfolding spelling
-spelled_shorter values apdu is other =
+pub encoded_shorter : Values → (apdu : Apdu) → IsApdu apdu → (type_of apdu.body ≡ IllRequest → ⊥) → length (encoding apdu) ≤ 162
+unfolding encoding
+encoded_shorter values apdu is other =
     let contents = contents_of apdu in
     let bound = short_contents values apdu is other in
     omega (arith, element_length (identifier_of (type_of apdu.body)) contents, few_octets (length contents) 159 bound, bound)
@@ -133,8 +133,8 @@ longest_is = record {
 }
 
 -- The encoding of some APDU in range has 359 bytes.
-pub longest_reached : (apdu : Apdu) × IsApdu apdu × (length (spelling apdu) ≡ 359)
-unfolding longest_apdu longest_item spelling element length_octets
+pub longest_reached : (apdu : Apdu) × IsApdu apdu × (length (encoding apdu) ≡ 359)
+unfolding longest_apdu longest_item encoding element length_octets
 longest_reached = (longest_apdu, longest_is, refl)
 
 -- A Renew-Answer whose fields all have their maximum size.
@@ -151,6 +151,6 @@ longest_other_is = record {
 }
 
 -- The encoding of some APDU in range that is no ILL-Request has 162 bytes.
-pub shorter_reached : (apdu : Apdu) × IsApdu apdu × (type_of apdu.body ≡ IllRequest → ⊥) × (length (spelling apdu) ≡ 162)
-unfolding longest_other spelling element length_octets
+pub shorter_reached : (apdu : Apdu) × IsApdu apdu × (type_of apdu.body ≡ IllRequest → ⊥) × (length (encoding apdu) ≡ 162)
+unfolding longest_other encoding element length_octets
 shorter_reached = (longest_other, longest_other_is, λ e. cc, refl)

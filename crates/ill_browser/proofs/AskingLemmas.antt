@@ -88,7 +88,7 @@ at_look false false form size e = search rules
 same_length : (n size : ℕ) → (n == size) ≡ true → n ≡ size
 same_length n size e = grind (arith, nat_tests, e)
 
--- What a request that asks for something has: its body is whole, and its fields ask for it.
+-- A request that asks for `asked` has a whole body, and its fields ask for it.
 pub record AsksWhole (rules : RulesShown) (v : VisitShown) (body : List ℕ) (asked : Asked) : Type 0 where
   pub size : ℕ
   pub sized : body_size rules v ≡ Ok size

@@ -21,7 +21,7 @@ pub data Posts (fields : List Pair) (asked : Asked) : Type 0 where
   a_note : (loan : LoanAsked) (note : List ℕ) → are_named note_names fields ≡ true → loan_named fields ≡ Some loan
       → only_named (codes "note") fields ≡ Some note → asked ≡ Note loan note → Posts fields asked
 
--- The result of an equation, read from its other side.
+-- If `Some one` equals `Some other`, `other` equals `one`.
 same : {X : Type 0} (one other : X) → Some one ≡ Some other → other ≡ one
 same one other e = search rules
 
@@ -58,7 +58,7 @@ pub posts_change : (fields : List Pair) (asked : Asked) → Posts fields asked �
 posts_change fields asked (an_act loan stamp named loaned stamped is) = ap is_change is
 posts_change fields asked (a_note loan note named loaned noted is) = ap is_change is
 
--- A name on two fields is on one at least.
+-- A count above 1 is above 0.
 at_least_one : (count : ℕ) → 1 < count → 0 < count
 at_least_one count more = omega (arith, more)
 

@@ -36,7 +36,7 @@ empty (item ∷ items) none = search rules
 same : {X : Type 0} (one other : X) → Some one ≡ Some other → other ≡ one
 same one other e = search rules
 
--- A page whose name is that of the slip is named so.
+-- If `is_slip` is true, a page is named, and its name is "slip".
 slip_is : (named : Option (List ℕ)) → is_slip named ≡ true → (page : List ℕ)
     × ((named ≡ Some page) × (bytes_eq page (codes "slip") ≡ true))
 slip_is (Some page) is = (page, (refl, is))

@@ -44,7 +44,7 @@ pub only_once : (name : List ℕ) (fields : List Pair) (text : List ℕ) → onl
     → (count_named name fields == 1) ≡ true
 only_once name fields text e = (if_some (count_named name fields == 1) (first_named name fields) text e).0
 
--- A number that is found to be 1 is above 0.
+-- A count that equals 1 is above 0.
 one_counts : (count : ℕ) → (count == 1) ≡ true → 0 < count
 one_counts count one = grind (arith, nat_tests, one)
 
@@ -106,7 +106,7 @@ within (first ∷ names) all name known one =
 abbrev pub are_once : List (List ℕ) → List Pair → Bool
 are_once names fields = list_all (λ name. count_named name fields == 1) names
 
--- Found once, a name is not found twice.
+-- A count that equals 1 is not above 1.
 pub not_twice : (count : ℕ) → (count == 1) ≡ true → 1 < count → ⊥
 not_twice count one more = grind (arith, nat_tests, one, more)
 

@@ -423,7 +423,7 @@ fn tell_left_out<E: Write>(
     }
 }
 
-/// `ill status`: shows the sides.
+/// Performs `ill status`: shows the state of each loan.
 pub fn status<T: Files, W: Write, E: Write>(
     machine: &mut Machine<'_, T, W, E>,
     file: &str,

@@ -120,7 +120,7 @@ unfilled_asked question y number (inl last) =
 unfilled_asked question y number (inr is) =
     inr (sym (none_answered question y (types.IllAnswer results.Unfilled) NotSupplied number (no_answer question)) ∙ is)
 
--- Each question that was asked after a message was asked before it, or the message asks it.
+-- If a question is asked in the record after a message, the record before has it, or the message asks it.
 pub takes_asked : (question : Question) (y : ResponderRecord) (a : Apdu) (number : ℕ) → WasAsked question (takes y a).1 number
     → WasAsked question y number ⊎ ((asks question a.body ≡ true) × (a.number ≡ number))
 takes_asked question y a number =

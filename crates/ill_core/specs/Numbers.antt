@@ -1,5 +1,4 @@
--- Compares a number with one that may be absent (this profile's own). No number equals an absent one, or is at most or
--- below it.
+-- Compares a number with one that may be absent. Each comparison with an absent number is false.
 use Rattle.std.specs.Prelude.{ℕ, Bool, true, false, not, ◌&&◌, ◌==◌, nat_lt, nat_le, List, [], ◌∷◌, Option, Some, None}
 use Rattle.std.specs.List.{list_any}
 

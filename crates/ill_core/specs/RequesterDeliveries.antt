@@ -1,5 +1,5 @@
--- Defines the table of a responder's messages to a requester (this profile's own). The first transition that fits
--- decides. An APDU that no transition fits is a conflict with the present state.
+-- Defines how a requester answers each message of a responder: the first transition that fits decides. If none
+-- fits, the answer is a conflict with the present state. ISO 10161 has no such table.
 use Rattle.std.specs.Prelude.{◌≡◌, ℕ, Bool, true, not, ◌&&◌, [], ◌∷◌, Option, Some, None, Result, if◌then◌else◌}
 use Rattle.ill_values.specs.Day.{Date}
 use Rattle.ill_values.specs.declared.apdu.Apdu.{Apdu}

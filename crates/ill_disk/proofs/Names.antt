@@ -78,7 +78,7 @@ below_if : (count file : ℕ) (b : Bool) (other : Option ℕ) → file < count �
 below_if count file true other first rest = first
 below_if count file false other first rest = rest
 
--- A path is found to give a file that was made, if each name does.
+-- If each name gives a file that was made, so does the name that is found at a path.
 pub below_found : (count : ℕ) (path : List ℕ) (names : List Name) → AreMade count names → IsBelow count (found_at path names)
 below_found count path [] made = tt
 below_found count path (name ∷ names) made =

@@ -31,7 +31,7 @@ Changes change old (Err fault) new = (new ≡ old) ⊎ (new ≡ change old)
 abbrev pub unchanged : Disk → Disk
 unchanged d = d
 
--- A call that is done has made a new file of these bytes. If it failed, there is none, or it has any bytes.
+-- If the call succeeds, there is a new file with these bytes. If it fails, there is none, or one with any bytes.
 abbrev pub Creates : {E : Type 0} → List ℕ → List ℕ → Disk → Result (Unit {0}) E → Disk → Type 0
 Creates path bytes old (Ok done) new = new ≡ after_create path bytes old
 Creates path bytes old (Err fault) new = (new ≡ old) ⊎ ((some : List ℕ) × (new ≡ after_create path some old))

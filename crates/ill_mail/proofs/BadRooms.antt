@@ -61,7 +61,7 @@ gone_is_done (Some (Left delay)) (inr waits) = absurd (true≢false (ap is_gone 
 none_is_not_done : IsDone None → ⊥
 none_is_not_done done = true≢false (sym (ap is_some done.1))
 
--- Returns true for the verdict of a done mail.
+-- Returns true if there is a verdict, and it is `Done`.
 abbrev has_done : Option Verdict → Bool
 has_done (Some (Done outcome)) = true
 has_done verdict = false

@@ -575,8 +575,8 @@ fn bytes_if_read(read: io::Result<Vec<u8>>) -> io::Result<Option<Vec<u8>>> {
     }
 }
 
-/// Returns the failure of `done` if it is a lack of memory. After another failure the file remains among the claimed
-/// mails, for the next run.
+/// Returns the fault of `done` only if memory ran out. After any other fault the file stays among the claimed mails, for
+/// the next run.
 fn no_failure(done: io::Result<()>) -> io::Result<()> {
     match done {
         Err(error) if error.kind() == ErrorKind::OutOfMemory => Err(error),

@@ -30,7 +30,7 @@ module _ {X : Type 0} (P : X → Type 0) where
   each_at (y ∷ xs) zero x each there = (let same : y ≡ x = cc in subst P same each.0)
   each_at (y ∷ xs) (suc n) x each there = each_at xs n x each.1 there
 
--- If `P` is `Q` for each item, `Q` holds of each item of which `P` holds.
+-- If `P` implies `Q`, and `P` holds of each item of a list, so does `Q`.
 pub each_so : {X : Type 0} (P Q : X → Type 0) (xs : List X) → ((x : X) → P x → Q x) → Each P xs → Each Q xs
 unfolding Each
 each_so P Q [] so each = tt

@@ -160,7 +160,7 @@ AreSafe libraries =
 
 -- ---- what has left
 
--- `a` is a message of one of these sides, in its transaction and under its number.
+-- One of these sides has issued the message `a`, in some transaction and under some number.
 abbrev pub IsMessageOf : SidesOf → Apdu → Type 0
 IsMessageOf held a = (txn : Qualifiers) × (n : ℕ) × (message (issued_of (side_for txn held)) n ≡ Some a)
 

@@ -183,7 +183,7 @@ FirstActs idle action (Ok new) = acts idle action ≡ Ok new
 FirstActs idle action (Err OutOfMemory) = is_ok (acts idle action) ≡ true
 FirstActs idle action (Err fault) = ⊥
 
--- The answer to the first APDU of an idle side is the side after it, or that memory ran out.
+-- The result of an idle side that takes its first APDU: the side after it, or out of memory.
 abbrev pub FirstTakes : Side → Apdu → Result Side DeskFault → Type 0
 FirstTakes idle a (Ok new) = takes idle a ≡ (Ok Taken, new)
 FirstTakes idle a (Err OutOfMemory) = Unit {0}

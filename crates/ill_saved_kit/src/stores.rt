@@ -51,7 +51,7 @@ impl StoreBench {
         Some(())
     }
 
-    /// Performs `next PLAN`: plans the next call of the store. This takes no memory.
+    /// Performs the line `next PLAN` of a case: plans what the next call of the store does. Allocates nothing.
     pub fn plan(&mut self, line: &mut Line, words: &str) -> Option<()> {
         let next = plan_of(words)?;
         let store = self.memory.as_mut()?;

@@ -207,7 +207,7 @@ impl<T: Files> Letters<'_, T> {
         Ok(())
     }
 
-    /// Puts a message of a sealed letter into the folder of messages, or settles another file.
+    /// Puts a message of a sealed letter into the folder `.opened`, or settles `file` if it is no such letter.
     fn open_one<E: Write>(
         &mut self,
         mail: &Mail,

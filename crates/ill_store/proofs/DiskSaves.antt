@@ -86,7 +86,7 @@ flush_keeps path old read flushed result kept changes =
     either_way (IsOld path old) (after_flush path) read flushed result changes kept
     (flush_is_not_read path path read ∙ kept.0, flush_leaves path path old read kept.1)
 
--- A record that is kept is so after the names were flushed, or were not.
+-- If a path has its old record, it has this after `flush_names` too, whether that succeeds or fails.
 pub names_keep : {E : Type 0} (path : List ℕ) (old flushed last : Disk) (result : Result (Unit {0}) E) → IsWhole flushed →
     IsOld path old flushed → Changes after_flush_names flushed result last → IsOld path old last
 names_keep path old flushed last result whole kept changes =

@@ -16,13 +16,13 @@ pub const TRIES: u16 = 2_000;
 /// An allocation of this size begins a call that may answer out of memory.
 const BEGIN: usize = 54_321;
 
-/// An allocation of this size begins a quiet call.
+/// An allocation of this size begins a call that takes no memory.
 const BEGIN_QUIET: usize = 54_323;
 
-/// An allocation of this size ends a call that does not answer out of memory.
+/// An allocation of this size marks the end of a call, if it did not run out of memory.
 const END: usize = 54_327;
 
-/// An allocation of this size ends a call that answers out of memory.
+/// An allocation of this size marks the end of a call that ran out of memory.
 const END_OF_MEMORY: usize = 54_329;
 
 /// An allocation of this size ends a call that may do without the refused memory.

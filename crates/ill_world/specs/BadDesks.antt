@@ -79,7 +79,7 @@ pub data MissesNew (w : DeskParties) (event : DeskEvent) : Type 0 where
   finds_one : (txn : Qualifiers) → MayBegin w txn false event →
       found_by txn_held txn (desk_of w event).live.held ≡ None →
       ((desks_happen w event).0 ≡ NoSuchTransaction → ⊥) → MissesNew w event
-  -- It names no transaction. But it does not reach its desk.
+  -- It is of a whole desk, and its outcome says that it was not reached.
   misses_desk : ((txn : Qualifiers) → Names txn event → ⊥) → IsNotReached (desks_happen w event).0 → MissesNew w event
 
 -- The outcome is NoSuchTransaction or DeskFull, and the projection has changed.

@@ -22,7 +22,7 @@ def places_of(text, old):
 
 
 def changed(text, pair):
-    """Returns a text with the change of a pair."""
+    """Returns `text` with `pair.new` in the place of `pair.old`. Raises `BadEdit` unless that stands once."""
     places = places_of(text, pair.old)
     if len(places) != 1:
         raise BadEdit(f"it stands {len(places)} times in {pair.file}: {pair.old.strip()}")

@@ -1,5 +1,5 @@
 -- Defines how a requester answers each message of a responder: the first transition that fits decides. If none
--- fits, the answer is a conflict with the present state. ISO 10161 has no such table.
+-- fits, the answer is a conflict with the present state. The table is this profile's own.
 use Rattle.std.specs.Prelude.{◌≡◌, ℕ, Bool, true, not, ◌&&◌, [], ◌∷◌, Option, Some, None, Result, if◌then◌else◌}
 use Rattle.ill_values.specs.Day.{Date}
 use Rattle.ill_values.specs.declared.apdu.Apdu.{Apdu}

@@ -196,6 +196,15 @@ impl<I> BodyWith<I> {
     }
 }
 
+impl ApduType {
+    /// Returns the type of `body`.
+    pub fn of(body: &Body) -> ApduType
+        ensures { result ≡ type_of body.now }
+    {
+        body.apdu_type()
+    }
+}
+
 impl Body {
     /// Returns a view of the body. It allocates nothing.
     pub fn view(&self) -> BodyView<'_>

@@ -3,9 +3,8 @@
 ghost use Rattle.std.specs.Prelude.{◌≡◌, Some};
 ghost use Rattle.std.specs.Result.{result_ok};
 ghost use Rattle.std.specs.Fmt.{padded};
-ghost use Rattle.ill_values.specs.Types.{type_of, apdu_type_name, apdu_type_named};
+ghost use Rattle.ill_values.specs.Types.{apdu_type_name, apdu_type_named};
 
-use crate::apdu::Body;
 use crate::fault::UnknownName;
 use std::fmt;
 use std::str::FromStr;
@@ -92,13 +91,6 @@ impl ApduType {
             .iter()
             .copied()
             .find(|apdu_type| apdu_type.name().as_bytes() == text)
-    }
-
-    /// Returns the type of `body`.
-    pub fn of(body: &Body) -> ApduType
-        ensures { result ≡ type_of body.now }
-    {
-        body.apdu_type()
     }
 }
 

@@ -1,8 +1,8 @@
 //! Prints the answers to a case.
 
+use crate::case::{bytes_in, case_in, fault_word, key_in};
 use crate::changes::{push_each_bit, push_each_front};
-use hex::FromHex;
-use ill_seal::{Key, KeyFault, SealFault, Sender, hmac, seal, unseal};
+use ill_seal::{Key, KeyFault, hmac, seal, unseal};
 use ill_test_kit::marks::{quietly, tried};
 use ill_test_kit::{INDENT, Lines, Page};
 use std::alloc::{AllocError, Global};
@@ -115,44 +115,6 @@ fn push_key(alloc: Global, output: &mut Page, text: &str) -> Option<()> {
     Some(())
 }
 
-/// A key, a sender, and the bytes of a text or a letter.
-#[derive(Drop)]
-pub struct Case {
-    pub key: Key,
-    pub sender: Sender,
-    pub bytes: Vec<u8>,
-}
-
-/// Returns the case that the words are.
-pub fn case_in(alloc: Global, words: &str) -> Option<Case> {
-    let (key, words) = words.split_once(" ")?;
-    let (sender, bytes) = words.split_once(" ")?;
-    Some(Case {
-        key: key_in(key)?,
-        sender: sender_in(sender)?,
-        bytes: bytes_in(alloc, bytes)?,
-    })
-}
-
-/// Returns the key with these 64 hexadecimal digits.
-fn key_in(digits: &str) -> Option<Key> {
-    Some(Key::new(<[u8; 32] as FromHex>::from_hex(digits).ok()?))
-}
-
-/// Returns the sender that `word` names.
-fn sender_in(word: &str) -> Option<Sender> {
-    match word {
-        "requester" => Some(Sender::Requester),
-        "responder" => Some(Sender::Responder),
-        _ => None,
-    }
-}
-
-/// Returns the bytes with these hexadecimal digits.
-fn bytes_in(alloc: Global, digits: &str) -> Option<Vec<u8>> {
-    hex::decode(alloc, if digits == "-" { "" } else { digits }).ok()
-}
-
 /// Adds bytes in hexadecimal, or `-` for none.
 fn push_hex(alloc: Global, output: &mut Page, bytes: &[u8]) -> Option<()> {
     if bytes.is_empty() {
@@ -161,16 +123,6 @@ fn push_hex(alloc: Global, output: &mut Page, bytes: &[u8]) -> Option<()> {
         output.text(hex::encode(alloc, bytes).ok()?.as_str());
     }
     Some(())
-}
-
-/// Returns the word of a fault.
-pub fn fault_word(fault: SealFault) -> &'static str {
-    match fault {
-        SealFault::Short => "Short",
-        SealFault::Mark => "Mark",
-        SealFault::Sender => "Sender",
-        SealFault::Seal => "Seal",
-    }
 }
 
 /// Returns the word of a fault of a key's text.

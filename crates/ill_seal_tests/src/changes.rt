@@ -2,7 +2,7 @@
 
 ghost use Rattle.std.specs.Prelude.{◌<◌};
 
-use crate::answers::{case_in, fault_word};
+use crate::case::{case_in, fault_word};
 use ill_seal::{SealFault, unseal};
 use ill_test_kit::Page;
 use std::alloc::Global;

@@ -19,6 +19,7 @@
 #![tactic(auto)]
 
 mod answers;
+mod case;
 mod changes;
 
 use answers::Cases;

@@ -2,18 +2,13 @@
 
 use crate::desk_kind::DeskKind;
 use crate::desk_view::DeskView;
+use crate::memory_desk::{Begun, MemoryDesk};
 use crate::words::write_fault;
 use ill_core::State;
 use ill_saved::{AnyDesk, DeskFault, MemoryStore};
 use ill_saved_kit::{Line, Tries, is_as_seen, seen};
 use ill_test_kit::marks::TRIES;
 use std::alloc::Global;
-
-/// A desk whose store is in memory.
-pub type MemoryDesk<H> = AnyDesk<H, MemoryStore>;
-
-/// The new desk, or the fault and the store that was handed back.
-pub type Begun<H> = Result<MemoryDesk<H>, (DeskFault, MemoryStore)>;
 
 /// The way in which a desk begins.
 #[derive(Clone, Copy)]

@@ -1,7 +1,7 @@
 //! Lets the cases treat desks of one transaction and of many alike.
 
-use crate::beginnings::Begun;
 use crate::idle::idle;
+use crate::memory_desk::Begun;
 use ill_saved::{
     AnyDesk, Desk, Desk1, Holdings, ManySides, MemoryStore, OneSide, Role, Side, Store,
 };

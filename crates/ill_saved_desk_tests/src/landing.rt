@@ -1,10 +1,10 @@
 //! Tests what a save lands, and that a save without memory lands nothing.
 
 use crate::actions::action;
-use crate::beginnings::MemoryDesk;
 use crate::desk_kind::DeskKind;
 use crate::desk_view::DeskView;
 use crate::desks::{DeskCall, WrittenCall, answer_of, is_memory, perform, write_answer};
+use crate::memory_desk::MemoryDesk;
 use ill_desk_kit::plan_of;
 use ill_saved::{AnyDesk, MemoryStore, NextCall, Role};
 use ill_saved_kit::{Line, role_of};

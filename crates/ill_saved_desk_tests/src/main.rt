@@ -25,6 +25,7 @@ mod fuses;
 mod idle;
 mod landing;
 mod longest;
+mod memory_desk;
 mod restarts;
 mod transactions;
 mod words;

@@ -1,12 +1,12 @@
 //! Begins desks over a store in memory, by the engine of `new`.
 
+use crate::landed::tell_landed;
 use crate::memory::Memory;
 use ill_desk::new::run_desk_new;
 use ill_desk_kit::plan_of;
-use ill_saved::{MemoryStore, Store};
-use ill_session_kit::telling::tell_bytes;
+use ill_saved::MemoryStore;
+use ill_session_kit::Call;
 use ill_session_kit::words::Word;
-use ill_session_kit::{Call, Names};
 use ill_test_kit::Page;
 use ill_text::fault::ToolFault;
 use ill_words::words::who;
@@ -60,17 +60,4 @@ fn new_store(alloc: Global, plan: &Word) -> Option<MemoryStore> {
     let mut store = MemoryStore::new(alloc);
     store.set_next(next);
     Some(store)
-}
-
-/// Prints the bytes that have landed, if there are any.
-pub fn tell_landed(
-    alloc: Global,
-    page: &mut Page,
-    names: &Names,
-    store: &mut MemoryStore,
-) -> Option<()> {
-    if let Some(landed) = store.load(alloc).ok()? {
-        tell_bytes(page, names, "landed", &landed);
-    }
-    Some(())
 }

@@ -1,7 +1,8 @@
 //! The bench has a memory with one side or one desk, and calls engines on streams.
 
 use crate::engines::ApduEngine;
-use crate::memory::{Beginning, MemoryCall};
+use crate::memory::Beginning;
+use crate::memory_call::MemoryCall;
 use crate::past::{LineCall, Past};
 use ill_session_kit::{Performs, Phrase, engine};
 use ill_test_kit::{Page, named};

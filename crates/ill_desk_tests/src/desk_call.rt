@@ -1,7 +1,7 @@
 //! A call on the memory sends mails and copies a desk, besides what its streams show.
 
 use crate::letters::Letters;
-use crate::memory::MemoryCall;
+use crate::memory_call::MemoryCall;
 use ill_der::view;
 use ill_session_kit::{Call, Phrase};
 use ill_test_kit::{Failure, TestReader};

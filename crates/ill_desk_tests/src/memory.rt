@@ -3,12 +3,13 @@
 ghost use Rattle.std.specs.Prelude.{◌≡◌, IfSome};
 ghost use Rattle.ill_saved.specs.Side.{idle_of};
 
-use crate::beginning::tell_landed;
 use crate::desk_call::DeskCall;
 use crate::kept::Kept;
+use crate::landed::tell_landed;
 use crate::letters::Letters;
 use crate::limited::LimitedStore;
 use crate::mails::mails_of;
+use crate::memory_call::MemoryCall;
 use crate::view::View;
 use ill_desk_kit::{idle_side, plan_of};
 use ill_saved::{Desk, Desk1, MemoryStore, NextCall, Role, Side, Store};
@@ -40,35 +41,6 @@ pub enum Beginning {
     Side,
     /// A desk of many transactions begins.
     Desk,
-}
-
-/// A call on the memory.
-#[derive(Clone, Copy)]
-pub enum MemoryCall {
-    /// All sides are saved.
-    Save,
-    /// All sides are restarted from the landed record.
-    Restart,
-    /// An action is performed.
-    Act,
-    /// The messages of the input are taken.
-    Take,
-    /// Mails are taken.
-    Inbox,
-    /// Messages are sent as mails.
-    Outbox,
-    /// Messages are sent on a stream.
-    Stream,
-    /// The deeds that are due on a day are performed.
-    Dates,
-    /// All sides are copied to another store.
-    Copy,
-    /// One message is written.
-    Send,
-    /// All sides are shown.
-    Status,
-    /// One loan is shown.
-    Loan,
 }
 
 impl Memory {

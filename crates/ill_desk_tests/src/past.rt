@@ -5,7 +5,8 @@
 
 use crate::beginning::begin;
 use crate::desk_call::{DeskCall, prefix_count};
-use crate::memory::{Beginning, Memory, MemoryCall};
+use crate::memory::{Beginning, Memory};
+use crate::memory_call::MemoryCall;
 use crate::tries::{CallResult, Extent, fault};
 use ill_session_kit::engine::tell_fault;
 use ill_session_kit::words::{Word, copied};

@@ -5,7 +5,8 @@
 //! call, and the value after some of its messages.
 
 use crate::desk_call::DeskCall;
-use crate::memory::{Memory, MemoryCall};
+use crate::memory::Memory;
+use crate::memory_call::MemoryCall;
 use crate::view::View;
 use ill_session_kit::Phrase;
 use ill_test_kit::Page;

@@ -4,8 +4,8 @@ use Rattle.ill_values.specs.Day.{Date, date_text}
 use Rattle.ill_values.specs.TxnId.{Qualifiers}
 use Rattle.ill_core.specs.declared.state.State.TheVariants.{Shipped}
 use Rattle.ill_core.specs.State.{is_among}
-use Rattle.ill_saved.specs.declared.side.Side.{Side}
-use Rattle.ill_saved.specs.Side.{state_of}
+use Rattle.ill_record.specs.declared.side.Side.{Side}
+use Rattle.ill_record.specs.Side.{state_of}
 
 -- Returns the sides that are SHIPPED, in their order.
 abbrev pub shipped : List Side → List Side

@@ -1,9 +1,9 @@
 -- The command `note`: it keeps a note on a loan beside the desk of the loan.
 use Rattle.std.specs.Prelude.{◌≡◌, ◌⊎◌, ℕ, Bool, List, map, codes, Option, None, Some, Result, Ok, Err}
 use Rattle.ill_values.specs.TxnId.{Qualifiers}
-use Rattle.ill_saved.specs.declared.side.Side.{Side}
+use Rattle.ill_record.specs.declared.side.Side.{Side}
 use Rattle.ill_saved.specs.declared.fault.DeskFault.TheVariants.{NoSuchTransaction}
-use Rattle.ill_saved.specs.Sides.{side_with}
+use Rattle.ill_record.specs.Sides.{side_with}
 use Rattle.ill_text.specs.declared.fault.ToolFault.{ToolFault}
 use Rattle.ill_text.specs.declared.fault.ToolFault.TheVariants.{Desk}
 use Rattle.ill_text.specs.Output.{WritesText}

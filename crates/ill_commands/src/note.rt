@@ -1,6 +1,6 @@
 //! The command `note`, at a desk in a file. Nothing that leaves the desk depends on a note.
 
-ghost use Rattle.ill_saved.specs.Sides.{side_with};
+ghost use Rattle.ill_record.specs.Sides.{side_with};
 ghost use Rattle.ill_desk.specs.Take.{KeepsPrefix};
 ghost use Rattle.ill_show.specs.Notes.{kept_line};
 ghost use Rattle.ill_commands.specs.Note.{KeepsAtFile, KeepsNote, NotesAtFile, RunsNote, text_of};

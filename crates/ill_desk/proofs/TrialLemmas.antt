@@ -1,14 +1,14 @@
 -- Proves that a save of a desk shows each side with all messages released.
 use Rattle.std.proofs.Common.{◌≡◌, Option, Some, None, option_map, refl, sym, ap, ◌∙◌}
 use Rattle.ill_values.specs.TxnId.{Qualifiers}
-use Rattle.ill_saved.specs.declared.role.Role.{Role}
-use Rattle.ill_saved.specs.declared.role.Role.TheVariants as roles
-use Rattle.ill_saved.specs.declared.side.Side.{Side}
-use Rattle.ill_saved.specs.Side.{txn_of}
+use Rattle.ill_record.specs.declared.role.Role.{Role}
+use Rattle.ill_record.specs.declared.role.Role.TheVariants as roles
+use Rattle.ill_record.specs.declared.side.Side.{Side}
+use Rattle.ill_record.specs.Side.{txn_of}
 use Rattle.ill_saved.specs.Holdings.{DeskEntry, whole}
-use Rattle.ill_saved.specs.Sides.{found_by}
+use Rattle.ill_record.specs.Sides.{found_by}
 use Rattle.ill_saved.specs.ManySides.{DeskContents, found_or, idle_held, many_sides, txn_held}
-use Rattle.ill_saved.proofs.Finding.{found_mapped}
+use Rattle.ill_record.proofs.Finding.{found_mapped}
 use Rattle.ill_desk.specs.Telling.{once_saved, shown_at, shown_in}
 
 -- Returns the entry of a desk after a save.

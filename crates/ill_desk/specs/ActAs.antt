@@ -6,7 +6,7 @@ use Rattle.std.specs.Str.{bytes_eq}
 use Rattle.std.specs.Io.KnownBytes.{Appends}
 use Rattle.ill_values.specs.Day.{Date}
 use Rattle.ill_values.specs.TxnId.{Qualifiers}
-use Rattle.ill_saved.specs.declared.side.Action.{Action}
+use Rattle.ill_record.specs.declared.side.Action.{Action}
 use Rattle.ill_saved.specs.declared.shown.Shown.{Shown}
 use Rattle.ill_saved.specs.Holdings.{Effects}
 use Rattle.ill_saved.specs.ManySides.{DeskContents, many_sides}

@@ -2,10 +2,10 @@
 use Rattle.std.specs.Prelude.{ℕ, Bool, ◌&&◌, not, ◌==◌, if◌then◌else◌, List, length, Option, None, Some, option_map}
 use Rattle.std.specs.List.{list_all, list_any}
 use Rattle.ill_values.specs.Day.{Date}
-use Rattle.ill_saved.specs.declared.role.Role.{Role}
-use Rattle.ill_saved.specs.declared.role.Role.TheVariants.{Requester, Responder}
-use Rattle.ill_saved.specs.declared.side.Action.{Action}
-use Rattle.ill_saved.specs.declared.side.Action.TheVariants.{Wish, Deed}
+use Rattle.ill_record.specs.declared.role.Role.{Role}
+use Rattle.ill_record.specs.declared.role.Role.TheVariants.{Requester, Responder}
+use Rattle.ill_record.specs.declared.side.Action.{Action}
+use Rattle.ill_record.specs.declared.side.Action.TheVariants.{Wish, Deed}
 use Rattle.ill_words.specs.Words.{wish_of, deed_of}
 
 -- Returns true if `word` could be a word of a script: it is not empty, and has no space.

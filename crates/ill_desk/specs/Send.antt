@@ -4,7 +4,7 @@ use Rattle.std.specs.Io.KnownBytes.{Appends}
 use Rattle.ill_values.specs.declared.apdu.Apdu.{Apdu}
 use Rattle.ill_der.specs.ShortForm.{encoding}
 use Rattle.ill_core.specs.Issued.{message}
-use Rattle.ill_saved.specs.Side.{issued_of}
+use Rattle.ill_record.specs.Side.{issued_of}
 use Rattle.ill_saved.specs.Holdings.{DeskEntry}
 use Rattle.ill_saved.specs.declared.fault.DeskFault.TheVariants.{NoSuchTransaction, NoSuchMessage, NotSaved}
 use Rattle.ill_text.specs.declared.fault.ToolFault.{ToolFault}

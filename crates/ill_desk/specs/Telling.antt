@@ -3,7 +3,7 @@ use Rattle.std.specs.Prelude.{◌≡◌, ℕ, Bool, true, false, List, [], ◌++
 use Rattle.std.specs.Io.KnownBytes.{Appends}
 use Rattle.ill_values.specs.declared.apdu.Apdu.{Apdu}
 use Rattle.ill_core.specs.declared.taking.Taking.TheVariants.{Conflict}
-use Rattle.ill_saved.specs.Side.{shown_of}
+use Rattle.ill_saved.specs.Shown.{shown_of}
 use Rattle.ill_saved.specs.Holdings.{DeskEntry, Effects}
 use Rattle.ill_saved.specs.declared.shown.Shown.{Shown}
 use Rattle.ill_words.specs.declared.outcome.Outcome.TheVariants as outcomes

@@ -1,7 +1,7 @@
 //! The command `act`.
 
 ghost use Rattle.std.specs.Prelude.{◌≡◌, map, Some, IfOk, IfErr};
-ghost use Rattle.ill_saved.specs.Side.{role_of};
+ghost use Rattle.ill_record.specs.Side.{role_of};
 ghost use Rattle.ill_desk.specs.Actions.{action_named};
 ghost use Rattle.ill_saved.specs.OneSide.{one_side};
 ghost use Rattle.ill_saved.specs.ManySides.{many_sides};

@@ -1,7 +1,7 @@
 //! The command `new`.
 
 ghost use Rattle.std.specs.Prelude.{◌≡◌, codes, IfOk};
-ghost use Rattle.ill_saved.specs.RecordsV2.{sides_encoding};
+ghost use Rattle.ill_record.specs.RecordsV2.{sides_encoding};
 ghost use Rattle.ill_saved.specs.ManySides.{sides_held, no_sides, whole_of};
 ghost use Rattle.ill_saved.specs.Desk.{answer_of, store_of};
 ghost use Rattle.ill_desk.specs.New.{RunsNew, SavesFirst, BeginsIn};

@@ -1,7 +1,7 @@
 //! The memory is one side of transaction G1, T1, or a desk of many transactions.
 
 ghost use Rattle.std.specs.Prelude.{◌≡◌, IfSome};
-ghost use Rattle.ill_saved.specs.Side.{idle_of};
+ghost use Rattle.ill_record.specs.Side.{idle_of};
 
 use crate::desk_call::DeskCall;
 use crate::kept::Kept;

@@ -4,7 +4,7 @@ use Rattle.std.specs.Prelude.{is_none}
 use Rattle.std.specs.Prelude.{is_some}
 use Rattle.std.specs.List.{count_by, sum_by}
 use Rattle.ill_values.specs.declared.apdu.Apdu.{Apdu}
-use Rattle.ill_saved.specs.declared.side.Side.{Side}
+use Rattle.ill_record.specs.declared.side.Side.{Side}
 use Rattle.ill_figures.specs.declared.count.Count.{Count}
 use Rattle.ill_figures.specs.declared.count.Count.TheVariants as counts
 use Rattle.ill_figures.specs.declared.days.Span.{Span}

@@ -9,8 +9,8 @@ use Rattle.ill_values.specs.declared.apdu.AnswerResult.{AnswerResult}
 use Rattle.ill_values.specs.declared.apdu.AnswerResult.TheVariants as answers
 use Rattle.ill_core.specs.declared.state.State.{State}
 use Rattle.ill_core.specs.declared.state.State.TheVariants as states
-use Rattle.ill_saved.specs.declared.side.Side.{Side}
-use Rattle.ill_saved.specs.Side.{issued_of, state_of, txn_of}
+use Rattle.ill_record.specs.declared.side.Side.{Side}
+use Rattle.ill_record.specs.Side.{issued_of, state_of, txn_of}
 use Rattle.ill_show.specs.Diary.{Named, issued_named, request_taken, said_by, taken_named}
 use Rattle.ill_show.specs.Heard.{is_heard}
 use Rattle.ill_show.specs.Kept.{kept_of}

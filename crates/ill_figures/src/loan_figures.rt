@@ -1,7 +1,7 @@
 //! The figures of one loan: the day on which it was asked, how it ended, and how long it took.
 
 ghost use Rattle.std.specs.Prelude.{◌≡◌, ◌++◌, ◌∷◌, [], filter, map, IfOk, OnOk};
-ghost use Rattle.ill_saved.specs.Side.{issued_of, state_of, txn_of};
+ghost use Rattle.ill_record.specs.Side.{issued_of, state_of, txn_of};
 ghost use Rattle.ill_show.specs.Diary.{request_taken};
 ghost use Rattle.ill_show.specs.Heard.{is_heard};
 ghost use Rattle.ill_text.specs.Diary.{message_key};

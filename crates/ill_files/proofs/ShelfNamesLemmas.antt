@@ -12,11 +12,11 @@ use Rattle.percent_encoding.proofs.PercentLemmas.{round_trip, IsByte}
 use Rattle.percent_encoding.specs.Percent.{percent_decode, percent_encode}
 use Rattle.ill_values.specs.Text.{IsQualifier, is_printable, qualifier_check}
 use Rattle.ill_values.specs.declared.fault.TextFault.{TextFault}
-use Rattle.ill_saved.specs.declared.role.Role.{Role}
-use Rattle.ill_saved.specs.declared.role.Role.TheVariants.{Requester, Responder}
+use Rattle.ill_record.specs.declared.role.Role.{Role}
+use Rattle.ill_record.specs.declared.role.Role.TheVariants.{Requester, Responder}
 use Rattle.ill_files.specs.declared.shelf.TheConstants.{ESCAPED}
 use Rattle.ill_files.specs.ShelfNames.{IsDeskName, desk_name, group_in}
-use Rattle.ill_saved.specs.Roles.{role_name}
+use Rattle.ill_record.specs.Roles.{role_name}
 
 -- A printable character is less than 256.
 printable_is_byte : (b : ℕ) → is_printable b ≡ true → b < 256

@@ -2,10 +2,10 @@
 use Rattle.std.specs.Prelude.{◌≡◌, ◌⊎◌, ℕ, ◌-◌, List, ◌++◌, length, take, codes}
 use Rattle.percent_encoding.specs.Percent.{percent_decode, percent_encode}
 use Rattle.ill_values.specs.Text.{IsQualifier}
-use Rattle.ill_saved.specs.declared.role.Role.{Role}
-use Rattle.ill_saved.specs.declared.role.Role.TheVariants.{Requester, Responder}
+use Rattle.ill_record.specs.declared.role.Role.{Role}
+use Rattle.ill_record.specs.declared.role.Role.TheVariants.{Requester, Responder}
 use Rattle.ill_files.specs.declared.shelf.TheConstants.{ESCAPED}
-use Rattle.ill_saved.specs.Roles.{role_name}
+use Rattle.ill_record.specs.Roles.{role_name}
 
 -- Returns the name of the desk of a group: the group in percent-encoding, a full stop, and the role.
 abbrev pub desk_name : Role → List ℕ → List ℕ

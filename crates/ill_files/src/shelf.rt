@@ -4,7 +4,7 @@
 ghost use Rattle.std.specs.Prelude.{Decides, IfOk, ◌≡◌, ℕ, List, IfErr, string_bytes};
 ghost use Rattle.ill_files.specs.ShelfNames.{IsNamedOnShelf, IsDeskName, desk_name, desk_path, group_in};
 ghost use Rattle.ill_values.specs.Text.{IsQualifier};
-ghost use Rattle.ill_saved.specs.declared.role.Role.{Role};
+ghost use Rattle.ill_record.specs.declared.role.Role.{Role};
 ghost use Rattle.ill_text.specs.Fault.{IsOpenFault};
 
 use crate::open::open;

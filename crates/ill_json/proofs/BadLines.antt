@@ -7,7 +7,7 @@ use Rattle.json.specs.Json.{object, document}
 use Rattle.json.specs.Strict.{HasUniqueKeys}
 use Rattle.json.proofs.OnLiterals.{json_on_literals}
 use Rattle.ill_values.specs.Text.{is_no_control}
-use Rattle.ill_saved.specs.Ranges.{Each}
+use Rattle.ill_record.specs.Ranges.{Each}
 use Rattle.ill_text.specs.ApduObject.{object_line}
 use Rattle.ill_text.specs.Json.{Field}
 use Rattle.ill_json.specs.BadLines.{IsBadLine, AreBadLines, broken_texts, unended, broken, no_utf8, unread, no_members}

@@ -2,7 +2,7 @@
 use Rattle.std.proofs.Common.{◌≡◌, ℕ, suc, ◌/◌, ◌<◌, ◌^◌, Bool, true, List, [], ◌∷◌, Option}
 use Rattle.std.proofs.Common.{Some, None, arith, IsUtf8, decimal, IfSome}
 use Rattle.ill_values.specs.Day.{Date, iso_text, last_digit}
-use Rattle.ill_saved.specs.Ranges.{Each}
+use Rattle.ill_record.specs.Ranges.{Each}
 use Rattle.ill_text.specs.Json.{array, day, flag, optional, quoted}
 use Rattle.ill_json.proofs.Shown.{IsShown, shown-cons, shown-nil, are_printable, printable_shown}
 use Rattle.ill_json.proofs.Values.{HasValue, FieldReads, string_reads, null_reads, flag_reads, number_reads, array_reads}

@@ -9,7 +9,7 @@ use Rattle.std.specs.Str.{bytes_eq}
 use Rattle.json.specs.Find.{get, get_member}
 use Rattle.json.specs.Json.{Json, Members, no_members, member, object, document}
 use Rattle.json.specs.Strict.{keys, AreDistinct}
-use Rattle.ill_saved.specs.Ranges.{Each}
+use Rattle.ill_record.specs.Ranges.{Each}
 use Rattle.ill_text.specs.Json.{Field}
 use Rattle.ill_json.specs.Objects.{IsObject, members_of}
 

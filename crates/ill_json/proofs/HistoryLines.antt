@@ -14,10 +14,10 @@ use Rattle.ill_values.specs.Day.{Date}
 use Rattle.ill_values.specs.declared.apdu.Apdu.{Apdu}
 use Rattle.ill_values.specs.Apdu.{IsApdu, IsNumber}
 use Rattle.ill_values.specs.Types.{type_of}
-use Rattle.ill_saved.specs.declared.side.Side.{Side}
-use Rattle.ill_saved.specs.declared.side.Side.TheVariants as sides
-use Rattle.ill_saved.specs.Ranges.{Each, IsInRange}
-use Rattle.ill_saved.specs.Side.{issued_of}
+use Rattle.ill_record.specs.declared.side.Side.{Side}
+use Rattle.ill_record.specs.declared.side.Side.TheVariants as sides
+use Rattle.ill_record.specs.Ranges.{Each, IsInRange}
+use Rattle.ill_record.specs.Side.{issued_of}
 use Rattle.ill_words.specs.Words.{◌>>=◌, day_of}
 use Rattle.ill_show.specs.Diary.{Named, Said, Told, at_space, body_verb, history_fields, history_of, is_named, is_space}
 use Rattle.ill_show.specs.Diary.{issued_named, messages_of, part_at, part_fields, part_object, part_of, part_said, person}

@@ -9,12 +9,12 @@ use Rattle.json.specs.Json.{item, document, array, string, number, boolean, null
 use Rattle.ill_values.specs.Day.{Date, iso_text}
 use Rattle.ill_values.specs.declared.apdu.Apdu.{Apdu}
 use Rattle.ill_values.specs.Apdu.{IsApdu}
-use Rattle.ill_saved.specs.declared.side.Side.{Side}
+use Rattle.ill_record.specs.declared.side.Side.{Side}
 use Rattle.ill_saved.specs.Holdings.{DeskEntry, whole}
-use Rattle.ill_saved.specs.Ranges.{Each, IsSide}
-use Rattle.ill_saved.specs.RecordsV2.{AreSides}
-use Rattle.ill_saved.specs.Side.{txn_of}
-use Rattle.ill_saved.specs.Sides.{SidesOf, most_sides}
+use Rattle.ill_record.specs.Ranges.{Each, IsSide}
+use Rattle.ill_record.specs.RecordsV2.{AreSides}
+use Rattle.ill_record.specs.Side.{txn_of}
+use Rattle.ill_record.specs.Sides.{SidesOf, most_sides}
 use Rattle.ill_text.specs.declared.form.Form.TheVariants as forms
 use Rattle.ill_text.specs.ApduObject.{object_line, apdu_fields, apdu_text}
 use Rattle.ill_text.specs.Json as texts

@@ -5,9 +5,9 @@ use Rattle.ill_values.specs.TxnId.{Qualifiers}
 use Rattle.ill_values.specs.declared.apdu.Apdu.{Apdu}
 use Rattle.ill_values.specs.Apdu.{IsApdu}
 use Rattle.ill_core.specs.Issued.{is_same_txn}
-use Rattle.ill_saved.specs.declared.side.Side.{Side}
-use Rattle.ill_saved.specs.Side.{txn_of}
-use Rattle.ill_saved.specs.Ranges.{Each}
+use Rattle.ill_record.specs.declared.side.Side.{Side}
+use Rattle.ill_record.specs.Side.{txn_of}
+use Rattle.ill_record.specs.Ranges.{Each}
 use Rattle.ill_text.specs.Json.{optional}
 use Rattle.ill_show.specs.Kept.{is_among, kept_of, with_new}
 use Rattle.ill_list.specs.ListedNews.{heard_array, heard_fields, heard_object, listed_news_fields}

@@ -18,9 +18,9 @@ use Rattle.ill_core.specs.Words.{turn_name}
 use Rattle.ill_work.specs.declared.work.Work.{Work}
 use Rattle.ill_work.specs.declared.work.Work.TheVariants as works
 use Rattle.ill_work.specs.Work.{work_words}
-use Rattle.ill_saved.specs.declared.role.Role.{Role}
-use Rattle.ill_saved.specs.declared.role.Role.TheVariants as roles
-use Rattle.ill_saved.specs.Roles.{role_name}
+use Rattle.ill_record.specs.declared.role.Role.{Role}
+use Rattle.ill_record.specs.declared.role.Role.TheVariants as roles
+use Rattle.ill_record.specs.Roles.{role_name}
 use Rattle.ill_json.proofs.Shown.{are_printable}
 
 -- The name of a type of APDU is printable.

@@ -5,9 +5,9 @@ use Rattle.ill_values.specs.Day.{Date, iso_text}
 use Rattle.ill_values.specs.Body.{Body}
 use Rattle.ill_values.specs.declared.apdu.BodyWith.TheVariants as types
 use Rattle.ill_values.specs.declared.apdu.AnswerResult.TheVariants as results
-use Rattle.ill_saved.specs.declared.side.Side.{Side}
-use Rattle.ill_saved.specs.declared.side.Side.TheVariants as sides
-use Rattle.ill_saved.specs.Side.{due_date_of}
+use Rattle.ill_record.specs.declared.side.Side.{Side}
+use Rattle.ill_record.specs.declared.side.Side.TheVariants as sides
+use Rattle.ill_record.specs.Side.{due_date_of}
 use Rattle.ill_show.specs.NewsWords.{lender_words, news_words, told_words}
 use Rattle.ill_list.specs.News.{words_by}
 use Rattle.ill_json.proofs.Fields.{day_utf8}

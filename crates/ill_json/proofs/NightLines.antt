@@ -18,7 +18,7 @@ use Rattle.ill_core.specs.declared.taking.Taking.TheVariants as takings
 use Rattle.ill_der.specs.Faults.{place_of}
 use Rattle.ill_der.specs.declared.fault.DerFault.{DerFault}
 use Rattle.ill_der.specs.declared.fault.DerFault.TheVariants as ders
-use Rattle.ill_saved.specs.Ranges.{Each}
+use Rattle.ill_record.specs.Ranges.{Each}
 use Rattle.ill_saved.specs.declared.shown.Shown.{Shown}
 use Rattle.ill_text.specs.ApduObject.{apdu_fields, body_fields, head_fields, object_line}
 use Rattle.ill_text.specs.declared.form.Form.TheVariants as forms

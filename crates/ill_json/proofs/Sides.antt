@@ -20,12 +20,12 @@ use Rattle.ill_core.specs.declared.verb.Verb.{Verb}
 use Rattle.ill_core.specs.Requester.{is_received_by, is_declined}
 use Rattle.ill_core.specs.ResponderActions.{expiry_of}
 use Rattle.ill_core.specs.Verbs.{verb_name}
-use Rattle.ill_saved.specs.declared.side.Side.{Side}
-use Rattle.ill_saved.specs.declared.side.Side.TheVariants as sides
-use Rattle.ill_saved.specs.Ranges.{Each, IsInRange, IsSide}
-use Rattle.ill_saved.specs.Side.{role_of, issued_of, txn_of, state_of, due_date_of}
-use Rattle.ill_saved.specs.SideVerbs.{turn_of}
-use Rattle.ill_saved.specs.Sides.{most_sides}
+use Rattle.ill_record.specs.declared.side.Side.{Side}
+use Rattle.ill_record.specs.declared.side.Side.TheVariants as sides
+use Rattle.ill_record.specs.Ranges.{Each, IsInRange, IsSide}
+use Rattle.ill_record.specs.Side.{role_of, issued_of, txn_of, state_of, due_date_of}
+use Rattle.ill_record.specs.SideVerbs.{turn_of}
+use Rattle.ill_record.specs.Sides.{most_sides}
 use Rattle.ill_words.specs.Possible.{possible_on, request_of, item_in, item_asked}
 use Rattle.ill_text.specs.ApduObject.{head_fields, optional_date_fields, body_fields, apdu_fields}
 use Rattle.ill_text.specs.Json.{flag, optional, quoted}

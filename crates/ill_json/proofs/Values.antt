@@ -17,7 +17,7 @@ use Rattle.json.proofs.Printed.Decimals.{IsNumber-decimal}
 use Rattle.ill_text.specs.Escape.{written}
 use Rattle.ill_text.specs.Json as texts
 use Rattle.ill_text.specs.Json.{quoted, flag, joined, Field}
-use Rattle.ill_saved.specs.Ranges.{Each}
+use Rattle.ill_record.specs.Ranges.{Each}
 use Rattle.ill_json.specs.Objects.{members_of}
 use Rattle.ill_json.proofs.Shown.{IsShown, shown-nil, shown-append, shown-cons, one_shown, printable_shown}
 use Rattle.ill_json.proofs.Strings.{Escaping, IsInJson, text_written}

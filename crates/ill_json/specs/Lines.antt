@@ -5,10 +5,10 @@ use Rattle.ill_values.specs.Day.{Date}
 use Rattle.ill_values.specs.declared.apdu.Apdu.{Apdu}
 use Rattle.ill_der.specs.Faults.{place_of}
 use Rattle.ill_saved.specs.declared.shown.Shown.{Shown}
-use Rattle.ill_saved.specs.declared.side.Side.{Side}
+use Rattle.ill_record.specs.declared.side.Side.{Side}
 use Rattle.ill_saved.specs.Holdings.{DeskEntry}
 use Rattle.ill_values.specs.Apdu.{IsApdu}
-use Rattle.ill_saved.specs.Ranges.{Each, IsSide}
+use Rattle.ill_record.specs.Ranges.{Each, IsSide}
 use Rattle.ill_text.specs.Json.{Field}
 use Rattle.ill_text.specs.ApduObject.{apdu_fields}
 use Rattle.ill_words.specs.Waiting.{most_urgent_first}

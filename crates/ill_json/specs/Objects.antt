@@ -5,7 +5,7 @@ use Rattle.std.specs.List.{flat_map, list_all}
 use Rattle.json.specs.Json.{Items, Members, no_items, item, no_members, member, string, object, document}
 use Rattle.json.specs.Strict.{HasUniqueKeys}
 use Rattle.ill_values.specs.Text.{is_no_control}
-use Rattle.ill_saved.specs.Ranges.{Each}
+use Rattle.ill_record.specs.Ranges.{Each}
 use Rattle.ill_text.specs.ApduObject.{object_line}
 use Rattle.ill_text.specs.Json.{Field}
 

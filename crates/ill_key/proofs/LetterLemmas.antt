@@ -2,8 +2,8 @@
 use Rattle.std.proofs.Common.{◌≡◌, ◌⊎◌, inl, inr, ℕ, ◌<◌, ◌≤◌, List, [], ◌++◌, length, Some, Ok, Err, sym, subst, ◌∙◌, arith}
 use Rattle.std.specs.Prelude.{IsErr}
 use Rattle.std.proofs.lemmas.List.{append-nil}
-use Rattle.ill_saved.specs.declared.role.Role.{Role}
-use Rattle.ill_saved.specs.declared.role.Role.TheVariants as roles
+use Rattle.ill_record.specs.declared.role.Role.{Role}
+use Rattle.ill_record.specs.declared.role.Role.TheVariants as roles
 use Rattle.ill_seal.specs.declared.sender.Sender.{Sender}
 use Rattle.ill_seal.specs.declared.sender.Sender.TheVariants.{Requester, Responder}
 use Rattle.ill_seal.specs.declared.fault.SealFault.TheVariants as faults

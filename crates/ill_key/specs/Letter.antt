@@ -1,8 +1,8 @@
 -- A sealed letter on an input: all of the input is the letter, and its messages are exactly those that were sealed.
 use Rattle.std.specs.Prelude.{◌≡◌, ◌⊎◌, ℕ, List, Option, IsErr}
 use Rattle.std.specs.Io.KnownBytes.{Consumes, IsAtEnd}
-use Rattle.ill_saved.specs.declared.role.Role.{Role}
-use Rattle.ill_saved.specs.declared.role.Role.TheVariants as roles
+use Rattle.ill_record.specs.declared.role.Role.{Role}
+use Rattle.ill_record.specs.declared.role.Role.TheVariants as roles
 use Rattle.ill_seal.specs.declared.sender.Sender.{Sender}
 use Rattle.ill_seal.specs.declared.sender.Sender.TheVariants.{Requester, Responder}
 use Rattle.ill_seal.specs.Letter.{sealed, opened}

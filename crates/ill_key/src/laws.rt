@@ -1,7 +1,7 @@
 //! The laws of letters between desks are the contracts of functions that do nothing.
 
 ghost use Rattle.std.specs.Prelude.{◌≡◌, ◌≤◌, ℕ, length, List, [], Some, Ok, Err, IsErr};
-ghost use Rattle.ill_saved.specs.declared.role.Role.{Role};
+ghost use Rattle.ill_record.specs.declared.role.Role.{Role};
 ghost use Rattle.ill_seal.specs.declared.fault.SealFault.TheVariants as faults;
 ghost use Rattle.ill_seal.specs.declared.sender.Sender.{Sender};
 ghost use Rattle.ill_seal.specs.Letter.{sealed, opened};

@@ -10,7 +10,7 @@ use Rattle.ill_values.specs.Day.{Date, day_after}
 use Rattle.ill_values.specs.Text.{qualifier_check}
 use Rattle.ill_values.specs.TxnId.{Qualifiers, txn_id_of}
 use Rattle.ill_core.specs.declared.state.State.{State}
-use Rattle.ill_saved.specs.declared.role.Role.{Role}
+use Rattle.ill_record.specs.declared.role.Role.{Role}
 use Rattle.ill_days.specs.Days.{day_of_text}
 use Rattle.ill_words.specs.Words.{◌>>=◌, who_named, number_of}
 use Rattle.ill_values.specs.declared.fault.TextFault.{TextFault}

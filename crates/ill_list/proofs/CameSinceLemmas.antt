@@ -16,7 +16,7 @@ use Rattle.ill_values.specs.Day.{Date}
 use Rattle.ill_values.specs.declared.apdu.Apdu.{Apdu}
 use Rattle.ill_list.specs.CameSince.{came_before, came_key, came_since, is_named_before, is_named_since, is_new}
 use Rattle.ill_list.specs.CameSince.{says_before}
-use Rattle.ill_saved.specs.Ranges.{Each}
+use Rattle.ill_record.specs.Ranges.{Each}
 use Rattle.ill_show.specs.Diary.{Said, has_key, is_named, said_by}
 
 -- The last items that pass a test go on before the last item, if it passes. Else there are none.

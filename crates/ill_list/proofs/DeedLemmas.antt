@@ -11,9 +11,9 @@ use Rattle.ill_values.specs.Body.{Body}
 use Rattle.ill_values.specs.declared.apdu.Apdu.{Apdu}
 use Rattle.ill_values.specs.declared.apdu.BodyWith.TheVariants as types
 use Rattle.ill_core.specs.Responder.{ResponderRecord}
-use Rattle.ill_saved.specs.declared.side.Side.{Side}
-use Rattle.ill_saved.specs.declared.side.Side.TheVariants.{Requester, Responder}
-use Rattle.ill_saved.specs.Ranges.{Each}
+use Rattle.ill_record.specs.declared.side.Side.{Side}
+use Rattle.ill_record.specs.declared.side.Side.TheVariants.{Requester, Responder}
+use Rattle.ill_record.specs.Ranges.{Each}
 use Rattle.ill_show.specs.Heard.{is_heard, responder_heard}
 use Rattle.ill_list.specs.Deeds.{deeds_at, deeds_since, is_by_date, is_deed_since}
 

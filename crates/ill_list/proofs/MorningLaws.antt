@@ -1,7 +1,7 @@
 -- Proves which loans the list of a morning has.
 use Rattle.std.proofs.Common.{◌≡◌, Bool, true, false, ◌&&◌, ◌||◌, List, Option, None, ap, refl, sym, ◌∙◌}
 use Rattle.ill_values.specs.declared.apdu.Apdu.{Apdu}
-use Rattle.ill_saved.specs.declared.side.Side.{Side}
+use Rattle.ill_record.specs.declared.side.Side.{Side}
 use Rattle.ill_list.specs.List.{is_listed, is_mine, is_of_list, is_to_do, is_wanted, lists, work_of}
 use Rattle.ill_list.specs.ListedNews.{has_news}
 use Rattle.ill_list.specs.declared.wanted.Wanted.{Wanted}

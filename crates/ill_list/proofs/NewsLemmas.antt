@@ -10,7 +10,7 @@ use Rattle.ill_values.specs.declared.apdu.BodyWith.TheVariants as types
 use Rattle.ill_values.specs.declared.apdu.AnswerResult.TheVariants as results
 use Rattle.ill_core.specs.declared.state.State.TheVariants as states
 use Rattle.ill_core.proofs.IssuedLemmas.{same_txn}
-use Rattle.ill_saved.specs.declared.side.Side.{Side}
+use Rattle.ill_record.specs.declared.side.Side.{Side}
 use Rattle.ill_text.specs.declared.fault.ToolFault.{ToolFault}
 use Rattle.ill_text.specs.Output.{WritesPrefix}
 use Rattle.ill_list.specs.News.{IsTextOf, WritesNews, heard_at, is_same, is_told, news_of, with_news}

@@ -6,8 +6,8 @@ use Rattle.ill_values.specs.Body.{Body}
 use Rattle.ill_values.specs.declared.apdu.Apdu.{Apdu}
 use Rattle.ill_values.specs.declared.apdu.BodyWith.TheVariants.{Expired, Overdue}
 use Rattle.ill_core.specs.Verbs.{verb_name}
-use Rattle.ill_saved.specs.declared.side.Side.{Side}
-use Rattle.ill_saved.specs.declared.side.Side.TheVariants.{Requester, Responder}
+use Rattle.ill_record.specs.declared.side.Side.{Side}
+use Rattle.ill_record.specs.declared.side.Side.TheVariants.{Requester, Responder}
 use Rattle.ill_text.specs.Diary.{message_key}
 use Rattle.ill_show.specs.Diary.{body_verb}
 use Rattle.ill_list.specs.CameSince.{is_named_before, is_named_since}

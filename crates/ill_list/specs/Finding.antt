@@ -6,8 +6,8 @@ use Rattle.std.specs.Option.{option_to_list}
 use Rattle.std.specs.Str.{is_utf8}
 use Rattle.caseless.specs.Caseless.{default_case_fold}
 use Rattle.ill_values.specs.TxnId.{Qualifiers}
-use Rattle.ill_saved.specs.declared.side.Side.{Side}
-use Rattle.ill_saved.specs.Side.{txn_of}
+use Rattle.ill_record.specs.declared.side.Side.{Side}
+use Rattle.ill_record.specs.Side.{txn_of}
 use Rattle.ill_words.specs.Possible.{item_asked, request_of}
 use Rattle.ill_list.specs.declared.finding.Sought.{Sought}
 use Rattle.ill_show.specs.Notes.{note_of}

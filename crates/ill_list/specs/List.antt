@@ -8,9 +8,9 @@ use Rattle.ill_values.specs.declared.apdu.Apdu.{Apdu}
 use Rattle.ill_core.specs.declared.state.State.{State}
 use Rattle.ill_core.specs.State.{is_among, state_name}
 use Rattle.ill_core.specs.Verbs.{verb_name}
-use Rattle.ill_saved.specs.declared.side.Side.{Side}
-use Rattle.ill_saved.specs.Side.{txn_of, state_of, due_date_of}
-use Rattle.ill_saved.specs.Sides.{most_sides}
+use Rattle.ill_record.specs.declared.side.Side.{Side}
+use Rattle.ill_record.specs.Side.{txn_of, state_of, due_date_of}
+use Rattle.ill_record.specs.Sides.{most_sides}
 use Rattle.ill_words.specs.Shown.{due_text}
 use Rattle.ill_list.specs.declared.wanted.Which.{Which}
 use Rattle.ill_list.specs.declared.wanted.Which.TheVariants.{All, Open, Mine}

@@ -3,8 +3,8 @@ use Rattle.std.specs.Prelude.{ℕ, List, [], ◌∷◌, ◌++◌, codes, Option,
 use Rattle.std.specs.Fmt.{decimal}
 use Rattle.ill_values.specs.Day.{Date}
 use Rattle.ill_core.specs.State.{state_name}
-use Rattle.ill_saved.specs.declared.side.Side.{Side}
-use Rattle.ill_saved.specs.Side.{txn_of, state_of, due_date_of}
+use Rattle.ill_record.specs.declared.side.Side.{Side}
+use Rattle.ill_record.specs.Side.{txn_of, state_of, due_date_of}
 use Rattle.ill_list.specs.declared.counts.Counts.{Counts}
 use Rattle.ill_text.specs.Json.{Field, array, day, optional, quoted}
 use Rattle.ill_work.specs.declared.work.Work.{Work}

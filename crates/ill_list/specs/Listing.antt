@@ -4,8 +4,8 @@ use Rattle.std.specs.Prelude.{Some}
 use Rattle.std.specs.Prelude.{option_map, codes}
 use Rattle.std.specs.List.{flat_map}
 use Rattle.std.specs.Fmt.{decimal}
-use Rattle.ill_saved.specs.declared.side.Side.{Side}
-use Rattle.ill_saved.specs.Side.{txn_of}
+use Rattle.ill_record.specs.declared.side.Side.{Side}
+use Rattle.ill_record.specs.Side.{txn_of}
 use Rattle.ill_text.specs.declared.form.Form.{Form}
 use Rattle.ill_text.specs.declared.form.Form.TheVariants.{Lines, Json}
 use Rattle.ill_list.specs.declared.wanted.Wanted.{Wanted}

@@ -1,8 +1,8 @@
 -- The list of a morning: a line for each loan that wants a hand, or to which something came since a day.
 use Rattle.std.specs.Prelude.{ℕ, max, Bool, ◌&&◌, List, [], ◌++◌, length, fold, codes, Option, Some, None, is_some}
 use Rattle.ill_values.specs.declared.apdu.Apdu.{Apdu}
-use Rattle.ill_saved.specs.declared.side.Side.{Side}
-use Rattle.ill_saved.specs.Side.{txn_of}
+use Rattle.ill_record.specs.declared.side.Side.{Side}
+use Rattle.ill_record.specs.Side.{txn_of}
 use Rattle.ill_words.specs.Possible.{request_of, item_asked}
 use Rattle.ill_work.specs.declared.work.Work.{Work}
 use Rattle.ill_work.specs.Work.{work_words}

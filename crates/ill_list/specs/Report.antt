@@ -10,9 +10,9 @@ use Rattle.ill_values.specs.declared.apdu.Apdu.{Apdu}
 use Rattle.ill_core.specs.declared.verb.Verb.{Verb}
 use Rattle.ill_core.specs.Verbs.{verb_name}
 use Rattle.ill_core.specs.ResponderActions.{expiry_of}
-use Rattle.ill_saved.specs.declared.side.Side.{Side}
-use Rattle.ill_saved.specs.Side.{txn_of, due_date_of}
-use Rattle.ill_saved.specs.Sides.{most_sides}
+use Rattle.ill_record.specs.declared.side.Side.{Side}
+use Rattle.ill_record.specs.Side.{txn_of, due_date_of}
+use Rattle.ill_record.specs.Sides.{most_sides}
 use Rattle.ill_text.specs.declared.fault.ToolFault.{ToolFault}
 use Rattle.ill_text.specs.Html.{html_escaped, html_text}
 use Rattle.ill_text.specs.Visits.{gravest_of}

@@ -2,7 +2,7 @@
 
 ghost use Rattle.std.specs.Prelude.{◌≡◌, [], ◌++◌, codes, OnOk};
 ghost use Rattle.std.specs.List.{flat_map, list_any};
-ghost use Rattle.ill_saved.specs.Side.{txn_of};
+ghost use Rattle.ill_record.specs.Side.{txn_of};
 ghost use Rattle.ill_core.specs.Issued.{is_same_txn};
 ghost use Rattle.ill_text.specs.Json.{joined, member};
 ghost use Rattle.ill_show.specs.Since.{annex_of};

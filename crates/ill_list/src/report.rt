@@ -4,7 +4,7 @@ ghost use Rattle.std.specs.Prelude.{◌≡◌, ◌++◌, ℕ, List, [], ◌∷�
 ghost use Rattle.std.specs.List.{flat_map};
 ghost use Rattle.ill_values.specs.Day.{iso_text};
 ghost use Rattle.ill_text.specs.Output.{WritesText};
-ghost use Rattle.ill_saved.specs.Side.{txn_of};
+ghost use Rattle.ill_record.specs.Side.{txn_of};
 ghost use Rattle.ill_text.specs.Html.{html_escaped};
 ghost use Rattle.ill_words.specs.Possible.{possible_on, request_of, item_asked};
 ghost use Rattle.ill_work.specs.Order.{has_work};

@@ -2,7 +2,7 @@
 
 ghost use Rattle.std.specs.Prelude.{◌≡◌, ◌++◌, ◌||◌, map, length, string_bytes, codes, IfOk, OnOk};
 ghost use Rattle.ill_core.specs.State.{state_name};
-ghost use Rattle.ill_saved.specs.Side.{state_of, due_date_of};
+ghost use Rattle.ill_record.specs.Side.{state_of, due_date_of};
 ghost use Rattle.ill_words.specs.Shown.{due_text};
 ghost use Rattle.ill_words.specs.Possible.{request_of, item_asked};
 ghost use Rattle.ill_list.specs.List.{title_text, padded, cell, column, column_byte, columns_of, is_end, actions_cell, actions_text, no_columns, row, standing, verbs_text, widened};

@@ -1,7 +1,7 @@
 -- These are nights that no rooms may have. By the laws the definitions of `Rooms` exclude them all.
 use Rattle.std.specs.Prelude.{◌≡◌, ℕ, true, List, Some, Result, Ok}
 use Rattle.ill_saved.specs.ManySides.{DeskContents, sides_held}
-use Rattle.ill_saved.specs.RecordsV2.{sides_encoding}
+use Rattle.ill_record.specs.RecordsV2.{sides_encoding}
 use Rattle.ill_text.specs.declared.fault.ToolFault.{ToolFault}
 use Rattle.ill_desk.specs.Performing.{HeldAndLanded}
 use Rattle.ill_night.specs.declared.verdict.Mail.{Mail}

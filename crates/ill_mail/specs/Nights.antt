@@ -8,7 +8,7 @@ use Rattle.ill_saved.specs.ManySides.{DeskContents, many_sides}
 use Rattle.ill_text.specs.declared.fault.ToolFault.{ToolFault}
 use Rattle.ill_text.specs.declared.fault.ToolFault.TheVariants.{Left}
 use Rattle.std.specs.List.{zip}
-use Rattle.ill_saved.specs.declared.role.Role.{Role}
+use Rattle.ill_record.specs.declared.role.Role.{Role}
 use Rattle.ill_desk.specs.Performing.{HeldAndLanded, CommandState, command_state}
 use Rattle.ill_text.specs.Output.{WritesText}
 use Rattle.ill_night.specs.declared.verdict.Mail.{Mail}

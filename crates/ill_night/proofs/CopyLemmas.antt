@@ -5,8 +5,8 @@ use Rattle.std.specs.Prelude.{All, Decides, IsTrue, ◌↔◌}
 use Rattle.std.specs.List.{starts_with}
 use Rattle.std.proofs.lemmas.List.Elements.{All-head, All-tail}
 use Rattle.std.proofs.lemmas.Slice.Eq.{starts_is}
-use Rattle.ill_saved.specs.declared.side.Side.{Side}
-use Rattle.ill_saved.specs.Side.{IsPrefix}
+use Rattle.ill_record.specs.declared.side.Side.{Side}
+use Rattle.ill_record.specs.Side.{IsPrefix}
 use Rattle.ill_night.specs.CopyOver.{HasLoan}
 
 -- If `equal` decides equality, `starts_with` decides whether `sought` is a prefix of `seen`.

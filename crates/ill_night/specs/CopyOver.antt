@@ -1,11 +1,11 @@
 -- A copy of a desk over another copy. A desk replaces only a copy that it extends, so no message of a copy is lost (this
 -- profile's own).
 use Rattle.std.specs.Prelude.{◌≡◌, ℕ, All, List, Option, None, Some, Result, Ok, Err}
-use Rattle.ill_saved.specs.declared.fault.RecordFault.{RecordFault}
-use Rattle.ill_saved.specs.declared.side.Side.{Side}
-use Rattle.ill_saved.specs.Side.{issued_of, txn_of, IsPrefix}
-use Rattle.ill_saved.specs.Sides.{SidesOf, side_with}
-use Rattle.ill_saved.specs.RecordsV2.{records_at, sides_encoding}
+use Rattle.ill_record.specs.declared.fault.RecordFault.{RecordFault}
+use Rattle.ill_record.specs.declared.side.Side.{Side}
+use Rattle.ill_record.specs.Side.{issued_of, txn_of, IsPrefix}
+use Rattle.ill_record.specs.Sides.{SidesOf, side_with}
+use Rattle.ill_record.specs.RecordsV2.{records_at, sides_encoding}
 use Rattle.ill_text.specs.declared.fault.ToolFault.{ToolFault}
 use Rattle.ill_night.specs.declared.copy.Copied.{Copied}
 use Rattle.ill_night.specs.declared.copy.Copied.TheVariants.{Done, HasMore, NoRecord}

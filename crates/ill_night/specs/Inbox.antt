@@ -7,8 +7,8 @@ use Rattle.ill_values.specs.declared.apdu.Apdu.{Apdu}
 use Rattle.ill_der.specs.declared.fault.DerFault.{DerFault}
 use Rattle.ill_der.specs.ShortForm.{apdu_at}
 use Rattle.ill_core.specs.declared.taking.Taking.TheVariants as takings
-use Rattle.ill_saved.specs.declared.role.Role.{Role}
-use Rattle.ill_saved.specs.declared.role.Role.TheVariants.{Requester}
+use Rattle.ill_record.specs.declared.role.Role.{Role}
+use Rattle.ill_record.specs.declared.role.Role.TheVariants.{Requester}
 use Rattle.ill_saved.specs.ManySides.{DeskContents, many_sides}
 use Rattle.ill_words.specs.declared.outcome.Outcome.TheVariants as outcomes
 use Rattle.ill_words.specs.declared.outcome.DeskOutcome.{DeskOutcome}

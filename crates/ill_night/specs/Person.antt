@@ -6,8 +6,8 @@ use Rattle.ill_values.specs.declared.apdu.Apdu.{Apdu}
 use Rattle.ill_values.specs.Body.{Body}
 use Rattle.ill_values.specs.declared.apdu.BodyWith.TheVariants as bodies
 use Rattle.ill_core.specs.declared.taking.Taking.TheVariants.{Conflict}
-use Rattle.ill_saved.specs.declared.role.Role.{Role}
-use Rattle.ill_saved.specs.declared.role.Role.TheVariants.{Requester, Responder}
+use Rattle.ill_record.specs.declared.role.Role.{Role}
+use Rattle.ill_record.specs.declared.role.Role.TheVariants.{Requester, Responder}
 use Rattle.ill_words.specs.declared.outcome.Outcome.TheVariants.{Answered}
 use Rattle.ill_words.specs.declared.outcome.DeskOutcome.TheVariants.{Plain}
 use Rattle.ill_night.specs.declared.verdict.Mail.{Mail}

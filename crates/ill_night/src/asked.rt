@@ -2,7 +2,7 @@
 
 ghost use Rattle.std.specs.Prelude.{◌≡◌, ◌++◌, Ok, slice_get, IfOk, OnOk};
 ghost use Rattle.std.specs.List.{zip};
-ghost use Rattle.ill_saved.specs.Sides.{side_with};
+ghost use Rattle.ill_record.specs.Sides.{side_with};
 ghost use Rattle.ill_night.specs.Outbox.{asked_by, asking_bytes, asking_bytes_at, asking_bytes_of_mail, is_held_over};
 ghost use Rattle.ill_night.specs.Inbox.{message_in};
 

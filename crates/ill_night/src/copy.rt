@@ -1,9 +1,9 @@
 //! Copies all that a desk holds to another store.
 
 ghost use Rattle.std.specs.Prelude.{◌≡◌, ◌≤◌, All, Decides, Ok, map, IfErr, IfOk, OnOk};
-ghost use Rattle.ill_saved.specs.Side.{issued_of, IsPrefix};
+ghost use Rattle.ill_record.specs.Side.{issued_of, IsPrefix};
 ghost use Rattle.ill_saved.specs.ManySides.{sides_held};
-ghost use Rattle.ill_saved.specs.RecordsV2.{records_at, sides_encoding};
+ghost use Rattle.ill_record.specs.RecordsV2.{records_at, sides_encoding};
 ghost use Rattle.ill_text.specs.Fault.{CountsToolFailure, IsFileFault};
 ghost use Rattle.ill_desk.specs.Performing.{known};
 ghost use Rattle.ill_text.specs.declared.fault.ToolFault.TheVariants.{OutOfMemory};

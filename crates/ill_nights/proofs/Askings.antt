@@ -16,13 +16,14 @@ use Rattle.ill_der.specs.Laws.{BeginsWithOne, IsBytes}
 use Rattle.ill_der.specs.ShortForm.{apdu_at, header_at, outer_at, encoding}
 use Rattle.ill_der.proofs.FeedLemmas.{all_join}
 use Rattle.ill_core.specs.Issued.{is_none, is_same_txn}
-use Rattle.ill_saved.specs.declared.role.Role.TheVariants as who
-use Rattle.ill_saved.specs.declared.side.Side.{Side}
-use Rattle.ill_saved.specs.Ranges.{Each}
-use Rattle.ill_saved.specs.Side.{idle_side}
-use Rattle.ill_saved.specs.Sides.{side_with}
+use Rattle.ill_record.specs.declared.role.Role.TheVariants as who
+use Rattle.ill_record.specs.declared.side.Side.{Side}
+use Rattle.ill_record.specs.Ranges.{Each}
+use Rattle.ill_record.specs.Side.{idle_side}
+use Rattle.ill_record.specs.Sides.{side_with}
 use Rattle.ill_saved.specs.ManySides.{DeskContents, found_or, held_for, sides_held}
-use Rattle.ill_saved.proofs.Finding.{apart_back, same_is, same_self, side_of_held}
+use Rattle.ill_record.proofs.Finding.{apart_back, same_is, same_self}
+use Rattle.ill_saved.proofs.Contents.{side_of_held}
 use Rattle.ill_text.specs.Input.{AreIn}
 use Rattle.ill_words.specs.Sending.{is_over}
 use Rattle.ill_night.specs.declared.verdict.Mail.{Mail}

@@ -10,14 +10,14 @@ use Rattle.ill_core.specs.declared.taking.Taking.{Taking}
 use Rattle.ill_core.specs.Issued.{is_same_txn}
 use Rattle.ill_saved.specs.declared.fault.DeskFault.{DeskFault}
 use Rattle.ill_saved.specs.declared.fault.DeskFault.TheVariants as faults
-use Rattle.ill_saved.specs.declared.role.Role.{Role}
-use Rattle.ill_saved.specs.declared.role.Role.TheVariants as who
-use Rattle.ill_saved.specs.declared.side.Side.{Side}
-use Rattle.ill_saved.specs.Side.{idle_side, other, takes}
+use Rattle.ill_record.specs.declared.role.Role.{Role}
+use Rattle.ill_record.specs.declared.role.Role.TheVariants as who
+use Rattle.ill_record.specs.declared.side.Side.{Side}
+use Rattle.ill_record.specs.Side.{idle_side, other, takes}
 use Rattle.ill_saved.specs.Holdings.{DeskEntry}
 use Rattle.ill_saved.specs.ManySides.{DeskContents, contents_after_message, desk_takes, found_by, found_or, held_for, idle_held}
 use Rattle.ill_saved.specs.ManySides.{is_own, side_for_call, takes_reached, txn_held}
-use Rattle.ill_saved.proofs.Finding.{same_is}
+use Rattle.ill_record.proofs.Finding.{same_is}
 use Rattle.ill_words.specs.declared.outcome.DeskOutcome.TheVariants.{NoSuchTransaction}
 use Rattle.ill_world.specs.declared.event.Event.TheVariants as events
 use Rattle.ill_world.specs.declared.event.DeskEvent.TheVariants as desk_events

@@ -8,15 +8,15 @@ use Rattle.std.proofs.lemmas.List.Elements.{filter-append}
 use Rattle.ill_values.specs.TxnId.{Qualifiers}
 use Rattle.ill_values.specs.declared.apdu.Apdu.{Apdu}
 use Rattle.ill_core.specs.Issued.{is_same_txn, message}
-use Rattle.ill_saved.specs.declared.role.Role.{Role}
-use Rattle.ill_saved.specs.declared.role.Role.TheVariants as who
-use Rattle.ill_saved.specs.declared.side.Side.{Side}
-use Rattle.ill_saved.specs.declared.side.Side.TheVariants as sides
-use Rattle.ill_saved.specs.Side.{idle_side, issued_of, txn_of}
-use Rattle.ill_saved.specs.Ranges.{Each}
+use Rattle.ill_record.specs.declared.role.Role.{Role}
+use Rattle.ill_record.specs.declared.role.Role.TheVariants as who
+use Rattle.ill_record.specs.declared.side.Side.{Side}
+use Rattle.ill_record.specs.declared.side.Side.TheVariants as sides
+use Rattle.ill_record.specs.Side.{idle_side, issued_of, txn_of}
+use Rattle.ill_record.specs.Ranges.{Each}
 use Rattle.ill_saved.specs.Holdings.{DeskEntry}
 use Rattle.ill_saved.specs.ManySides.{DeskContents, found_by, found_or, held_for, idle_held, txn_held}
-use Rattle.ill_saved.proofs.Finding.{found_is, same_is}
+use Rattle.ill_record.proofs.Finding.{found_is, same_is}
 use Rattle.ill_words.specs.Sending.{wants_sending}
 use Rattle.ill_night.specs.Outbox.{Issue, is_asked, issues_of, leaving_desk, leaving_side, released_of}
 use Rattle.ill_world.specs.World.{party}

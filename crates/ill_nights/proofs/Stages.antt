@@ -8,12 +8,12 @@ use Rattle.ill_core.specs.declared.responder.Deed.{Deed}
 use Rattle.ill_core.specs.declared.refusal.Refusal.TheVariants.{WrongRole}
 use Rattle.ill_saved.specs.declared.fault.DeskFault.{DeskFault}
 use Rattle.ill_saved.specs.declared.fault.DeskFault.TheVariants as faults
-use Rattle.ill_saved.specs.declared.role.Role.{Role}
-use Rattle.ill_saved.specs.declared.role.Role.TheVariants as who
-use Rattle.ill_saved.specs.declared.side.Side.{Side}
-use Rattle.ill_saved.specs.declared.side.Action.TheVariants as actions
-use Rattle.ill_saved.specs.Side.{issued_of, acts, other}
-use Rattle.ill_saved.specs.Sides.{is_same_role}
+use Rattle.ill_record.specs.declared.role.Role.{Role}
+use Rattle.ill_record.specs.declared.role.Role.TheVariants as who
+use Rattle.ill_record.specs.declared.side.Side.{Side}
+use Rattle.ill_record.specs.declared.side.Action.TheVariants as actions
+use Rattle.ill_record.specs.Side.{issued_of, acts, other}
+use Rattle.ill_record.specs.Sides.{is_same_role}
 use Rattle.ill_saved.specs.Holdings.{IsReadAgain}
 use Rattle.ill_saved.specs.ManySides.{DeskContents, desk_acts, many_sides, side_for, sides_held}
 use Rattle.ill_text.specs.declared.fault.ToolFault.{ToolFault}

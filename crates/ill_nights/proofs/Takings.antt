@@ -11,10 +11,10 @@ use Rattle.ill_core.specs.declared.taking.Taking.TheVariants.{Taken, Repeat, Sta
 use Rattle.ill_core.specs.Issued.{is_same_txn}
 use Rattle.ill_saved.specs.declared.fault.DeskFault.{DeskFault}
 use Rattle.ill_saved.specs.declared.fault.DeskFault.TheVariants as faults
-use Rattle.ill_saved.specs.declared.role.Role.{Role}
-use Rattle.ill_saved.specs.declared.side.Side.{Side}
-use Rattle.ill_saved.specs.Ranges.{Each}
-use Rattle.ill_saved.specs.Side.{other}
+use Rattle.ill_record.specs.declared.role.Role.{Role}
+use Rattle.ill_record.specs.declared.side.Side.{Side}
+use Rattle.ill_record.specs.Ranges.{Each}
+use Rattle.ill_record.specs.Side.{other}
 use Rattle.ill_saved.specs.ManySides.{DeskContents, desk_takes, many_sides}
 use Rattle.ill_desk.specs.Performing.{answered, has_any}
 use Rattle.ill_words.specs.declared.outcome.Outcome.TheVariants.{Answered}

@@ -1,6 +1,6 @@
 -- Proves that people may do nothing in a good night, and that each command of the responder's library may be theirs.
 use Rattle.std.proofs.Common.{◌≡◌, List, [], ◌∷◌, ◌++◌, refl, sym, subst}
-use Rattle.ill_saved.specs.declared.role.Role.TheVariants as who
+use Rattle.ill_record.specs.declared.role.Role.TheVariants as who
 use Rattle.ill_runs.specs.Libraries.{Commands, Happens, IsHistory, Libraries, Library, libraries_after}
 use Rattle.ill_nights.specs.Nights.{AreAtWork}
 

@@ -7,12 +7,12 @@ use Rattle.ill_values.specs.declared.apdu.Apdu.{Apdu}
 use Rattle.ill_core.specs.Requester.{RequesterRecord}
 use Rattle.ill_core.specs.Responder.{ResponderRecord}
 use Rattle.ill_core.specs.State.{is_among}
-use Rattle.ill_saved.specs.declared.fault.RecordFault.{RecordFault}
-use Rattle.ill_saved.specs.declared.role.Role.{Role}
-use Rattle.ill_saved.specs.declared.side.Side.TheVariants as sides
-use Rattle.ill_saved.specs.Side.{issued_of}
-use Rattle.ill_saved.specs.Sides.{SidesOf}
-use Rattle.ill_saved.specs.RecordsV2.{records_at}
+use Rattle.ill_record.specs.declared.fault.RecordFault.{RecordFault}
+use Rattle.ill_record.specs.declared.role.Role.{Role}
+use Rattle.ill_record.specs.declared.side.Side.TheVariants as sides
+use Rattle.ill_record.specs.Side.{issued_of}
+use Rattle.ill_record.specs.Sides.{SidesOf}
+use Rattle.ill_record.specs.RecordsV2.{records_at}
 use Rattle.ill_saved.specs.ManySides.{side_for}
 use Rattle.ill_words.specs.Sending.{wants_sending}
 use Rattle.ill_night.specs.declared.verdict.Mail.{Mail}

@@ -3,10 +3,10 @@
 ghost use Rattle.std.specs.Prelude.{◌≡◌, ℕ, List, Ok};
 ghost use Rattle.ill_values.specs.TxnId.{Qualifiers};
 ghost use Rattle.ill_values.specs.declared.apdu.Apdu.{Apdu};
-ghost use Rattle.ill_saved.specs.declared.role.Role.{Role};
-ghost use Rattle.ill_saved.specs.RecordsV2.{records_at};
-ghost use Rattle.ill_saved.specs.Side.{other};
-ghost use Rattle.ill_saved.specs.Sides.{SidesOf};
+ghost use Rattle.ill_record.specs.declared.role.Role.{Role};
+ghost use Rattle.ill_record.specs.RecordsV2.{records_at};
+ghost use Rattle.ill_record.specs.Side.{other};
+ghost use Rattle.ill_record.specs.Sides.{SidesOf};
 ghost use Rattle.ill_night.specs.declared.verdict.Mail.{Mail};
 ghost use Rattle.ill_night.specs.declared.verdict.Verdict.{Verdict};
 ghost use Rattle.ill_world.specs.World.{party};

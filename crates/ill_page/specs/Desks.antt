@@ -4,10 +4,10 @@ use Rattle.std.specs.Prelude.{Option, Some, None, option_map}
 use Rattle.std.specs.Fmt.{decimal}
 use Rattle.ill_values.specs.Day.{Date, date_text}
 use Rattle.ill_core.specs.declared.verb.Verb.TheVariants.{Request}
-use Rattle.ill_saved.specs.declared.role.Role.{Role}
-use Rattle.ill_saved.specs.declared.role.Role.TheVariants.{Requester, Responder}
-use Rattle.ill_saved.specs.declared.side.Side.{Side}
-use Rattle.ill_saved.specs.Side.{txn_of}
+use Rattle.ill_record.specs.declared.role.Role.{Role}
+use Rattle.ill_record.specs.declared.role.Role.TheVariants.{Requester, Responder}
+use Rattle.ill_record.specs.declared.side.Side.{Side}
+use Rattle.ill_record.specs.Side.{txn_of}
 use Rattle.ill_text.specs.Html.{html_escaped, html_text}
 use Rattle.ill_list.specs.Report.{PageShown, desk_text, page_head_with}
 use Rattle.ill_show.specs.Since.{AnnexRead, annex_of}

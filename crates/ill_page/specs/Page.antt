@@ -2,8 +2,8 @@
 -- and `html_escaped`.
 use Rattle.std.specs.Prelude.{ℕ, List, [], ◌++◌, codes, length, ◌==◌, if◌then◌else◌, Option, Some, None}
 use Rattle.ill_values.specs.Day.{Date}
-use Rattle.ill_saved.specs.declared.side.Side.{Side}
-use Rattle.ill_saved.specs.Side.{txn_of}
+use Rattle.ill_record.specs.declared.side.Side.{Side}
+use Rattle.ill_record.specs.Side.{txn_of}
 use Rattle.ill_text.specs.Html.{html_escaped, html_text}
 use Rattle.ill_words.specs.Possible.{possible_on, request_of, item_asked}
 use Rattle.ill_list.specs.Link.{PlaceShown, place_text}

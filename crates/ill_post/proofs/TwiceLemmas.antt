@@ -8,20 +8,20 @@ use Rattle.ill_values.specs.TxnId.{Qualifiers}
 use Rattle.ill_core.specs.declared.refusal.Refusal.{Refusal}
 use Rattle.ill_core.specs.declared.refusal.Refusal.TheVariants.{WrongRole}
 use Rattle.ill_core.specs.Issued.{is_same_txn}
-use Rattle.ill_saved.specs.declared.role.Role.{Role}
-use Rattle.ill_saved.specs.declared.role.Role.TheVariants as roles
+use Rattle.ill_record.specs.declared.role.Role.{Role}
+use Rattle.ill_record.specs.declared.role.Role.TheVariants as roles
 use Rattle.ill_saved.specs.declared.fault.DeskFault.{DeskFault}
 use Rattle.ill_saved.specs.declared.fault.DeskFault.TheVariants as faults
-use Rattle.ill_saved.specs.declared.side.Side.{Side}
-use Rattle.ill_saved.specs.declared.side.Side.TheVariants as sides
-use Rattle.ill_saved.specs.declared.side.Action.{Action}
-use Rattle.ill_saved.specs.Side.{acts, begins, idle_of, idle_side, txn_of, Grows, IsSideTransition, role_for}
-use Rattle.ill_saved.specs.Side as transitions
-use Rattle.ill_saved.specs.Sides.{found_by, is_same_role, side_with}
+use Rattle.ill_record.specs.declared.side.Side.{Side}
+use Rattle.ill_record.specs.declared.side.Side.TheVariants as sides
+use Rattle.ill_record.specs.declared.side.Action.{Action}
+use Rattle.ill_record.specs.Side.{acts, begins, idle_of, idle_side, txn_of, Grows, IsSideTransition, role_for}
+use Rattle.ill_record.specs.Side as transitions
+use Rattle.ill_record.specs.Sides.{found_by, is_same_role, side_with}
 use Rattle.ill_saved.specs.Holdings.{DeskActs, DeskEntry, is_refusal, whole}
 use Rattle.ill_saved.specs.ManySides.{DeskContents, acted, acts_reached, desk_acts, held_or_begun, many_sides}
 use Rattle.ill_saved.specs.ManySides.{side_for_call, sides_held, txn_held, whole_of, with_held}
-use Rattle.ill_saved.proofs.Finding.{found_is, found_mapped, found_put, same_self}
+use Rattle.ill_record.proofs.Finding.{found_is, found_mapped, found_put, same_self}
 use Rattle.ill_post.specs.declared.answer.Posted.{Posted}
 use Rattle.ill_post.specs.declared.answer.Posted.TheVariants.{Changed, Done, Refused}
 use Rattle.ill_post.specs.Post.{ActsAndSaves, AnswersPost, DeskState, FormShown, Performs, PerformsIf, SavesAfter, is_fresh}

@@ -3,10 +3,10 @@ use Rattle.std.specs.Prelude.{◌≡◌, ◌⊎◌, ℕ, Bool, true, false, List
 use Rattle.std.specs.Str.{bytes_eq}
 use Rattle.ill_values.specs.TxnId.{Qualifiers}
 use Rattle.ill_store.specs.Store.{StoreState}
-use Rattle.ill_saved.specs.declared.side.Action.{Action}
+use Rattle.ill_record.specs.declared.side.Action.{Action}
 use Rattle.ill_saved.specs.declared.fault.DeskFault.{DeskFault}
 use Rattle.ill_saved.specs.declared.fault.DeskFault.TheVariants.{OutOfMemory}
-use Rattle.ill_saved.specs.Sides.{side_with}
+use Rattle.ill_record.specs.Sides.{side_with}
 use Rattle.ill_saved.specs.Holdings.{DeskActs, held_after, is_refusal}
 use Rattle.ill_saved.specs.ManySides.{DeskContents, many_sides, sides_held}
 use Rattle.ill_saved.specs.Desk.{DeskOf, DeskSaves}

@@ -3,9 +3,9 @@
 ghost use Rattle.std.specs.Prelude.{◌≡◌, ◌⊎◌, Ok, Err, Result};
 ghost use Rattle.ill_saved.specs.declared.fault.DeskFault.{DeskFault};
 ghost use Rattle.ill_saved.specs.declared.fault.DeskFault.TheVariants.{OutOfMemory};
-ghost use Rattle.ill_saved.specs.declared.side.Action.{Action};
-ghost use Rattle.ill_saved.specs.declared.side.Side.{Side};
-ghost use Rattle.ill_saved.specs.Side.{acts};
+ghost use Rattle.ill_record.specs.declared.side.Action.{Action};
+ghost use Rattle.ill_record.specs.declared.side.Side.{Side};
+ghost use Rattle.ill_record.specs.Side.{acts};
 ghost use Rattle.ill_post.specs.declared.answer.Posted.{Posted};
 ghost use Rattle.ill_post.specs.declared.answer.Posted.TheVariants.{Changed, Done};
 ghost use Rattle.ill_post.specs.Post.{AnswersPost, DeskState, FormShown};

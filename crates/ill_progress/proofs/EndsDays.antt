@@ -24,10 +24,10 @@ use Rattle.ill_core.specs.RequesterRules.{RequesterRules}
 use Rattle.ill_core.specs.ResponderEvidence.{EndsOnce, ended}
 use Rattle.ill_core.specs.Verbs.{requester_turn, requester_turn_in}
 use Rattle.ill_core.proofs.MessageLemmas.{message_says, says_message}
-use Rattle.ill_saved.specs.declared.side.Action.TheVariants as actions
-use Rattle.ill_saved.specs.declared.side.Side.{Side}
-use Rattle.ill_saved.specs.declared.side.Side.TheVariants as sides
-use Rattle.ill_saved.specs.Side.{issued_of, acts, done_by}
+use Rattle.ill_record.specs.declared.side.Action.TheVariants as actions
+use Rattle.ill_record.specs.declared.side.Side.{Side}
+use Rattle.ill_record.specs.declared.side.Side.TheVariants as sides
+use Rattle.ill_record.specs.Side.{issued_of, acts, done_by}
 use Rattle.ill_words.specs.Sending.{is_nobodys, is_over}
 use Rattle.ill_world.specs.Agreement.{Facing}
 use Rattle.ill_world.specs.Invariant.{RequesterSideInvariant, ResponderSideInvariant}

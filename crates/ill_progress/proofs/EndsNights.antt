@@ -19,10 +19,10 @@ use Rattle.ill_core.specs.ResponderEvidence.{IssuesUnfilled, Ends, StaysLater}
 use Rattle.ill_core.proofs.RequesterMoves.{Leads, delivery_leads, nowhere, holds_conditions, ends, cancels, keeps_request}
 use Rattle.ill_core.proofs.RequesterMoves.{ships, misses, reminds, reminds_renewing, renews, refuses_renewal, recalls}
 use Rattle.ill_core.proofs.RequesterMoves.{checks_in}
-use Rattle.ill_saved.specs.declared.role.Role.TheVariants as who
-use Rattle.ill_saved.specs.declared.side.Side.{Side}
-use Rattle.ill_saved.specs.declared.side.Side.TheVariants as sides
-use Rattle.ill_saved.specs.Side.{issued_of}
+use Rattle.ill_record.specs.declared.role.Role.TheVariants as who
+use Rattle.ill_record.specs.declared.side.Side.{Side}
+use Rattle.ill_record.specs.declared.side.Side.TheVariants as sides
+use Rattle.ill_record.specs.Side.{issued_of}
 use Rattle.ill_world.specs.declared.event.Event.{Event}
 use Rattle.ill_world.specs.declared.event.Event.TheVariants.{Save}
 use Rattle.ill_world.specs.World.{Parties, happens, run_by, run_of}

@@ -14,11 +14,11 @@ use Rattle.ill_core.specs.RequesterActions as requester_actions
 use Rattle.ill_core.specs.Responder.{ResponderRecord}
 use Rattle.ill_core.specs.ResponderActions as responder_actions
 use Rattle.ill_core.specs.Verbs.{requester_turn}
-use Rattle.ill_saved.specs.declared.role.Role.TheVariants as who
-use Rattle.ill_saved.specs.declared.side.Action.TheVariants as actions
-use Rattle.ill_saved.specs.declared.side.Side.{Side}
-use Rattle.ill_saved.specs.declared.side.Side.TheVariants as sides
-use Rattle.ill_saved.specs.Side.{issued_of, acts, done_by}
+use Rattle.ill_record.specs.declared.role.Role.TheVariants as who
+use Rattle.ill_record.specs.declared.side.Action.TheVariants as actions
+use Rattle.ill_record.specs.declared.side.Side.{Side}
+use Rattle.ill_record.specs.declared.side.Side.TheVariants as sides
+use Rattle.ill_record.specs.Side.{issued_of, acts, done_by}
 use Rattle.ill_words.specs.declared.outcome.Outcome.TheVariants.{Done}
 use Rattle.ill_words.specs.Sending.{is_nobodys, is_over}
 use Rattle.ill_world.specs.declared.event.Event.{Event}

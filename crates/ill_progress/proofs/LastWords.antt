@@ -33,13 +33,13 @@ use Rattle.ill_core.proofs.ResponderTransitions.{refuses_renewal, refuses_late, 
 use Rattle.ill_core.proofs.ResponderTransitions.{expires}
 use Rattle.ill_core.proofs.ResponderMoves as moves
 use Rattle.ill_core.proofs.ResponderMoves.{Change, takes_changes}
-use Rattle.ill_saved.specs.declared.side.Side.{Side}
-use Rattle.ill_saved.specs.declared.side.Side.TheVariants as sides
-use Rattle.ill_saved.specs.declared.side.Action.{Action}
-use Rattle.ill_saved.specs.declared.side.Action.TheVariants as actions
-use Rattle.ill_saved.specs.declared.role.Role.{Role}
-use Rattle.ill_saved.specs.declared.role.Role.TheVariants as who
-use Rattle.ill_saved.specs.Side.{done_by, acts, takes, state_of}
+use Rattle.ill_record.specs.declared.side.Side.{Side}
+use Rattle.ill_record.specs.declared.side.Side.TheVariants as sides
+use Rattle.ill_record.specs.declared.side.Action.{Action}
+use Rattle.ill_record.specs.declared.side.Action.TheVariants as actions
+use Rattle.ill_record.specs.declared.role.Role.{Role}
+use Rattle.ill_record.specs.declared.role.Role.TheVariants as who
+use Rattle.ill_record.specs.Side.{done_by, acts, takes, state_of}
 use Rattle.ill_words.specs.Sending.{is_nobodys, is_over}
 use Rattle.ill_world.specs.declared.event.Event.{Event}
 use Rattle.ill_world.specs.World.{Parties, first_world, happens, happens_at, happens_to, who_of, run_by, run_of}

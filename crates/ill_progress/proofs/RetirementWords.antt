@@ -19,13 +19,13 @@ use Rattle.ill_core.specs.State.{is_among, place_of}
 use Rattle.ill_core.specs.Issued.{message, is_same_txn}
 use Rattle.ill_core.specs.ResponderRules.{PartsFit}
 use Rattle.ill_core.specs.Verbs.{responder_turn_in}
-use Rattle.ill_saved.specs.declared.role.Role.TheVariants as who
-use Rattle.ill_saved.specs.declared.side.Side.{Side}
-use Rattle.ill_saved.specs.declared.side.Side.TheVariants as sides
-use Rattle.ill_saved.specs.Side.{issued_of, state_of, takes}
+use Rattle.ill_record.specs.declared.role.Role.TheVariants as who
+use Rattle.ill_record.specs.declared.side.Side.{Side}
+use Rattle.ill_record.specs.declared.side.Side.TheVariants as sides
+use Rattle.ill_record.specs.Side.{issued_of, state_of, takes}
 use Rattle.ill_saved.specs.Holdings.{DeskEntry}
 use Rattle.ill_saved.specs.ManySides.{found_by, txn_held, found_or, idle_held, held_for}
-use Rattle.ill_saved.proofs.Finding.{same_self}
+use Rattle.ill_record.proofs.Finding.{same_self}
 use Rattle.ill_words.specs.Sending.{is_nobodys, is_over}
 use Rattle.ill_words.specs.declared.outcome.Outcome.{Outcome}
 use Rattle.ill_words.specs.declared.outcome.DeskOutcome.{DeskOutcome}

@@ -5,7 +5,7 @@ use Rattle.ill_values.specs.Bodies.{is_final}
 use Rattle.ill_values.specs.declared.apdu.AnswerResult.{AnswerResult}
 use Rattle.ill_core.specs.declared.requester.Wish.TheVariants as wishes
 use Rattle.ill_core.specs.declared.responder.Deed.TheVariants as deeds
-use Rattle.ill_saved.specs.declared.role.Role.{Role}
+use Rattle.ill_record.specs.declared.role.Role.{Role}
 use Rattle.ill_world.specs.declared.event.Event.{Event}
 use Rattle.ill_world.specs.declared.event.Event.TheVariants.{Wish, Deed, Save, SaveFault, Send, Deliver, Noise, Restart}
 

@@ -12,7 +12,7 @@ use Rattle.ill_core.specs.Responder.{ResponderRecord}
 use Rattle.ill_core.specs.ResponderDeliveries as responder_deliveries
 use Rattle.ill_core.specs.ResponderNotices as records
 use Rattle.ill_core.specs.Verbs.{requester_turn}
-use Rattle.ill_saved.specs.declared.role.Role.TheVariants.{Requester, Responder}
+use Rattle.ill_record.specs.declared.role.Role.TheVariants.{Requester, Responder}
 use Rattle.ill_words.specs.Sending.{is_over}
 use Rattle.ill_world.specs.declared.event.Event.{Event}
 use Rattle.ill_world.specs.declared.event.Event.TheVariants.{Save}

@@ -7,7 +7,7 @@ ghost use Rattle.ill_values.specs.TxnId.{Qualifiers};
 ghost use Rattle.ill_core.specs.declared.responder.Deed.{Deed};
 ghost use Rattle.ill_core.specs.Requester.{RequesterRecord};
 ghost use Rattle.ill_core.specs.Responder.{ResponderRecord};
-ghost use Rattle.ill_saved.specs.declared.role.Role.TheVariants.{Requester, Responder};
+ghost use Rattle.ill_record.specs.declared.role.Role.TheVariants.{Requester, Responder};
 ghost use Rattle.ill_world.specs.declared.event.Event.{Event};
 ghost use Rattle.ill_world.specs.declared.event.Event.TheVariants.{Save};
 ghost use Rattle.ill_world.specs.declared.event.DeskEvent.{DeskEvent};

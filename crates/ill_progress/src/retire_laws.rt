@@ -2,9 +2,9 @@
 
 ghost use Rattle.std.specs.Prelude.{◌≡◌, ◌++◌, ℕ, List, false, length, map, Some, true};
 ghost use Rattle.ill_values.specs.TxnId.{Qualifiers};
-ghost use Rattle.ill_saved.specs.declared.role.Role.{Role};
-ghost use Rattle.ill_saved.specs.declared.role.Role.TheVariants.{Requester, Responder};
-ghost use Rattle.ill_saved.specs.Side.{issued_of};
+ghost use Rattle.ill_record.specs.declared.role.Role.{Role};
+ghost use Rattle.ill_record.specs.declared.role.Role.TheVariants.{Requester, Responder};
+ghost use Rattle.ill_record.specs.Side.{issued_of};
 ghost use Rattle.ill_saved.specs.Holdings.{DeskEntry};
 ghost use Rattle.ill_saved.specs.ManySides.{found_by, held_for, txn_held};
 ghost use Rattle.ill_words.specs.Sending.{is_over};

@@ -5,7 +5,7 @@ use Rattle.std.specs.List.{fold}
 use Rattle.std.proofs.lemmas.List.{append-nil}
 use Rattle.ill_values.specs.declared.apdu.Apdu.{Apdu}
 use Rattle.ill_saved.specs.Holdings.{DeskEntry}
-use Rattle.ill_saved.proofs.Finding.{some_is}
+use Rattle.ill_record.proofs.Finding.{some_is}
 use Rattle.ill_text.specs.declared.fault.ToolFault.{ToolFault}
 use Rattle.ill_night.specs.Outbox.{Letter, PutsAll, RunsOutbox, after_all, after_one, letters_of}
 use Rattle.ill_room.specs.declared.sealed.SealedLetter.{SealedLetter}

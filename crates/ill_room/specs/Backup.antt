@@ -1,7 +1,7 @@
 -- What a night keeps beside its mail: a copy of the desk, and a sign of life (this profile's own).
 use Rattle.std.specs.Prelude.{◌≡◌, ◌⊎◌, ℕ, suc, Bool, false, if◌then◌else◌, List, Option, Some, Result, Ok, Err}
-use Rattle.ill_saved.specs.Sides.{SidesOf}
-use Rattle.ill_saved.specs.RecordsV2.{sides_encoding}
+use Rattle.ill_record.specs.Sides.{SidesOf}
+use Rattle.ill_record.specs.RecordsV2.{sides_encoding}
 use Rattle.ill_text.specs.declared.fault.ToolFault.{ToolFault}
 use Rattle.ill_night.specs.CopyOver.{Replaces}
 use Rattle.ill_night.specs.declared.copy.Copied.TheVariants.{Done}

@@ -1,9 +1,9 @@
 -- Proves that no bad loss of power is one, and that no desk starts after it otherwise.
 use Rattle.std.proofs.Common.{◌≡◌, inl, inr, ℕ, List, Option, Some, None, Result, Ok, sym, ap, ◌∙◌, subst}
 use Rattle.ill_values.specs.declared.apdu.Apdu.{Apdu}
-use Rattle.ill_saved.specs.declared.fault.RecordFault.{RecordFault}
+use Rattle.ill_record.specs.declared.fault.RecordFault.{RecordFault}
 use Rattle.ill_saved.specs.Holdings.{map_ok}
-use Rattle.ill_saved.specs.RecordsV2.{records_at}
+use Rattle.ill_record.specs.RecordsV2.{records_at}
 use Rattle.ill_saved.specs.ManySides.{DeskContents, whole_of}
 use Rattle.ill_world.specs.Desks.{DeskParty}
 use Rattle.ill_runs.specs.Libraries.{Library}

@@ -10,13 +10,13 @@ use Rattle.ill_core.specs.declared.refusal.Refusal.TheVariants.{WrongRole}
 use Rattle.ill_saved.specs.declared.fault.DeskFault.{DeskFault}
 use Rattle.ill_saved.specs.declared.fault.DeskFault.TheVariants as faults
 use Rattle.ill_store.specs.declared.store.StoreFault.TheVariants.{Failed}
-use Rattle.ill_saved.specs.declared.role.Role.{Role}
-use Rattle.ill_saved.specs.declared.role.Role.TheVariants as who
-use Rattle.ill_saved.specs.declared.side.Action.{Action}
-use Rattle.ill_saved.specs.declared.side.Action.TheVariants as actions
-use Rattle.ill_saved.specs.Sides.{is_same_role}
-use Rattle.ill_saved.specs.Side.{role_for, begins}
-use Rattle.ill_saved.specs.Ranges.{Each}
+use Rattle.ill_record.specs.declared.role.Role.{Role}
+use Rattle.ill_record.specs.declared.role.Role.TheVariants as who
+use Rattle.ill_record.specs.declared.side.Action.{Action}
+use Rattle.ill_record.specs.declared.side.Action.TheVariants as actions
+use Rattle.ill_record.specs.Sides.{is_same_role}
+use Rattle.ill_record.specs.Side.{role_for, begins}
+use Rattle.ill_record.specs.Ranges.{Each}
 use Rattle.ill_saved.specs.Holdings.{WantsMemory}
 use Rattle.ill_saved.specs.ManySides.{DeskContents, many_sides, desk_acts, desk_takes, acts_reached, side_for_call}
 use Rattle.ill_words.specs.declared.outcome.DeskOutcome.{DeskOutcome}

@@ -8,8 +8,8 @@ use Rattle.ill_values.specs.declared.apdu.Apdu.{Apdu}
 use Rattle.ill_der.specs.ShortForm.{encoding}
 use Rattle.ill_store.specs.declared.store.StoreFault.TheVariants.{Failed}
 use Rattle.ill_saved.specs.declared.fault.DeskFault.TheVariants as faults
-use Rattle.ill_saved.specs.Side.{other}
-use Rattle.ill_saved.specs.Ranges.{Each}
+use Rattle.ill_record.specs.Side.{other}
+use Rattle.ill_record.specs.Ranges.{Each}
 use Rattle.ill_saved.specs.ManySides.{DeskContents, many_sides}
 use Rattle.ill_text.specs.declared.fault.ToolFault.{ToolFault}
 use Rattle.ill_text.specs.declared.fault.ToolFault.TheVariants.{Desk}

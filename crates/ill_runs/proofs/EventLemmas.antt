@@ -2,12 +2,12 @@
 use Rattle.std.proofs.Common.{◌≡◌, inl, inr, ℕ, if◌then◌else◌, List, [], ◌∷◌, ◌++◌, Option, Some, None, Bool, true, false, Result}
 use Rattle.std.proofs.Common.{Ok, Err, refl, sym, ap, ◌∙◌, subst}
 use Rattle.ill_values.specs.declared.apdu.Apdu.{Apdu}
-use Rattle.ill_saved.specs.declared.fault.RecordFault.{RecordFault}
-use Rattle.ill_saved.specs.declared.role.Role.{Role}
-use Rattle.ill_saved.specs.Sides.{SidesOf}
+use Rattle.ill_record.specs.declared.fault.RecordFault.{RecordFault}
+use Rattle.ill_record.specs.declared.role.Role.{Role}
+use Rattle.ill_record.specs.Sides.{SidesOf}
 use Rattle.ill_saved.specs.Holdings.{IsReadAgain, map_ok}
 use Rattle.ill_saved.specs.ManySides.{DeskContents, many_sides, sides_held, whole_of, desk_takes}
-use Rattle.ill_saved.specs.RecordsV2.{records_at, sides_encoding}
+use Rattle.ill_record.specs.RecordsV2.{records_at, sides_encoding}
 use Rattle.ill_saved.proofs.Contents.{sides_of_whole}
 use Rattle.ill_text.specs.declared.fault.ToolFault.{ToolFault}
 use Rattle.ill_desk.specs.Performing.{HeldAndLanded, saved, with_sides, IsFaulted}

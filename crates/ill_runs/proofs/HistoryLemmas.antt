@@ -3,12 +3,12 @@ use Rattle.std.proofs.Common.{◌≡◌, ℕ, List, [], ◌∷◌, ◌++◌, Som
 use Rattle.ill_values.specs.TxnId.{Qualifiers}
 use Rattle.ill_values.specs.declared.apdu.Apdu.{Apdu}
 use Rattle.ill_core.specs.Issued.{message}
-use Rattle.ill_saved.specs.declared.role.Role.{Role}
-use Rattle.ill_saved.specs.declared.role.Role.TheVariants as who
-use Rattle.ill_saved.specs.Side.{issued_of, other}
-use Rattle.ill_saved.specs.Sides.{SidesOf, are_apart}
-use Rattle.ill_saved.specs.Ranges.{Each}
-use Rattle.ill_saved.specs.RecordsV2.{AreSides}
+use Rattle.ill_record.specs.declared.role.Role.{Role}
+use Rattle.ill_record.specs.declared.role.Role.TheVariants as who
+use Rattle.ill_record.specs.Side.{issued_of, other}
+use Rattle.ill_record.specs.Sides.{SidesOf, are_apart}
+use Rattle.ill_record.specs.Ranges.{Each}
+use Rattle.ill_record.specs.RecordsV2.{AreSides}
 use Rattle.ill_saved.specs.ManySides.{side_for}
 use Rattle.ill_saved.proofs.Contents.{SidesReadAgain}
 use Rattle.ill_world.specs.declared.event.DeskEvent.{DeskEvent}

@@ -6,11 +6,11 @@ use Rattle.std.specs.List.{slice_get}
 use Rattle.std.proofs.lemmas.List.{length-append, map-append}
 use Rattle.ill_values.specs.declared.apdu.Apdu.{Apdu}
 use Rattle.ill_core.specs.Issued.{is_same_txn, message}
-use Rattle.ill_saved.specs.Ranges.{Each}
-use Rattle.ill_saved.specs.Side.{issued_of, txn_of}
+use Rattle.ill_record.specs.Ranges.{Each}
+use Rattle.ill_record.specs.Side.{issued_of, txn_of}
 use Rattle.ill_saved.specs.Holdings.{DeskEntry}
 use Rattle.ill_saved.specs.ManySides.{DeskContents, found_by, txn_held}
-use Rattle.ill_saved.proofs.Finding.{same_is, same_self}
+use Rattle.ill_record.proofs.Finding.{same_is, same_self}
 use Rattle.ill_words.specs.Sending.{wants_sending}
 use Rattle.ill_night.specs.Outbox.{Issue, is_asked, issues_of, leaving_side, leaving_desk, released_of}
 use Rattle.ill_world.specs.DeskCounts.{AreApart, is_one_of}

@@ -7,16 +7,16 @@ use Rattle.std.proofs.lemmas.Option.{slice_get_within}
 use Rattle.ill_values.specs.TxnId.{Qualifiers}
 use Rattle.ill_values.specs.declared.apdu.Apdu.{Apdu}
 use Rattle.ill_core.specs.Issued.{message}
-use Rattle.ill_saved.specs.declared.fault.RecordFault.{RecordFault}
-use Rattle.ill_saved.specs.declared.role.Role.{Role}
-use Rattle.ill_saved.specs.declared.role.Role.TheVariants as who
-use Rattle.ill_saved.specs.declared.side.Side.{Side}
-use Rattle.ill_saved.specs.declared.side.Side.TheVariants as sides
-use Rattle.ill_saved.specs.Side.{other, issued_of}
-use Rattle.ill_saved.specs.Ranges.{Each}
+use Rattle.ill_record.specs.declared.fault.RecordFault.{RecordFault}
+use Rattle.ill_record.specs.declared.role.Role.{Role}
+use Rattle.ill_record.specs.declared.role.Role.TheVariants as who
+use Rattle.ill_record.specs.declared.side.Side.{Side}
+use Rattle.ill_record.specs.declared.side.Side.TheVariants as sides
+use Rattle.ill_record.specs.Side.{other, issued_of}
+use Rattle.ill_record.specs.Ranges.{Each}
 use Rattle.ill_saved.specs.Holdings.{DeskEntry, map_ok}
 use Rattle.ill_saved.specs.ManySides.{DeskContents, whole_of, found_by, found_or, txn_held, held_for, idle_held}
-use Rattle.ill_saved.proofs.Finding.{same_self}
+use Rattle.ill_record.proofs.Finding.{same_self}
 use Rattle.ill_desk.specs.Performing.{HeldAndLanded}
 use Rattle.ill_night.specs.declared.verdict.Mail.{Mail}
 use Rattle.ill_world.specs.declared.event.DeskEvent.{DeskEvent}

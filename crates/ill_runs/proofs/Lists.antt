@@ -1,7 +1,7 @@
 -- Proves how a property of each item of a list is one of the items of other lists.
 use Rattle.std.proofs.Common.{◌≡◌, ℕ, zero, suc, List, [], ◌∷◌, ◌++◌, take, Some, is_some, sym, ap, subst, true≢false}
 use Rattle.std.specs.List.{slice_get}
-use Rattle.ill_saved.specs.Ranges.{Each}
+use Rattle.ill_record.specs.Ranges.{Each}
 
 module _ {X : Type 0} (P : X → Type 0) where
   -- If `P` holds of each item of both lists, it holds of each of their join.

@@ -2,7 +2,7 @@
 use Rattle.std.proofs.Common.{◌≡◌, ◌⊎◌, inl, inr, ℕ, Bool, List, [], Option, Some, None, Result, Ok, Err, sym, subst}
 use Rattle.ill_values.specs.Day.{Date}
 use Rattle.ill_values.specs.declared.apdu.Apdu.{Apdu}
-use Rattle.ill_saved.specs.declared.role.Role.{Role}
+use Rattle.ill_record.specs.declared.role.Role.{Role}
 use Rattle.ill_saved.specs.ManySides.{DeskContents, many_sides, sides_held}
 use Rattle.ill_text.specs.declared.fault.ToolFault.{ToolFault}
 use Rattle.ill_desk.specs.Performing.{HeldAndLanded, CommandState}

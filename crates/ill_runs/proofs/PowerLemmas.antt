@@ -2,13 +2,13 @@
 use Rattle.std.proofs.Common.{◌≡◌, ◌⊎◌, inl, inr, ℕ, Bool, true, false, List, [], ◌∷◌, Option, Some, None, Result, Ok, Err}
 use Rattle.std.proofs.Common.{refl, sym, ap, subst, ◌∙◌}
 use Rattle.std.specs.Prelude.{OnOk}
-use Rattle.ill_saved.specs.declared.role.Role.{Role}
+use Rattle.ill_record.specs.declared.role.Role.{Role}
 use Rattle.ill_store.specs.Store.{StoreState}
 use Rattle.ill_saved.specs.declared.fault.DeskFault.{DeskFault}
 use Rattle.ill_saved.specs.Desk.{DeskSaves, LeavesBeforeOr, LeavesLanded}
 use Rattle.ill_saved.specs.Holdings.{IsReadAgain, map_ok}
-use Rattle.ill_saved.specs.Sides.{SidesOf}
-use Rattle.ill_saved.specs.RecordsV2.{records_at, sides_encoding}
+use Rattle.ill_record.specs.Sides.{SidesOf}
+use Rattle.ill_record.specs.RecordsV2.{records_at, sides_encoding}
 use Rattle.ill_saved.specs.ManySides.{DeskContents, many_sides, sides_held, whole_of}
 use Rattle.ill_desk.specs.Performing.{HeldAndLanded, known_if}
 use Rattle.ill_world.specs.declared.event.DeskEvent.TheVariants.{Save, SaveFault, Restart}

@@ -3,11 +3,11 @@ use Rattle.std.specs.Prelude.{◌≡◌, ℕ, List, Option, None, Some, Ok, Err}
 use Rattle.ill_values.specs.TxnId.{Qualifiers}
 use Rattle.ill_values.specs.declared.apdu.Apdu.{Apdu}
 use Rattle.ill_core.specs.Issued.{message}
-use Rattle.ill_saved.specs.declared.fault.RecordFault.{RecordFault}
-use Rattle.ill_saved.specs.declared.role.Role.{Role}
-use Rattle.ill_saved.specs.Side.{issued_of}
-use Rattle.ill_saved.specs.Sides.{SidesOf}
-use Rattle.ill_saved.specs.RecordsV2.{records_at}
+use Rattle.ill_record.specs.declared.fault.RecordFault.{RecordFault}
+use Rattle.ill_record.specs.declared.role.Role.{Role}
+use Rattle.ill_record.specs.Side.{issued_of}
+use Rattle.ill_record.specs.Sides.{SidesOf}
+use Rattle.ill_record.specs.RecordsV2.{records_at}
 use Rattle.ill_saved.specs.ManySides.{many_sides, side_for, whole_of}
 use Rattle.ill_world.specs.World.{party, sent_message}
 use Rattle.ill_world.specs.Desks.{DeskParty, DeskParties, sent_for}

@@ -3,14 +3,14 @@
 use Rattle.std.specs.Prelude.{◌≡◌, ◌⊎◌, ℕ, Bool, List, [], ◌∷◌, ◌++◌, Option, Some, Result, Ok}
 use Rattle.ill_values.specs.TxnId.{Qualifiers}
 use Rattle.ill_values.specs.declared.apdu.Apdu.{Apdu}
-use Rattle.ill_saved.specs.declared.role.Role.{Role}
-use Rattle.ill_saved.specs.declared.role.Role.TheVariants.{Requester, Responder}
-use Rattle.ill_saved.specs.declared.side.Action.{Action}
+use Rattle.ill_record.specs.declared.role.Role.{Role}
+use Rattle.ill_record.specs.declared.role.Role.TheVariants.{Requester, Responder}
+use Rattle.ill_record.specs.declared.side.Action.{Action}
 use Rattle.ill_core.specs.Issued.{message}
-use Rattle.ill_saved.specs.Side.{issued_of, other}
-use Rattle.ill_saved.specs.Sides.{SidesOf}
-use Rattle.ill_saved.specs.Ranges.{Each}
-use Rattle.ill_saved.specs.RecordsV2.{records_at, sides_encoding}
+use Rattle.ill_record.specs.Side.{issued_of, other}
+use Rattle.ill_record.specs.Sides.{SidesOf}
+use Rattle.ill_record.specs.Ranges.{Each}
+use Rattle.ill_record.specs.RecordsV2.{records_at, sides_encoding}
 use Rattle.ill_saved.specs.ManySides.{DeskContents, many_sides, side_for}
 use Rattle.ill_text.specs.declared.fault.ToolFault.{ToolFault}
 use Rattle.ill_text.specs.declared.form.Form.{Form}

@@ -7,8 +7,8 @@ use Rattle.ill_values.specs.TxnId.{Qualifiers}
 use Rattle.ill_values.specs.declared.apdu.Apdu.{Apdu}
 use Rattle.ill_der.specs.Handling.{Handles}
 use Rattle.ill_core.specs.Issued.{message}
-use Rattle.ill_saved.specs.Ranges.{Each}
-use Rattle.ill_saved.specs.Side.{issued_of}
+use Rattle.ill_record.specs.Ranges.{Each}
+use Rattle.ill_record.specs.Side.{issued_of}
 use Rattle.ill_saved.specs.Holdings.{DeskEntry}
 use Rattle.ill_saved.specs.ManySides.{DeskContents, found_by, many_sides, txn_held}
 use Rattle.ill_text.specs.declared.fault.ToolFault.{ToolFault}

@@ -1,11 +1,11 @@
 -- A loss of power at a desk, in the terms of the model. It may leave one of several records, from which the desk starts.
 use Rattle.std.specs.Prelude.{◌≡◌, ◌⊎◌, ℕ, Bool, List, [], ◌∷◌, Option, Some, Result, Ok, Err}
-use Rattle.ill_saved.specs.declared.role.Role.{Role}
-use Rattle.ill_saved.specs.declared.role.Role.TheVariants.{Requester, Responder}
+use Rattle.ill_record.specs.declared.role.Role.{Role}
+use Rattle.ill_record.specs.declared.role.Role.TheVariants.{Requester, Responder}
 use Rattle.ill_saved.specs.declared.fault.DeskFault.{DeskFault}
-use Rattle.ill_saved.specs.Side.{other}
-use Rattle.ill_saved.specs.Sides.{SidesOf}
-use Rattle.ill_saved.specs.RecordsV2.{records_at}
+use Rattle.ill_record.specs.Side.{other}
+use Rattle.ill_record.specs.Sides.{SidesOf}
+use Rattle.ill_record.specs.RecordsV2.{records_at}
 use Rattle.ill_saved.specs.ManySides.{DeskContents, many_sides, sides_held, whole_of}
 use Rattle.ill_desk.specs.Performing.{HeldAndLanded}
 use Rattle.ill_world.specs.declared.event.DeskEvent.{DeskEvent}

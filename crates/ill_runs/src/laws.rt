@@ -2,11 +2,11 @@
 
 ghost use Rattle.std.specs.Prelude.{◌≡◌, List, Ok};
 ghost use Rattle.ill_values.specs.declared.apdu.Apdu.{Apdu};
-ghost use Rattle.ill_saved.specs.declared.role.Role.{Role};
-ghost use Rattle.ill_saved.specs.Side.{other};
-ghost use Rattle.ill_saved.specs.Ranges.{Each};
-ghost use Rattle.ill_saved.specs.RecordsV2.{records_at};
-ghost use Rattle.ill_saved.specs.Sides.{SidesOf};
+ghost use Rattle.ill_record.specs.declared.role.Role.{Role};
+ghost use Rattle.ill_record.specs.Side.{other};
+ghost use Rattle.ill_record.specs.Ranges.{Each};
+ghost use Rattle.ill_record.specs.RecordsV2.{records_at};
+ghost use Rattle.ill_record.specs.Sides.{SidesOf};
 ghost use Rattle.ill_world.specs.World.{party};
 ghost use Rattle.ill_world.specs.declared.event.DeskEvent.{DeskEvent};
 ghost use Rattle.ill_world.specs.Desks.{DeskParties, DeskParty, desks_run};

@@ -3,12 +3,12 @@
 ghost use Rattle.std.specs.Prelude.{◌≡◌, ◌⊎◌, ℕ, Bool, true, List, [], ◌∷◌, Option, None, Some, Result, Ok, OnOk};
 ghost use Rattle.ill_values.specs.TxnId.{Qualifiers};
 ghost use Rattle.ill_values.specs.declared.apdu.Apdu.{Apdu};
-ghost use Rattle.ill_saved.specs.declared.role.Role.{Role};
+ghost use Rattle.ill_record.specs.declared.role.Role.{Role};
 ghost use Rattle.ill_saved.specs.declared.fault.DeskFault.{DeskFault};
 ghost use Rattle.ill_saved.specs.Desk.{DeskSaves, LeavesBeforeOr, LeavesLanded};
 ghost use Rattle.ill_saved.specs.Holdings.{IsReadAgain};
 ghost use Rattle.ill_saved.specs.ManySides.{many_sides, no_sides, sides_held};
-ghost use Rattle.ill_saved.specs.Sides.{SidesOf};
+ghost use Rattle.ill_record.specs.Sides.{SidesOf};
 ghost use Rattle.ill_desk.specs.Performing.{view_of};
 ghost use Rattle.ill_world.specs.declared.event.DeskEvent.{DeskEvent};
 ghost use Rattle.ill_world.specs.declared.event.DeskEvent.TheVariants.{Save, SaveFault, Restart};

@@ -1,7 +1,7 @@
 //! The laws of histories of shelves: each desk that a command visits is a desk of a library of its own.
 
 ghost use Rattle.std.specs.Prelude.{◌≡◌, ℕ, List};
-ghost use Rattle.ill_saved.specs.declared.role.Role.{Role};
+ghost use Rattle.ill_record.specs.declared.role.Role.{Role};
 ghost use Rattle.ill_world.specs.World.{party};
 ghost use Rattle.ill_runs.specs.Libraries.{AreSafe, HasAllThatLeft, IsHistory, libraries_after};
 ghost use Rattle.ill_runs.specs.ShelfLibraries.{GroupVisit, IsShelfHistory, ShelfLibraries, first_shelf_libraries, shelves_after, visits_of};

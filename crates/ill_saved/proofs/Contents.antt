@@ -19,32 +19,33 @@ use Rattle.ill_core.specs.Answers.{unless_refused}
 use Rattle.ill_core.specs.Responder.{ResponderRecord, responder_of}
 use Rattle.ill_core.specs.ResponderDeliveries.{take_message, takes as responder_takes}
 use Rattle.ill_core.specs.State.{is_among}
-use Rattle.ill_saved.specs.declared.fault.SidesFault.TheVariants as sides_faults
+use Rattle.ill_record.specs.declared.fault.SidesFault.TheVariants as sides_faults
 use Rattle.ill_values.specs.Body.{Body}
 use Rattle.ill_values.specs.declared.apdu.BodyWith.TheVariants as types
 use Rattle.ill_core.specs.Issued.{is_same_txn}
-use Rattle.ill_saved.specs.declared.role.Role.{Role}
-use Rattle.ill_saved.specs.declared.role.Role.TheVariants as roles
-use Rattle.ill_saved.specs.declared.side.Action.TheVariants as actions
+use Rattle.ill_record.specs.declared.role.Role.{Role}
+use Rattle.ill_record.specs.declared.role.Role.TheVariants as roles
+use Rattle.ill_record.specs.declared.side.Action.TheVariants as actions
 use Rattle.ill_core.specs.declared.requester.Wish.TheVariants as wishes
-use Rattle.ill_saved.specs.declared.side.Side.{Side}
-use Rattle.ill_saved.specs.declared.side.Action.{Action}
+use Rattle.ill_record.specs.declared.side.Side.{Side}
+use Rattle.ill_record.specs.declared.side.Action.{Action}
 use Rattle.ill_saved.specs.declared.fault.DeskFault.{DeskFault}
 use Rattle.ill_saved.specs.declared.fault.DeskFault.TheVariants as faults
-use Rattle.ill_saved.specs.declared.fault.RecordFault.{RecordFault}
-use Rattle.ill_saved.specs.Side.{issued_of, txn_of, role_of, idle_side, is_idle, role_for, begins, IsConsistent, IsSideTransition}
-use Rattle.ill_saved.specs.Side.{acts}
-use Rattle.ill_saved.specs.Side.{takes, takes_memory, Acts, Takes, IsAfterTransitions, same as follows_itself}
-use Rattle.ill_saved.specs.Side.{further as one_further}
-use Rattle.ill_saved.specs.Side.{IsPrefix}
+use Rattle.ill_record.specs.declared.fault.RecordFault.{RecordFault}
+use Rattle.ill_record.specs.Side.{issued_of, txn_of, role_of, idle_side, is_idle, role_for, begins, IsConsistent}
+use Rattle.ill_record.specs.Side.{IsSideTransition}
+use Rattle.ill_record.specs.Side.{acts}
+use Rattle.ill_record.specs.Side.{takes, takes_memory, Acts, Takes, IsAfterTransitions, same as follows_itself}
+use Rattle.ill_record.specs.Side.{further as one_further}
+use Rattle.ill_record.specs.Side.{IsPrefix}
 use Rattle.ill_saved.specs.Faults.{of_core}
-use Rattle.ill_saved.specs.Ranges.{Each, IsSide}
-use Rattle.ill_saved.specs.Sides.{SidesOf, is_same_role, most_sides, found_by, put_by, side_with, put_refusal}
-use Rattle.ill_saved.specs.Sides.{put_last as put_side, ChangesOnlySideOf}
+use Rattle.ill_record.specs.Ranges.{Each, IsSide}
+use Rattle.ill_record.specs.Sides.{SidesOf, is_same_role, most_sides, found_by, put_by, side_with, put_refusal}
+use Rattle.ill_record.specs.Sides.{put_last as put_side, ChangesOnlySideOf}
 use Rattle.ill_der.specs.Format.{◌>>=◌}
 use Rattle.ill_der.specs.Laws.{IsBytes}
-use Rattle.ill_saved.specs.Records.{record_at, record_encoding}
-use Rattle.ill_saved.specs.RecordsV2.{AreSides, alone, read_alone, is_version_1, unsealed, sides_at, sides_encoding, records_at}
+use Rattle.ill_record.specs.Records.{record_at, record_encoding}
+use Rattle.ill_record.specs.RecordsV2.{AreSides, alone, read_alone, is_version_1, unsealed, sides_at, sides_encoding, records_at}
 use Rattle.ill_saved.specs.Holdings.{DeskEntry, DeskActs, DeskTakesApdu, IsBacked, IsBackedBy, IsBackedByRead, IsRecordOf}
 use Rattle.ill_saved.specs.Holdings.{StaysBacked, landed_live, map_ok, whole}
 use Rattle.ill_saved.specs.ManySides.{DeskContents, held_of, counts, txn_held, idle_held, found_or, held_for, with_held}
@@ -52,10 +53,11 @@ use Rattle.ill_saved.specs.ManySides.{sides_held, whole_of, no_sides, is_own, he
 use Rattle.ill_saved.specs.ManySides.{acts_reached, desk_acts, contents_after_message as took_by, takes_reached, desk_takes}
 use Rattle.ill_saved.specs.ManySides.{many_sides, FirstActs}
 use Rattle.ill_saved.specs.ManySides.{FirstTakes, side_for, AreBackedBy, AreBackable, ManyBack}
-use Rattle.ill_saved.proofs.Desks.{RowsGrow, RefusalsStay, core_answer, itself_backs, no_less, idle_consistent}
-use Rattle.ill_saved.proofs.DeskEntry.{new_to, idle_txn, idle_role, acts_row, takes_row, found_plainly}
-use Rattle.ill_saved.proofs.Finding.{same_is, same_self, found_is, found_put, put_last, put_again, found_mapped, put_length}
-use Rattle.ill_saved.proofs.Finding.{some_is}
+use Rattle.ill_record.proofs.Transitions.{RowsGrow, RefusalsStay, no_less, idle_consistent}
+use Rattle.ill_saved.proofs.Desks.{core_answer, itself_backs}
+use Rattle.ill_record.proofs.DeskEntry.{new_to, idle_txn, idle_role, acts_row, takes_row, found_plainly}
+use Rattle.ill_record.proofs.Finding.{same_is, same_self, found_is, found_put, put_last, put_again, found_mapped, put_length}
+use Rattle.ill_record.proofs.Finding.{some_is}
 
 -- ---- sides and their released counts
 
@@ -856,3 +858,17 @@ unfolding records_at
 read_consistent one many bytes all is read =
     either_read (is_version_1 bytes) bytes (unsealed bytes >>= sides_at) all refl read
     (λ side found. (one bytes side is found).1.0) (λ later. each_consistent all.sides (many bytes all is later read).1.each)
+
+-- The side of the found entry, or of `idle`, is the found side, or the side of `idle`.
+side_found : (idle : DeskEntry) (found : Option DeskEntry)
+    → found_or idle.side (option_map (λ (held : DeskEntry). held.side) found) ≡ (found_or idle found).side
+side_found idle (Some held) = refl
+side_found idle None = refl
+
+-- The side of `txn` among the sides of a desk is the side of the desk's entry for `txn`.
+pub side_of_held : (txn : Qualifiers) (live : DeskContents) → side_for txn (sides_held live) ≡ (held_for txn live).side
+unfolding side_with
+side_of_held txn live =
+    ap (found_or (idle_side live.role txn))
+    (found_mapped txn_held txn_of (λ (held : DeskEntry). held.side) (λ held. refl) txn live.held)
+    ∙ side_found (idle_held live.role txn) (found_by txn_held txn live.held)

@@ -5,16 +5,16 @@ use Rattle.std.specs.Prelude.{option_map}
 use Rattle.ill_values.specs.declared.apdu.Apdu.{Apdu}
 use Rattle.ill_values.specs.TxnId.{Qualifiers}
 use Rattle.ill_core.specs.Issued.{message}
-use Rattle.ill_saved.specs.declared.fault.RecordFault.{RecordFault}
-use Rattle.ill_saved.specs.declared.role.Role.{Role}
-use Rattle.ill_saved.specs.declared.side.Side.{Side}
-use Rattle.ill_saved.specs.Side.{issued_of, txn_of, idle_side, IsAfterTransitions, IsPrefix}
-use Rattle.ill_saved.specs.Sides.{side_with}
+use Rattle.ill_record.specs.declared.fault.RecordFault.{RecordFault}
+use Rattle.ill_record.specs.declared.role.Role.{Role}
+use Rattle.ill_record.specs.declared.side.Side.{Side}
+use Rattle.ill_record.specs.Side.{issued_of, txn_of, idle_side, IsAfterTransitions, IsPrefix}
+use Rattle.ill_record.specs.Sides.{side_with}
 use Rattle.ill_saved.specs.Holdings.{DeskEntry, IsBackedBy, IsBackedByRead, MaySend, ReadHas}
 use Rattle.ill_saved.specs.OneSide.{OneBacks, one_side}
 use Rattle.ill_saved.specs.ManySides.{DeskContents, ManyBack, found_or, found_by, held_for, idle_held, many_sides, side_for}
 use Rattle.ill_saved.specs.ManySides.{sides_held, txn_held}
-use Rattle.ill_saved.proofs.Finding.{found_mapped}
+use Rattle.ill_record.proofs.Finding.{found_mapped}
 
 -- If transitions lead from one side to another, the issued messages of the first are a prefix of those of the second.
 abbrev FollowsIssues : Type 0

@@ -1,17 +1,5 @@
-pub mod Lists
-pub mod Records
-pub mod Rules
-pub mod Steps
-pub mod Fields
-pub mod RecordLaws
-pub mod SidesLaws
-pub mod Roles
-pub mod Finding
-pub mod DeskEntry
-pub mod Together
 pub mod Desks
 pub mod Contents
-pub mod Sizes
 pub mod Places
 pub mod BadAnswers
 pub mod LandedMessages

@@ -7,20 +7,20 @@ use Rattle.std.proofs.lemmas.List.Elements.{All-head, All-tail, All-push, All-we
 use Rattle.ill_values.specs.declared.apdu.Apdu.{Apdu}
 use Rattle.ill_der.specs.ShortForm.{encoding}
 use Rattle.ill_saved.specs.declared.landed_record.Place.{Place}
-use Rattle.ill_saved.specs.declared.role.Role.TheVariants as roles
-use Rattle.ill_saved.specs.declared.side.Side.{Side}
-use Rattle.ill_saved.specs.declared.side.Side.TheVariants as sides
-use Rattle.ill_saved.specs.Layout.{encode_all, apdu, ill_request, mark, marked, counted, optional_number}
-use Rattle.ill_saved.specs.Records.{due_octets, heading, requester_states, responder_states, requester_rest, responder_rest}
-use Rattle.ill_saved.specs.Records.{encode_start, record_encoding}
-use Rattle.ill_saved.specs.declared.side.Standing.{Standing}
-use Rattle.ill_saved.specs.Side.{issued_of, standing_of}
+use Rattle.ill_record.specs.declared.role.Role.TheVariants as roles
+use Rattle.ill_record.specs.declared.side.Side.{Side}
+use Rattle.ill_record.specs.declared.side.Side.TheVariants as sides
+use Rattle.ill_record.specs.Layout.{encode_all, apdu, ill_request, mark, marked, counted, optional_number}
+use Rattle.ill_record.specs.Records.{due_octets, heading, requester_states, responder_states, requester_rest, responder_rest}
+use Rattle.ill_record.specs.Records.{encode_start, record_encoding}
+use Rattle.ill_record.specs.declared.side.Standing.{Standing}
+use Rattle.ill_record.specs.Side.{issued_of, standing_of}
 use Rattle.ill_saved.specs.LandedBytes.{LandedBytes, no_landed_record, IsLandedRecord, HoldsReleased, piece_at, IsWithin}
 use Rattle.ill_saved.specs.LandedBytes.{EndsWith}
 use Rattle.std.specs.Prelude.{IfOk}
-use Rattle.ill_saved.specs.Ranges.{Each, IsSide}
+use Rattle.ill_record.specs.Ranges.{Each, IsSide}
 use Rattle.ill_values.specs.Apdu.{IsApdu}
-use Rattle.ill_saved.proofs.Lists.{encode_none, encode_more, encode_both, each_both}
+use Rattle.ill_record.proofs.Lists.{encode_none, encode_more, encode_both, each_both}
 
 -- At a place within `prefix`, `prefix` and `prefix ++ more` have equal bytes.
 piece_of_prefix : (prefix more : List ℕ) (place : Place) → IsWithin (length prefix) place

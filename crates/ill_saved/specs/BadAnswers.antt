@@ -3,8 +3,8 @@
 use Rattle.std.specs.Prelude.{◌≡◌, ℕ, Bool, false, List, Option, Some, Result, Ok, Err}
 use Rattle.ill_der.specs.declared.fault.DerFault.{DerFault}
 use Rattle.ill_core.specs.declared.refusal.Refusal.{Refusal}
-use Rattle.ill_saved.specs.declared.fault.RecordFault.{RecordFault}
-use Rattle.ill_saved.specs.declared.fault.RecordFault.TheVariants as records
+use Rattle.ill_record.specs.declared.fault.RecordFault.{RecordFault}
+use Rattle.ill_record.specs.declared.fault.RecordFault.TheVariants as records
 use Rattle.ill_store.specs.declared.store.StoreFault.{StoreFault}
 use Rattle.ill_store.specs.declared.store.StoreFault.TheVariants as stores
 use Rattle.ill_store.specs.declared.store.NextCall.{NextCall}

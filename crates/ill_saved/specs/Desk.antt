@@ -3,13 +3,13 @@ use Rattle.std.specs.Prelude.{◌≡◌, ◌⊎◌, ℕ, ◌≤◌, List, [], �
 use Rattle.ill_values.specs.declared.apdu.Apdu.{Apdu}
 use Rattle.ill_der.specs.declared.fault.DerFault.{DerFault}
 use Rattle.ill_core.specs.declared.taking.Taking.{Taking}
-use Rattle.ill_saved.specs.declared.fault.RecordFault.{RecordFault}
+use Rattle.ill_record.specs.declared.fault.RecordFault.{RecordFault}
 use Rattle.ill_store.specs.declared.store.StoreFault.TheVariants as stores
 use Rattle.ill_store.specs.declared.store.NextCall.{NextCall}
 use Rattle.ill_saved.specs.declared.fault.DeskFault.{DeskFault}
 use Rattle.ill_saved.specs.declared.fault.DeskFault.TheVariants.{Bytes, Trailing, Exists, NoRecord, Store, Saved, OutOfMemory}
 use Rattle.ill_saved.specs.Holdings.{Effects, DeskTakesApdu, IsReadFault}
-use Rattle.ill_saved.specs.Records.{Decodes}
+use Rattle.ill_record.specs.Records.{Decodes}
 use Rattle.ill_store.specs.Store.{Allows, LandsAtFailure, HasRisen, StoreState, plan_after_call}
 
 -- A desk: the sides that it holds in memory, and their store.

@@ -1,5 +1,4 @@
--- The fault of a desk for each fault of a lower layer (this profile's own). Also, the offset of a fault of a record.
-use Rattle.std.specs.Prelude.{ℕ, Option, Some, None}
+-- The fault of a desk for each fault of a lower layer (this profile's own).
 use Rattle.ill_der.specs.declared.fault.DerFault.{DerFault}
 use Rattle.ill_der.specs.declared.fault.DerFault.TheVariants as ders
 use Rattle.ill_core.specs.declared.refusal.Refusal.{Refusal}
@@ -8,8 +7,8 @@ use Rattle.ill_store.specs.declared.store.StoreFault.{StoreFault}
 use Rattle.ill_store.specs.declared.store.StoreFault.TheVariants as stores
 use Rattle.ill_saved.specs.declared.file_lock.LockFault.{LockFault}
 use Rattle.ill_saved.specs.declared.file_lock.LockFault.TheVariants as locks
-use Rattle.ill_saved.specs.declared.fault.RecordFault.{RecordFault}
-use Rattle.ill_saved.specs.declared.fault.RecordFault.TheVariants as records
+use Rattle.ill_record.specs.declared.fault.RecordFault.{RecordFault}
+use Rattle.ill_record.specs.declared.fault.RecordFault.TheVariants as records
 use Rattle.ill_saved.specs.declared.fault.DeskFault.{DeskFault}
 use Rattle.ill_saved.specs.declared.fault.DeskFault.TheVariants.{Core, Bytes, Store, Saved, OutOfMemory}
 
@@ -37,8 +36,3 @@ of_lock other = stores.Failed
 abbrev pub of_record : RecordFault → DeskFault
 of_record records.OutOfMemory = OutOfMemory
 of_record other = Saved other
-
--- Returns the offset of the fault, if it has one.
-abbrev pub place_of : RecordFault → Option ℕ
-place_of (records.Bad at) = Some at
-place_of other = None

@@ -8,16 +8,16 @@ use Rattle.ill_der.specs.ShortForm.{encoding}
 use Rattle.ill_core.specs.declared.taking.Taking.{Taking}
 use Rattle.ill_core.specs.declared.taking.Taking.TheVariants.{Taken}
 use Rattle.ill_core.specs.Issued.{message}
-use Rattle.ill_saved.specs.declared.role.Role.{Role}
-use Rattle.ill_saved.specs.declared.side.Side.{Side}
-use Rattle.ill_saved.specs.declared.side.Action.{Action}
+use Rattle.ill_record.specs.declared.role.Role.{Role}
+use Rattle.ill_record.specs.declared.side.Side.{Side}
+use Rattle.ill_record.specs.declared.side.Action.{Action}
 use Rattle.ill_saved.specs.declared.fault.DeskFault.{DeskFault}
 use Rattle.ill_saved.specs.declared.fault.DeskFault.TheVariants.{Core, NoSuchMessage, NotSaved, NoSuchTransaction, DeskFull}
 use Rattle.ill_saved.specs.declared.fault.DeskFault.TheVariants.{Saved, OutOfMemory}
-use Rattle.ill_saved.specs.declared.fault.RecordFault.{RecordFault}
-use Rattle.ill_saved.specs.declared.fault.RecordFault.TheVariants as records
-use Rattle.ill_saved.specs.Side.{issued_of, takes_memory, IsConsistent, IsAfterTransitions}
-use Rattle.ill_saved.specs.Records.{Decodes}
+use Rattle.ill_record.specs.declared.fault.RecordFault.{RecordFault}
+use Rattle.ill_record.specs.declared.fault.RecordFault.TheVariants as records
+use Rattle.ill_record.specs.Side.{issued_of, takes_memory, IsConsistent, IsAfterTransitions}
+use Rattle.ill_record.specs.Records.{Decodes}
 
 -- A side that a desk holds, and the number of its messages that are released.
 pub record DeskEntry : Type 0 where

@@ -2,13 +2,13 @@
 use Rattle.std.specs.Prelude.{◌≡◌, ◌⊎◌, ℕ, ◌+◌, ◌≤◌, Bool, true, false, List, [], ◌++◌, length, take, drop, map, Option, Some}
 use Rattle.std.specs.Prelude.{None}
 use Rattle.ill_der.specs.ShortForm.{encoding}
-use Rattle.ill_saved.specs.declared.side.Side.{Side}
-use Rattle.ill_saved.specs.declared.side.Standing.{Standing}
+use Rattle.ill_record.specs.declared.side.Side.{Side}
+use Rattle.ill_record.specs.declared.side.Standing.{Standing}
 use Rattle.ill_saved.specs.declared.landed_record.Place.{Place}
-use Rattle.ill_saved.specs.Layout.{encode_all}
-use Rattle.ill_saved.specs.Records.{record_encoding}
-use Rattle.ill_saved.specs.Ranges.{IsSide}
-use Rattle.ill_saved.specs.Side.{issued_of, standing_of, back_to, is_asked, IsPrefix}
+use Rattle.ill_record.specs.Layout.{encode_all}
+use Rattle.ill_record.specs.Records.{record_encoding}
+use Rattle.ill_record.specs.Ranges.{IsSide}
+use Rattle.ill_record.specs.Side.{issued_of, standing_of, back_to, is_asked, IsPrefix}
 
 -- The copy of a landed record: the standing of the side, the bytes, their part with the messages, and each message.
 pub record LandedBytes : Type 0 where

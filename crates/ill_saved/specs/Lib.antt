@@ -1,12 +1,5 @@
-pub mod Roles
-pub mod Side
-pub mod SideVerbs
-pub mod Sides
-pub mod Layout
-pub mod Records
-pub mod RecordsV2
-pub mod Ranges
 pub mod Faults
+pub mod Shown
 pub mod LandedBytes
 pub mod Holdings
 pub mod OneSide

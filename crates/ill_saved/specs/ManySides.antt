@@ -10,16 +10,16 @@ use Rattle.ill_core.specs.declared.refusal.Refusal.TheVariants.{WrongRole}
 use Rattle.ill_core.specs.declared.taking.Taking.{Taking}
 use Rattle.ill_core.specs.declared.taking.Taking.TheVariants.{Taken}
 use Rattle.ill_values.specs.Bodies.{is_ill_request, is_requesters}
-use Rattle.ill_saved.specs.declared.role.Role.{Role}
-use Rattle.ill_saved.specs.declared.role.Role.TheVariants.{Requester, Responder}
-use Rattle.ill_saved.specs.declared.side.Side.{Side}
-use Rattle.ill_saved.specs.declared.side.Action.{Action}
+use Rattle.ill_record.specs.declared.role.Role.{Role}
+use Rattle.ill_record.specs.declared.role.Role.TheVariants.{Requester, Responder}
+use Rattle.ill_record.specs.declared.side.Side.{Side}
+use Rattle.ill_record.specs.declared.side.Action.{Action}
 use Rattle.ill_saved.specs.declared.fault.DeskFault.{DeskFault}
 use Rattle.ill_saved.specs.declared.fault.DeskFault.TheVariants.{Core, NoSuchTransaction, DeskFull, OutOfMemory}
-use Rattle.ill_saved.specs.Side.{issued_of, txn_of, idle_side, role_for, begins, acts, takes}
-pub use Rattle.ill_saved.specs.Sides.{found_by, put_by}
-use Rattle.ill_saved.specs.Sides.{SidesOf, is_same_role, most_sides, side_with}
-use Rattle.ill_saved.specs.RecordsV2.{records_at, begins_as_records, sides_encoding}
+use Rattle.ill_record.specs.Side.{issued_of, txn_of, idle_side, role_for, begins, acts, takes}
+pub use Rattle.ill_record.specs.Sides.{found_by, put_by}
+use Rattle.ill_record.specs.Sides.{SidesOf, is_same_role, most_sides, side_with}
+use Rattle.ill_record.specs.RecordsV2.{records_at, begins_as_records, sides_encoding}
 use Rattle.ill_saved.specs.Holdings.{DeskEntry, Effects, ReadsRecord, whole, map_ok, IsBackedBy}
 
 -- The contents of a desk: sides of one role, in the order in which they were begun.

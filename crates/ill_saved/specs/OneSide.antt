@@ -4,9 +4,9 @@ use Rattle.ill_core.specs.declared.refusal.Refusal.{Refusal}
 use Rattle.ill_core.specs.declared.taking.Taking.{Taking}
 use Rattle.ill_saved.specs.declared.fault.DeskFault.{DeskFault}
 use Rattle.ill_saved.specs.declared.fault.DeskFault.TheVariants.{Core}
-use Rattle.ill_saved.specs.declared.side.Side.{Side}
-use Rattle.ill_saved.specs.Side.{role_of, idle_of, acts, takes}
-use Rattle.ill_saved.specs.Records.{record_at, begins_as_record, record_encoding}
+use Rattle.ill_record.specs.declared.side.Side.{Side}
+use Rattle.ill_record.specs.Side.{role_of, idle_of, acts, takes}
+use Rattle.ill_record.specs.Records.{record_at, begins_as_record, record_encoding}
 use Rattle.ill_saved.specs.Holdings.{DeskEntry, Effects, whole, map_ok, IsBackedBy}
 
 -- Returns the side with none of its messages released.

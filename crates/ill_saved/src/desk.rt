@@ -2,8 +2,9 @@
 
 ghost use Rattle.std.specs.Prelude.{◌≡◌, ◌≤◌, true, length, option_copied, Some, IfOk, IfErr, IfSome, OnOk};
 ghost use Rattle.ill_der.specs.ShortForm.{apdu_at};
-ghost use Rattle.ill_saved.specs.Side.{issued_of, idle_of, shown_of};
-ghost use Rattle.ill_saved.specs.Sides.{found_by};
+ghost use Rattle.ill_record.specs.Side.{issued_of, idle_of};
+ghost use Rattle.ill_saved.specs.Shown.{shown_of};
+ghost use Rattle.ill_record.specs.Sides.{found_by};
 ghost use Rattle.ill_saved.specs.Holdings.{DeskActs, DeskTakesApdu, SendsHeld, IsBackedInSave, IsDurablyBacked, IsReadAgain, held_after, landed_live};
 ghost use Rattle.ill_saved.specs.OneSide.{OneBacks, alone, one_side};
 ghost use Rattle.ill_saved.specs.ManySides.{ManyBack, held_for, many_sides, no_sides, sides_held, txn_held};
@@ -13,12 +14,10 @@ use crate::fault::DeskFault;
 use crate::holdings::Holdings;
 use crate::many_sides::ManySides;
 use crate::one_side::OneSide;
-use crate::role::Role;
 use crate::shown::Shown;
-use crate::side::{Action, Side};
-use crate::sides::Sides;
 use ill_core::Taking;
 use ill_der::decode;
+use ill_record::{Action, Role, Side, Sides};
 use ill_store::{MemoryStore, NextCall, Store};
 use ill_values::{Apdu, Number, TxnId};
 use std::alloc::Global;

@@ -5,8 +5,8 @@ ghost use Rattle.ill_saved.specs.declared.file_lock.LockFault.TheVariants as loc
 ghost use Rattle.ill_store.specs.declared.store.StoreFault.TheVariants.{Failed, OutOfMemory};
 ghost use Rattle.ill_saved.specs.Faults.{of_lock};
 
-use crate::sides::RECORD_LIMIT;
 use ill_disk::regular_file;
+use ill_record::RECORD_LIMIT;
 use ill_store::{FileStore, StoreFault};
 use std::alloc::{AllocError, AllocFailed, Global};
 use std::fs::{File, Metadata, OpenFile, TryLockError};

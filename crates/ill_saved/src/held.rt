@@ -5,8 +5,8 @@ ghost use Rattle.ill_saved.specs.Holdings.{Effects, DeskActs, DeskTakesApdu, Sen
 ghost use Rattle.ill_saved.specs.Desk.{AreAllReleased};
 
 use crate::fault::DeskFault;
-use crate::side::Action;
 use ill_core::Taking;
+use ill_record::Action;
 use ill_values::{Apdu, Number, OutOfMemory};
 use std::alloc::Global;
 

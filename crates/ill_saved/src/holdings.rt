@@ -1,11 +1,11 @@
 //! The sides that a desk holds: one side, or the sides of many transactions.
 
 ghost use Rattle.std.specs.Prelude.{◌≡◌, option_copied};
-ghost use Rattle.ill_saved.specs.Side.{shown_of};
+ghost use Rattle.ill_saved.specs.Shown.{shown_of};
 
 use crate::held::Held;
-use crate::role::Role;
 use crate::shown::Shown;
+use ill_record::Role;
 use ill_values::Apdu;
 
 /// The sides that a desk holds in memory: one side, or the sides of many transactions, with their released messages.

@@ -3,14 +3,13 @@
 ghost use Rattle.std.specs.Prelude.{◌≡◌, ◌++◌, ◌-◌, ◌≤◌, length, map, drop, Some, IfOk};
 ghost use Rattle.std.specs.List.{All, slice_get};
 ghost use Rattle.ill_der.specs.ShortForm.{encoding};
-ghost use Rattle.ill_saved.specs.Layout.{encode_all};
-ghost use Rattle.ill_saved.specs.Side.{issued_of};
-ghost use Rattle.ill_saved.specs.Records.{record_encoding};
+ghost use Rattle.ill_record.specs.Layout.{encode_all};
+ghost use Rattle.ill_record.specs.Side.{issued_of};
+ghost use Rattle.ill_record.specs.Records.{record_encoding};
 ghost use Rattle.ill_saved.specs.LandedBytes.{LandedBytes, no_landed_record, landed_bytes_of, IsLandedRecord, HoldsReleased, GoesBackTo, piece_at, IsWithin, EndsWith};
 
-use crate::encoding::encode_after;
-use crate::side::{Side, Standing};
 use ill_der::size;
+use ill_record::{Side, Standing, encode_after};
 use ill_values::{Apdu, Number, OutOfMemory};
 use std::alloc::Global;
 use std::marker::Model;

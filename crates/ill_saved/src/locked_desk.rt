@@ -7,7 +7,7 @@ ghost use Rattle.ill_saved.specs.Desk.{AreAllReleased, IsCreateAnswer, IsStartAn
 use crate::desk::Desk;
 use crate::fault::DeskFault;
 use crate::file_lock::{FileLock, LockFiles};
-use crate::role::Role;
+use ill_record::Role;
 use ill_store::FileStore;
 use std::alloc::Global;
 

@@ -1,23 +1,20 @@
 //! The side of a desk of one side.
 
 ghost use Rattle.std.specs.Prelude.{◌≡◌, ◌≤◌, length, IfOk};
-ghost use Rattle.ill_saved.specs.Side.{issued_of, idle_of, idle_side};
-ghost use Rattle.ill_saved.specs.Records.{record_encoding, record_at, begins_as_record, Decodes};
-ghost use Rattle.ill_saved.specs.Ranges.{IsSide};
+ghost use Rattle.ill_record.specs.Side.{issued_of, idle_of, idle_side};
+ghost use Rattle.ill_record.specs.Records.{record_encoding, record_at, begins_as_record, Decodes};
+ghost use Rattle.ill_record.specs.Ranges.{IsSide};
 ghost use Rattle.ill_saved.specs.Holdings.{DeskEntry};
 ghost use Rattle.ill_saved.specs.OneSide.{OneBacks, alone, one_side};
 ghost use Rattle.ill_saved.specs.LandedBytes.{HoldsReleased, IsLandedRecord};
 
-use crate::decoding::decode_record;
-use crate::fault::{DeskFault, RecordFault};
+use crate::fault::DeskFault;
 use crate::held::Held;
 use crate::holdings::Holdings;
 use crate::landed_record::LandedRecord;
-use crate::laws;
-use crate::role::Role;
 use crate::shown::Shown;
-use crate::side::{Action, Side};
 use ill_core::Taking;
+use ill_record::{Action, RecordFault, Role, Side, decode_record, laws};
 use ill_values::{Apdu, Number, OutOfMemory, TxnId};
 use std::alloc::Global;
 use std::marker::Model;

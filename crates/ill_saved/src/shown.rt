@@ -2,11 +2,12 @@
 
 ghost use Rattle.std.specs.Prelude.{◌≡◌};
 ghost use Rattle.ill_values.specs.TxnId.{Qualifiers};
-ghost use Rattle.ill_saved.specs.declared.role.Role.{Role};
-ghost use Rattle.ill_saved.specs.Side.{idle_side, shown_of};
+ghost use Rattle.ill_record.specs.declared.role.Role.{Role};
+ghost use Rattle.ill_record.specs.Side.{idle_side};
+ghost use Rattle.ill_saved.specs.Shown.{shown_of};
 
-use crate::side::Side;
 use ill_core::State;
+use ill_record::Side;
 use ill_values::Day;
 
 /// The parts of a side that a line of output shows: its state, its due date, and how many messages are released and

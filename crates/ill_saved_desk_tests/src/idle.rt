@@ -1,7 +1,7 @@
 //! Makes sides that have issued and taken no message.
 
 ghost use Rattle.std.specs.Prelude.{◌≡◌, IfSome};
-ghost use Rattle.ill_saved.specs.Side.{idle_of};
+ghost use Rattle.ill_record.specs.Side.{idle_of};
 
 use ill_desk_kit::idle_side;
 use ill_saved::Side;

@@ -2,7 +2,7 @@
 //! the cases.
 
 ghost use Rattle.std.specs.Prelude.{◌≡◌, MatchResult};
-ghost use Rattle.ill_saved.specs.declared.fault.RecordFault.TheVariants.{OutOfMemory};
+ghost use Rattle.ill_record.specs.declared.fault.RecordFault.TheVariants.{OutOfMemory};
 
 use ill_saved::{
     RecordFault, Side, Sides, decode_record, decode_record2, encode_record, encode_record2,

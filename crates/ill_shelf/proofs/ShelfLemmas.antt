@@ -1,7 +1,7 @@
 -- Proves what the names of a shelf's desks tell.
 use Rattle.std.proofs.Common.{inl, inr, refl, ℕ, Bool, List, Option, None, Some, Result, Ok, Err, IfErr}
 use Rattle.ill_values.specs.TxnId.{Qualifiers}
-use Rattle.ill_saved.specs.declared.side.Side.{Side}
+use Rattle.ill_record.specs.declared.side.Side.{Side}
 use Rattle.ill_text.specs.declared.fault.ToolFault.{ToolFault}
 use Rattle.ill_text.specs.declared.fault.ToolFault.TheVariants as faults
 use Rattle.ill_text.specs.Fault.{IsOpenFault}

@@ -8,7 +8,7 @@ use Rattle.std.proofs.lemmas.Option.{same_Some}
 use Rattle.std.proofs.lemmas.Slice.Eq.{bytes_eq-Decides}
 use Rattle.ill_values.specs.declared.apdu.Apdu.{Apdu}
 use Rattle.ill_saved.specs.Holdings.{DeskEntry}
-use Rattle.ill_saved.specs.Ranges.{Each}
+use Rattle.ill_record.specs.Ranges.{Each}
 use Rattle.ill_words.specs.Words.{◌>>=◌}
 use Rattle.ill_show.specs.declared.loan.LoanForm.TheVariants.{Lines}
 use Rattle.ill_show.specs.Kept.{kept_lines}

@@ -4,12 +4,12 @@ use Rattle.std.proofs.Common.{Some, None, refl, ap, sym, ◌∙◌}
 use Rattle.std.specs.Prelude.{slice_get, option_map, is_some}
 use Rattle.std.specs.List.{flat_map, join_by}
 use Rattle.std.proofs.lemmas.Option.{slice_get-map}
-use Rattle.ill_saved.specs.declared.side.Side.{Side}
-use Rattle.ill_saved.specs.Side.{txn_of}
-use Rattle.ill_saved.specs.Sides.{are_apart}
+use Rattle.ill_record.specs.declared.side.Side.{Side}
+use Rattle.ill_record.specs.Side.{txn_of}
+use Rattle.ill_record.specs.Sides.{are_apart}
 use Rattle.ill_saved.specs.Holdings.{DeskEntry}
 use Rattle.ill_saved.specs.ManySides.{DeskContents, held_for, sides_held}
-use Rattle.ill_saved.proofs.Finding.{some_is}
+use Rattle.ill_record.proofs.Finding.{some_is}
 use Rattle.ill_text.specs.declared.form.Form.{Form}
 use Rattle.ill_show.specs.Objects.{status_of_desk, status_text, text_of_one}
 use Rattle.ill_show.specs.Status.{spaced_or_dash}

@@ -1,8 +1,8 @@
 -- Proves what is told of bytes that are no record, or for which memory ran out.
 use Rattle.std.proofs.Common.{◌≡◌, ℕ, List, Option, Result, Ok, Err, refl, sym, inl, inr, subst}
 use Rattle.std.proofs.KnownBytes.{Appends-nil}
-use Rattle.ill_saved.specs.Sides.{SidesOf}
-use Rattle.ill_saved.specs.declared.fault.RecordFault.{RecordFault}
+use Rattle.ill_record.specs.Sides.{SidesOf}
+use Rattle.ill_record.specs.declared.fault.RecordFault.{RecordFault}
 use Rattle.ill_text.specs.declared.form.Form.{Form}
 use Rattle.ill_text.specs.declared.fault.ToolFault.{ToolFault}
 use Rattle.ill_text.specs.declared.fault.ToolFault.TheVariants.{OutOfMemory}

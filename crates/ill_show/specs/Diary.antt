@@ -13,9 +13,9 @@ use Rattle.ill_values.specs.Types.{type_name}
 use Rattle.ill_core.specs.declared.verb.Verb.{Verb}
 use Rattle.ill_core.specs.declared.verb.Verb.TheVariants as verbs
 use Rattle.ill_core.specs.Verbs.{verb_name}
-use Rattle.ill_saved.specs.declared.side.Side.{Side}
-use Rattle.ill_saved.specs.declared.side.Side.TheVariants.{Requester, Responder}
-use Rattle.ill_saved.specs.Side.{issued_of}
+use Rattle.ill_record.specs.declared.side.Side.{Side}
+use Rattle.ill_record.specs.declared.side.Side.TheVariants.{Requester, Responder}
+use Rattle.ill_record.specs.Side.{issued_of}
 use Rattle.ill_words.specs.Words.{◌>>=◌, day_of}
 use Rattle.ill_text.specs.Diary.{message_key}
 use Rattle.ill_text.specs.Escape.{escaped}

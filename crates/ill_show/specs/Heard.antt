@@ -17,8 +17,8 @@ use Rattle.ill_core.specs.Requester.{RequesterRecord, accepted_number}
 use Rattle.ill_core.specs.Requester as requesters
 use Rattle.ill_core.specs.RequesterNotices.{states_before_overdue}
 use Rattle.ill_core.specs.Responder.{ResponderRecord}
-use Rattle.ill_saved.specs.declared.side.Side.{Side}
-use Rattle.ill_saved.specs.declared.side.Side.TheVariants.{Requester, Responder}
+use Rattle.ill_record.specs.declared.side.Side.{Side}
+use Rattle.ill_record.specs.declared.side.Side.TheVariants.{Requester, Responder}
 
 -- ---- at a requester
 

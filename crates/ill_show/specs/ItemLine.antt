@@ -2,7 +2,7 @@
 use Rattle.std.specs.Prelude.{ℕ, List, [], ◌++◌, codes, Option, None, Some}
 use Rattle.ill_text.specs.Escape.{escaped}
 use Rattle.ill_text.specs.Lines.{line}
-use Rattle.ill_saved.specs.declared.side.Side.{Side}
+use Rattle.ill_record.specs.declared.side.Side.{Side}
 use Rattle.ill_words.specs.Possible.{item_asked, request_of}
 
 -- Returns the item of a loan, if there is one.

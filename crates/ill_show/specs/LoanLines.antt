@@ -6,10 +6,10 @@ use Rattle.ill_values.specs.declared.apdu.Apdu.{Apdu}
 use Rattle.ill_values.specs.Body.{Body}
 use Rattle.ill_values.specs.declared.apdu.BodyWith.TheVariants.{IllRequest}
 use Rattle.ill_core.specs.Verbs.{verb_name}
-use Rattle.ill_saved.specs.declared.side.Side.{Side}
-use Rattle.ill_saved.specs.declared.side.Side.TheVariants.{Requester, Responder}
-use Rattle.ill_saved.specs.Side.{issued_of}
-use Rattle.ill_saved.specs.SideVerbs.{turn_of}
+use Rattle.ill_record.specs.declared.side.Side.{Side}
+use Rattle.ill_record.specs.declared.side.Side.TheVariants.{Requester, Responder}
+use Rattle.ill_record.specs.Side.{issued_of}
+use Rattle.ill_record.specs.SideVerbs.{turn_of}
 use Rattle.ill_words.specs.Shown.{due_text}
 use Rattle.ill_text.specs.Escape.{escaped}
 use Rattle.ill_text.specs.Lines.{line, reply_word, shown_lines}

@@ -7,17 +7,17 @@ use Rattle.ill_values.specs.declared.apdu.Apdu.{Apdu}
 use Rattle.ill_core.specs.State.{state_name}
 use Rattle.ill_core.specs.Verbs.{verb_name}
 use Rattle.ill_core.specs.ResponderActions.{expiry_of}
-use Rattle.ill_saved.specs.declared.side.Side.{Side}
-use Rattle.ill_saved.specs.declared.side.Side.TheVariants.{Requester, Responder}
-use Rattle.ill_saved.specs.Side.{role_of, issued_of, txn_of, state_of, due_date_of}
-use Rattle.ill_saved.specs.SideVerbs.{turn_of}
+use Rattle.ill_record.specs.declared.side.Side.{Side}
+use Rattle.ill_record.specs.declared.side.Side.TheVariants.{Requester, Responder}
+use Rattle.ill_record.specs.Side.{role_of, issued_of, txn_of, state_of, due_date_of}
+use Rattle.ill_record.specs.SideVerbs.{turn_of}
 use Rattle.ill_saved.specs.Holdings.{DeskEntry}
 use Rattle.ill_text.specs.declared.form.Form.{Form}
 use Rattle.ill_text.specs.declared.form.Form.TheVariants.{Lines, Json}
 use Rattle.ill_text.specs.Json.{Field, array, day, flag, object, optional, quoted}
 use Rattle.ill_show.specs.Status.{status_lines, marks_of}
 use Rattle.ill_core.specs.Words.{turn_name}
-use Rattle.ill_saved.specs.Roles.{role_name}
+use Rattle.ill_record.specs.Roles.{role_name}
 use Rattle.ill_words.specs.Possible.{possible_on, request_of, item_asked}
 use Rattle.ill_text.specs.ApduObject.{object_line, apdu_fields}
 

@@ -8,9 +8,9 @@ use Rattle.ill_values.specs.Body.{Body}
 use Rattle.ill_values.specs.declared.apdu.BodyWith.TheVariants.{IllRequest, ConditionalReply, CancelReply, Shipped, Received}
 use Rattle.ill_values.specs.declared.apdu.BodyWith.TheVariants.{Returned, CheckedIn, Renew, RenewAnswer}
 use Rattle.ill_values.specs.Bodies.{is_requesters}
-use Rattle.ill_saved.specs.declared.side.Side.{Side}
-use Rattle.ill_saved.specs.declared.side.Side.TheVariants.{Requester, Responder}
-use Rattle.ill_saved.specs.Side.{issued_of}
+use Rattle.ill_record.specs.declared.side.Side.{Side}
+use Rattle.ill_record.specs.declared.side.Side.TheVariants.{Requester, Responder}
+use Rattle.ill_record.specs.Side.{issued_of}
 use Rattle.ill_saved.specs.Holdings.{DeskEntry}
 use Rattle.ill_show.specs.declared.picture.Link.{Link}
 use Rattle.ill_show.specs.declared.picture.Link.TheVariants.{Before, After}

@@ -6,8 +6,8 @@ use Rattle.ill_core.specs.declared.state.State.TheVariants.{NotSupplied, Shipped
 use Rattle.ill_core.specs.declared.state.State.TheVariants.{NotReceivedOverdue, Recall, Returned, CheckedIn}
 use Rattle.ill_core.specs.Requester.{is_declined, is_received_by}
 use Rattle.ill_core.specs.State.{state_name}
-use Rattle.ill_saved.specs.declared.side.Side.{Side}
-use Rattle.ill_saved.specs.declared.side.Side.TheVariants as sides
+use Rattle.ill_record.specs.declared.side.Side.{Side}
+use Rattle.ill_record.specs.declared.side.Side.TheVariants as sides
 
 -- Returns the words for a requester's state. `declined` says that it declined the conditions, `received` that it issued a
 -- Received, and `checked_in` that it has the checked-in mark. A state that no requester has keeps its name.

@@ -4,14 +4,14 @@ use Rattle.std.specs.List.{flat_map}
 use Rattle.std.specs.Fmt.{decimal}
 use Rattle.ill_core.specs.State.{state_name}
 use Rattle.ill_core.specs.Requester.{is_received_by, is_declined}
-use Rattle.ill_saved.specs.declared.side.Side.{Side}
-use Rattle.ill_saved.specs.declared.side.Side.TheVariants.{Requester, Responder}
-use Rattle.ill_saved.specs.Side.{role_of, issued_of, txn_of, state_of, due_date_of}
+use Rattle.ill_record.specs.declared.side.Side.{Side}
+use Rattle.ill_record.specs.declared.side.Side.TheVariants.{Requester, Responder}
+use Rattle.ill_record.specs.Side.{role_of, issued_of, txn_of, state_of, due_date_of}
 use Rattle.ill_saved.specs.Holdings.{DeskEntry}
 use Rattle.ill_words.specs.Words.{spaced}
 use Rattle.ill_words.specs.Shown.{due_text}
 use Rattle.ill_text.specs.Lines.{line, id_lines}
-use Rattle.ill_saved.specs.Roles.{role_name}
+use Rattle.ill_record.specs.Roles.{role_name}
 
 -- Returns the mark `word` if the Bool is true, else nothing.
 abbrev pub mark : Bool → List ℕ → List (List ℕ)

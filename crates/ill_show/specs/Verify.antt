@@ -4,15 +4,16 @@ use Rattle.std.specs.Prelude.{Some}
 use Rattle.std.specs.Prelude.{Result, Ok, Err, IfOk}
 use Rattle.std.specs.Fmt.{decimal}
 use Rattle.std.specs.Io.KnownBytes.{Appends}
-use Rattle.ill_saved.specs.declared.side.Side.{Side}
-use Rattle.ill_saved.specs.Side.{issued_of}
-use Rattle.ill_saved.specs.Sides.{SidesOf, most_sides}
-use Rattle.ill_saved.specs.RecordsV2.{is_version_1, records_at}
-use Rattle.ill_saved.specs.Faults.{of_store, place_of}
+use Rattle.ill_record.specs.declared.side.Side.{Side}
+use Rattle.ill_record.specs.Side.{issued_of}
+use Rattle.ill_record.specs.Sides.{SidesOf, most_sides}
+use Rattle.ill_record.specs.RecordsV2.{is_version_1, records_at}
+use Rattle.ill_saved.specs.Faults.{of_store}
+use Rattle.ill_record.specs.Faults.{place_of}
 use Rattle.ill_store.specs.Store.{StoreState}
-use Rattle.ill_saved.specs.declared.fault.RecordFault.{RecordFault}
-use Rattle.ill_saved.specs.declared.fault.RecordFault.TheVariants.{Short, Bad, Inconsistent, Digest}
-use Rattle.ill_saved.specs.declared.fault.RecordFault.TheVariants as records
+use Rattle.ill_record.specs.declared.fault.RecordFault.{RecordFault}
+use Rattle.ill_record.specs.declared.fault.RecordFault.TheVariants.{Short, Bad, Inconsistent, Digest}
+use Rattle.ill_record.specs.declared.fault.RecordFault.TheVariants as records
 use Rattle.ill_store.specs.declared.store.StoreFault.{StoreFault}
 use Rattle.ill_saved.specs.declared.fault.DeskFault.TheVariants.{NoRecord, Saved}
 use Rattle.ill_text.specs.declared.fault.ToolFault.{ToolFault}
@@ -22,7 +23,7 @@ use Rattle.ill_text.specs.declared.form.Form.TheVariants.{Lines, Json}
 use Rattle.ill_text.specs.ApduObject.{object_line}
 use Rattle.ill_text.specs.Json.{Field, optional, quoted}
 use Rattle.ill_text.specs.Lines.{line, number_line}
-use Rattle.ill_saved.specs.Roles.{role_name}
+use Rattle.ill_record.specs.Roles.{role_name}
 use Rattle.ill_text.specs.Fault.{desk_fault}
 use Rattle.ill_text.specs.Output.{WritesText}
 

@@ -11,7 +11,7 @@ ghost use Rattle.ill_core.specs.declared.state.State.TheVariants.{NotSupplied};
 ghost use Rattle.ill_core.specs.Requester.{RequesterRecord};
 ghost use Rattle.ill_show.specs.BadNotes.{MisjudgesNote};
 ghost use Rattle.ill_saved.specs.Holdings.{DeskEntry};
-ghost use Rattle.ill_saved.specs.Ranges.{Each};
+ghost use Rattle.ill_record.specs.Ranges.{Each};
 ghost use Rattle.ill_show.specs.Diary.{EndsWith, IsWord, Named, Said, history_lines, history_of, is_named, is_of_record, messages_of, part_of, said_by, says_of};
 ghost use Rattle.ill_text.specs.Diary.{message_key, name_or_dash, stamp_text};
 ghost use Rattle.ill_show.specs.Since.{day_told, last_day};

@@ -1,7 +1,7 @@
 //! The command `loan`.
 
 ghost use Rattle.std.specs.Prelude.{◌≡◌, [], ◌++◌, codes, map, option_map, IfOk, OnOk};
-ghost use Rattle.ill_saved.specs.Side.{txn_of};
+ghost use Rattle.ill_record.specs.Side.{txn_of};
 ghost use Rattle.ill_saved.specs.ManySides.{found_by, txn_held};
 ghost use Rattle.ill_text.specs.Json.{joined, member};
 ghost use Rattle.ill_show.specs.Diary.{history_fields, history_of, messages_of, told};

@@ -2,7 +2,7 @@
 
 ghost use Rattle.std.specs.Prelude.{◌≡◌, [], ◌∷◌, ◌++◌, map, nat_eq, codes, IfOk, OnOk};
 ghost use Rattle.std.specs.Fmt.{decimal};
-ghost use Rattle.ill_saved.specs.Side.{txn_of};
+ghost use Rattle.ill_record.specs.Side.{txn_of};
 ghost use Rattle.ill_show.specs.Numbers.{has_few_numbers, loan_named, numbers_left, numbers_line, numbers_lines, numbers_words};
 
 use ill_saved::{Side, Sides};

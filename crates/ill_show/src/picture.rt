@@ -1,7 +1,7 @@
 //! The picture of a loan, as `loan --picture` draws it.
 
 ghost use Rattle.std.specs.Prelude.{◌≡◌, ◌≤◌, ◌++◌, length, IfOk, OnOk};
-ghost use Rattle.ill_saved.specs.Side.{issued_of};
+ghost use Rattle.ill_record.specs.Side.{issued_of};
 ghost use Rattle.ill_show.specs.Picture.{answers, arrow, arrows, comes_before, drawn, drawn_byte, is_linked, is_plain, label_of, picture_of, theirs_of, through, arrow_of, with_own, with_request};
 
 use crate::kept::is_among;

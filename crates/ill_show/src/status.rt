@@ -3,8 +3,8 @@
 ghost use Rattle.std.specs.Prelude.{◌≡◌, ◌++◌, true, map, codes, slice_get, OnOk};
 ghost use Rattle.ill_text.specs.Output.{WritesText};
 ghost use Rattle.ill_core.specs.State.{state_name};
-ghost use Rattle.ill_saved.specs.Side.{state_of, due_date_of};
-ghost use Rattle.ill_saved.specs.Sides.{are_apart};
+ghost use Rattle.ill_record.specs.Side.{state_of, due_date_of};
+ghost use Rattle.ill_record.specs.Sides.{are_apart};
 ghost use Rattle.ill_saved.specs.ManySides.{sides_held};
 ghost use Rattle.ill_words.specs.Shown.{due_text};
 ghost use Rattle.ill_text.specs.Lines.{line};

@@ -1,13 +1,13 @@
 //! The command `verify`.
 
 ghost use Rattle.std.specs.Prelude.{◌≡◌, ◌≤◌, ◌++◌, [], true, map, length, OnOk};
-ghost use Rattle.ill_saved.specs.RecordsV2.{records_at};
-ghost use Rattle.ill_saved.specs.Sides.{most_sides};
+ghost use Rattle.ill_record.specs.RecordsV2.{records_at};
+ghost use Rattle.ill_record.specs.Sides.{most_sides};
 ghost use Rattle.ill_text.specs.ApduObject.{object_line};
 ghost use Rattle.ill_text.specs.Fault.{CountsToolFailure};
 ghost use Rattle.ill_text.specs.Json.{joined, member, optional, value_text};
 ghost use Rattle.std.specs.Fmt.{decimal};
-ghost use Rattle.ill_saved.specs.Faults.{place_of};
+ghost use Rattle.ill_record.specs.Faults.{place_of};
 ghost use Rattle.ill_text.specs.Output.{WritesText};
 ghost use Rattle.ill_show.specs.Verify.{RunsVerify, TellsFault, Verifies, after_fault, fault_fields, fault_word, issued_by_all, record_fields, record_text, verify_lines, version_of};
 

@@ -7,10 +7,10 @@ use Rattle.std.specs.Fmt.{decimal}
 use Rattle.std.specs.Io.KnownBytes.{Appends}
 use Rattle.ill_values.specs.Day.{Date, iso_text}
 use Rattle.ill_values.specs.TxnId.{Qualifiers}
-use Rattle.ill_saved.specs.declared.role.Role.{Role}
-use Rattle.ill_saved.specs.declared.role.Role.TheVariants.{Requester, Responder}
-use Rattle.ill_saved.specs.declared.side.Side.{Side}
-use Rattle.ill_saved.specs.Side.{due_date_of, role_of, txn_of}
+use Rattle.ill_record.specs.declared.role.Role.{Role}
+use Rattle.ill_record.specs.declared.role.Role.TheVariants.{Requester, Responder}
+use Rattle.ill_record.specs.declared.side.Side.{Side}
+use Rattle.ill_record.specs.Side.{due_date_of, role_of, txn_of}
 use Rattle.ill_saved.specs.Holdings.{DeskEntry}
 use Rattle.ill_saved.specs.declared.fault.DeskFault.TheVariants.{NoSuchTransaction}
 use Rattle.ill_words.specs.Possible.{item_asked, request_of}

@@ -4,7 +4,7 @@ ghost use Rattle.std.specs.Prelude.{◌≡◌, ◌≤◌, ◌&&◌, ◌++◌, co
 ghost use Rattle.std.specs.List.{list_all};
 ghost use Rattle.std.specs.Fmt.{decimal};
 ghost use Rattle.ill_saved.specs.ManySides.{found_by, txn_held};
-ghost use Rattle.ill_saved.specs.Side.{due_date_of, role_of, txn_of};
+ghost use Rattle.ill_record.specs.Side.{due_date_of, role_of, txn_of};
 ghost use Rattle.ill_words.specs.Possible.{item_asked, request_of};
 ghost use Rattle.ill_slip.specs.Slip.{RunsSlip, code_part, code_picture, code_width, due_part, head_part, is_plain, loan_words, names_part, role_text, slip_page, title_part};
 

@@ -1,7 +1,7 @@
 -- The way of each mail that comes to a shelf (this profile's own).
 use Rattle.std.specs.Prelude.{Bool, true, false}
-use Rattle.ill_saved.specs.declared.role.Role.{Role}
-use Rattle.ill_saved.specs.declared.role.Role.TheVariants.{Responder}
+use Rattle.ill_record.specs.declared.role.Role.{Role}
+use Rattle.ill_record.specs.declared.role.Role.TheVariants.{Responder}
 use Rattle.ill_files.specs.declared.home.Home.{Home}
 use Rattle.ill_files.specs.declared.home.Home.TheVariants as homes
 use Rattle.ill_sorting.specs.declared.sorting.Route.{Route}

@@ -5,8 +5,8 @@ use Rattle.std.specs.Prelude.{length, IsUtf8, ◌==◌, ◌||◌, ◌+◌, ◌�
 use Rattle.ill_values.specs.Day.{Date}
 use Rattle.ill_values.specs.TxnId.{Qualifiers}
 use Rattle.ill_saved.specs.declared.fault.DeskFault.{DeskFault}
-use Rattle.ill_saved.specs.declared.role.Role.{Role}
-use Rattle.ill_saved.specs.declared.side.Action.{Action}
+use Rattle.ill_record.specs.declared.role.Role.{Role}
+use Rattle.ill_record.specs.declared.side.Action.{Action}
 use Rattle.ill_text.specs.Diary.{diary_line, is_name}
 use Rattle.ill_text.specs.Fault.{desk_fault}
 use Rattle.ill_text.specs.declared.fault.ToolFault.{ToolFault}

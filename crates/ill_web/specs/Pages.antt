@@ -6,10 +6,10 @@ use Rattle.std.specs.List.{flat_map}
 use Rattle.ill_values.specs.Day.{Date}
 use Rattle.ill_values.specs.TxnId.{Qualifiers}
 use Rattle.ill_saved.specs.declared.fault.DeskFault.TheVariants.{NoSuchTransaction}
-use Rattle.ill_saved.specs.declared.role.Role.{Role}
-use Rattle.ill_saved.specs.declared.side.Side.{Side}
+use Rattle.ill_record.specs.declared.role.Role.{Role}
+use Rattle.ill_record.specs.declared.side.Side.{Side}
 use Rattle.ill_saved.specs.ManySides.{DeskContents, found_by, txn_held, sides_held}
-use Rattle.ill_saved.specs.Sides.{side_with}
+use Rattle.ill_record.specs.Sides.{side_with}
 use Rattle.ill_text.specs.declared.fault.ToolFault.{ToolFault}
 use Rattle.ill_text.specs.declared.fault.ToolFault.TheVariants as tools
 use Rattle.ill_text.specs.Fault.{IsOpenFault}

@@ -5,7 +5,7 @@ ghost use Rattle.ill_browser.specs.Wanted.{loan_asked};
 ghost use Rattle.ill_post.specs.Post.{AnswersPost, form_shown, state_of};
 ghost use Rattle.ill_post.specs.declared.answer.Posted.{Posted};
 ghost use Rattle.ill_saved.specs.declared.fault.DeskFault.{DeskFault};
-ghost use Rattle.ill_saved.specs.declared.side.Action.TheVariants.{Deed};
+ghost use Rattle.ill_record.specs.declared.side.Action.TheVariants.{Deed};
 ghost use Rattle.ill_text.specs.Fault.{IsOpenFault};
 ghost use Rattle.ill_words.specs.Words.{deed_of};
 ghost use Rattle.ill_web.specs.Actions.{action_of};

@@ -6,10 +6,10 @@ use Rattle.ill_core.specs.declared.state.State.TheVariants as states
 use Rattle.ill_core.specs.State.{is_among}
 use Rattle.ill_core.specs.Requester.{is_declined, is_received_by}
 use Rattle.ill_core.specs.Verbs.{requester_turn_in, responder_turn_in, requester_verbs_in, responder_verbs_in}
-use Rattle.ill_saved.specs.declared.side.Side.{Side}
-use Rattle.ill_saved.specs.declared.side.Side.TheVariants as sides
-use Rattle.ill_saved.specs.Side.{state_of}
-use Rattle.ill_saved.specs.SideVerbs.{verbs_of}
+use Rattle.ill_record.specs.declared.side.Side.{Side}
+use Rattle.ill_record.specs.declared.side.Side.TheVariants as sides
+use Rattle.ill_record.specs.Side.{state_of}
+use Rattle.ill_record.specs.SideVerbs.{verbs_of}
 use Rattle.ill_words.specs.Sending.{is_nobodys, is_over, wants_sending}
 use Rattle.ill_words.specs.BadSending.{MisjudgesEnd, ended, marked, unmarked, unsettled, may_act, MisjudgesSending}
 use Rattle.ill_words.specs.BadSending.{over_requester_sends, unasked_sends, asked_is_silent, open_is_silent}

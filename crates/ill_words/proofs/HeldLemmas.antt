@@ -5,12 +5,12 @@ use Rattle.std.specs.Prelude.{option_map, is_none, is_some, slice_get}
 use Rattle.std.proofs.lemmas.Bool.{and_parts}
 use Rattle.ill_values.specs.TxnId.{Qualifiers}
 use Rattle.ill_core.specs.Issued.{is_same_txn}
-use Rattle.ill_saved.specs.declared.side.Side.{Side}
-use Rattle.ill_saved.specs.Sides.{side_with, are_apart}
+use Rattle.ill_record.specs.declared.side.Side.{Side}
+use Rattle.ill_record.specs.Sides.{side_with, are_apart}
 use Rattle.ill_saved.specs.Holdings.{DeskEntry}
-use Rattle.ill_saved.specs.Side.{txn_of}
+use Rattle.ill_record.specs.Side.{txn_of}
 use Rattle.ill_saved.specs.ManySides.{DeskContents, found_by, txn_held, found_or, idle_held, held_for, sides_held}
-use Rattle.ill_saved.proofs.Finding.{same_is, same_self, some_is, found_mapped}
+use Rattle.ill_record.proofs.Finding.{same_is, same_self, some_is, found_mapped}
 
 -- ---- the side of a transaction
 

@@ -18,8 +18,8 @@ use Rattle.ill_core.specs.ResponderActions.{if_allowed, leads_to, not_now, overd
 use Rattle.ill_core.specs.Dates.{is_after_due}
 use Rattle.ill_core.specs.Verbs.{is_verb_among, requester_verbs, requester_verbs_in, responder_verbs_in}
 use Rattle.ill_core.specs.declared.responder.Deed.TheVariants as deeds
-use Rattle.ill_saved.specs.declared.side.Side.{Side}
-use Rattle.ill_saved.specs.declared.side.Side.TheVariants as sides
+use Rattle.ill_record.specs.declared.side.Side.{Side}
+use Rattle.ill_record.specs.declared.side.Side.TheVariants as sides
 use Rattle.ill_words.specs.Possible.{is_allowed, possible_on}
 
 -- No date forbids one of a requester's actions.

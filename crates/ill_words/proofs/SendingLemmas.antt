@@ -1,8 +1,8 @@
 -- Proves which sides send in a night.
 use Rattle.std.proofs.Common.{◌≡◌, Bool, true, false, not, ◌||◌, ap}
 use Rattle.std.proofs.lemmas.Bool.{or_left}
-use Rattle.ill_saved.specs.declared.side.Side.{Side}
-use Rattle.ill_saved.specs.declared.side.Side.TheVariants as sides
+use Rattle.ill_record.specs.declared.side.Side.{Side}
+use Rattle.ill_record.specs.declared.side.Side.TheVariants as sides
 use Rattle.ill_words.specs.Sending.{is_over, wants_sending}
 
 -- A side sends its messages if its loan is not over.

@@ -3,12 +3,12 @@ use Rattle.std.proofs.Common.{◌≡◌, ℕ, zero, suc, true, true≢false, ◌
 use Rattle.std.proofs.Common.{◌∙◌}
 use Rattle.std.specs.Prelude.{slice_get, option_map, is_some}
 use Rattle.std.proofs.lemmas.Option.{slice_get-map}
-use Rattle.ill_saved.specs.declared.side.Side.{Side}
-use Rattle.ill_saved.specs.Side.{txn_of}
-use Rattle.ill_saved.specs.Sides.{are_apart}
+use Rattle.ill_record.specs.declared.side.Side.{Side}
+use Rattle.ill_record.specs.Side.{txn_of}
+use Rattle.ill_record.specs.Sides.{are_apart}
 use Rattle.ill_saved.specs.Holdings.{DeskEntry}
 use Rattle.ill_saved.specs.ManySides.{DeskContents, held_for, sides_held}
-use Rattle.ill_saved.proofs.Finding.{some_is}
+use Rattle.ill_record.proofs.Finding.{some_is}
 use Rattle.ill_words.proofs.HeldLemmas.{held_at_place}
 use Rattle.std.specs.Option.{option_to_list}
 

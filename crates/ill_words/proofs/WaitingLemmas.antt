@@ -9,7 +9,7 @@ use Rattle.std.specs.Option.{option_cmp}
 use Rattle.std.specs.declared.cmp.Ordering.{Ordering}
 use Rattle.ill_values.specs.Day.{Date}
 use Rattle.ill_core.specs.Dates.{is_before}
-use Rattle.ill_saved.specs.declared.side.Side.{Side}
+use Rattle.ill_record.specs.declared.side.Side.{Side}
 use Rattle.ill_words.specs.Waiting.{deadline_of, is_sooner, is_more_urgent, most_urgent_first}
 use Rattle.ill_words.proofs.OrderLemmas.{ordered_mapped, sorted_is_ordered}
 

@@ -4,10 +4,10 @@ use Rattle.ill_core.specs.declared.state.State.TheVariants as states
 use Rattle.ill_core.specs.State.{is_among}
 use Rattle.ill_core.specs.Requester.{RequesterRecord}
 use Rattle.ill_core.specs.Responder.{ResponderRecord}
-use Rattle.ill_saved.specs.declared.side.Side.{Side}
-use Rattle.ill_saved.specs.declared.side.Side.TheVariants as sides
-use Rattle.ill_saved.specs.Side.{state_of}
-use Rattle.ill_saved.specs.SideVerbs.{verbs_of}
+use Rattle.ill_record.specs.declared.side.Side.{Side}
+use Rattle.ill_record.specs.declared.side.Side.TheVariants as sides
+use Rattle.ill_record.specs.Side.{state_of}
+use Rattle.ill_record.specs.SideVerbs.{verbs_of}
 use Rattle.ill_words.specs.Sending.{is_over}
 
 -- The Bool is a wrong answer of `is_over` for this side.

@@ -6,10 +6,10 @@ use Rattle.ill_core.specs.declared.verb.Verb.{Verb}
 use Rattle.ill_core.specs.declared.verb.Verb.TheVariants.{Overdue, Expire}
 use Rattle.ill_core.specs.Dates.{is_after_due}
 use Rattle.ill_core.specs.ResponderActions.{expiry_of}
-use Rattle.ill_saved.specs.declared.side.Side.{Side}
-use Rattle.ill_saved.specs.declared.side.Side.TheVariants.{Requester, Responder}
-use Rattle.ill_saved.specs.Side.{due_date_of}
-use Rattle.ill_saved.specs.SideVerbs.{verbs_of}
+use Rattle.ill_record.specs.declared.side.Side.{Side}
+use Rattle.ill_record.specs.declared.side.Side.TheVariants.{Requester, Responder}
+use Rattle.ill_record.specs.Side.{due_date_of}
+use Rattle.ill_record.specs.SideVerbs.{verbs_of}
 use Rattle.ill_values.specs.Body.{Body}
 use Rattle.ill_values.specs.declared.apdu.BodyWith.TheVariants.{IllRequest}
 

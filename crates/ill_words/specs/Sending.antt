@@ -2,10 +2,10 @@
 use Rattle.std.specs.Prelude.{Bool, true, false, not, ◌||◌}
 use Rattle.ill_core.specs.declared.turn.Turn.{Turn}
 use Rattle.ill_core.specs.declared.turn.Turn.TheVariants.{Over, Mine, Theirs}
-use Rattle.ill_saved.specs.declared.side.Side.{Side}
-use Rattle.ill_saved.specs.declared.side.Side.TheVariants as sides
-use Rattle.ill_saved.specs.SideVerbs.{turn_of}
-use Rattle.ill_saved.specs.declared.role.Role.TheVariants.{Requester, Responder}
+use Rattle.ill_record.specs.declared.side.Side.{Side}
+use Rattle.ill_record.specs.declared.side.Side.TheVariants as sides
+use Rattle.ill_record.specs.SideVerbs.{turn_of}
+use Rattle.ill_record.specs.declared.role.Role.TheVariants.{Requester, Responder}
 
 -- Returns true if nobody acts next.
 abbrev pub is_nobodys : Turn → Bool

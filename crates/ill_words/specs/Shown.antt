@@ -3,8 +3,8 @@ use Rattle.std.specs.Prelude.{ℕ, List, ◌++◌, Option, Some, None, codes}
 use Rattle.std.specs.Fmt.{decimal}
 use Rattle.ill_values.specs.Day.{Date, date_text}
 use Rattle.ill_core.specs.State.{state_name}
-use Rattle.ill_saved.specs.declared.side.Side.{Side}
-use Rattle.ill_saved.specs.Side.{shown_of}
+use Rattle.ill_record.specs.declared.side.Side.{Side}
+use Rattle.ill_saved.specs.Shown.{shown_of}
 use Rattle.ill_saved.specs.declared.shown.Shown.{Shown}
 
 -- Returns the text of a due date, or a dash if there is none.

@@ -6,9 +6,9 @@ use Rattle.ill_core.specs.declared.turn.Turn.{Turn}
 use Rattle.ill_core.specs.declared.turn.Turn.TheVariants.{Over, Mine, Theirs}
 use Rattle.ill_core.specs.Dates.{is_before}
 use Rattle.ill_core.specs.ResponderActions.{expiry_of}
-use Rattle.ill_saved.specs.declared.side.Side.{Side}
-use Rattle.ill_saved.specs.Side.{due_date_of}
-use Rattle.ill_saved.specs.SideVerbs.{turn_of, verbs_of}
+use Rattle.ill_record.specs.declared.side.Side.{Side}
+use Rattle.ill_record.specs.Side.{due_date_of}
+use Rattle.ill_record.specs.SideVerbs.{turn_of, verbs_of}
 use Rattle.ill_words.specs.Possible.{request_of}
 
 -- ---- turns

@@ -14,8 +14,8 @@ use Rattle.ill_core.specs.declared.requester.Wish.TheVariants.{Request, Cancel, 
 use Rattle.ill_core.specs.declared.responder.Deed.{Deed}
 use Rattle.ill_core.specs.declared.responder.Deed.TheVariants.{Answer, CancelReply, Ship, RenewAnswer, Overdue, Recall, CheckIn}
 use Rattle.ill_core.specs.declared.responder.Deed.TheVariants.{Expire}
-use Rattle.ill_saved.specs.declared.role.Role.{Role}
-use Rattle.ill_saved.specs.declared.role.Role.TheVariants.{Requester, Responder}
+use Rattle.ill_record.specs.declared.role.Role.{Role}
+use Rattle.ill_record.specs.declared.role.Role.TheVariants.{Requester, Responder}
 
 infixl 10 ◌>>=◌
 -- Returns `next` of a value, or None if there is no value.

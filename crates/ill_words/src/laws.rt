@@ -1,7 +1,7 @@
 //! The laws of these words are the contracts of functions that do nothing.
 
 ghost use Rattle.std.specs.Prelude.{Bool};
-ghost use Rattle.ill_saved.specs.declared.side.Side.{Side};
+ghost use Rattle.ill_record.specs.declared.side.Side.{Side};
 ghost use Rattle.ill_words.specs.Sending.{is_over, wants_sending};
 ghost use Rattle.ill_words.specs.BadSending.{MisjudgesEnd, MisjudgesSending};
 

@@ -10,7 +10,7 @@ ghost use Rattle.ill_core.specs.Responder.{ResponderRecord};
 ghost use Rattle.ill_core.specs.ResponderActions.{expiry_of, transition_of};
 ghost use Rattle.ill_core.specs.declared.responder.Deed.TheVariants as deeds;
 ghost use Rattle.ill_core.specs.declared.verb.Verb.TheVariants as verbs;
-ghost use Rattle.ill_saved.specs.declared.side.Side.TheVariants as sides;
+ghost use Rattle.ill_record.specs.declared.side.Side.TheVariants as sides;
 ghost use Rattle.ill_words.specs.Possible.{is_allowed, is_past, last_day, possible_on, request_of, item_asked};
 
 use ill_core::Verb;

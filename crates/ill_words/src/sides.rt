@@ -2,7 +2,7 @@
 
 ghost use Rattle.std.specs.Prelude.{◌≡◌, ◌++◌, true, map, slice_get, IfOk, OnOk};
 ghost use Rattle.std.specs.Option.{option_to_list};
-ghost use Rattle.ill_saved.specs.Sides.{are_apart};
+ghost use Rattle.ill_record.specs.Sides.{are_apart};
 ghost use Rattle.ill_saved.specs.ManySides.{sides_held};
 ghost use Rattle.ill_words.specs.Sides.{held_of};
 

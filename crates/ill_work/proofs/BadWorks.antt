@@ -3,7 +3,7 @@ use Rattle.std.proofs.Common.{refl, rules, arith, ◌≡◌, ℕ, false}
 use Rattle.std.proofs.lemmas.Bool.Decides.{nat_tests}
 use Rattle.ill_values.specs.Day.{Date}
 use Rattle.ill_core.specs.Dates.{is_before}
-use Rattle.ill_saved.specs.declared.side.Side.{Side}
+use Rattle.ill_record.specs.declared.side.Side.{Side}
 use Rattle.ill_work.specs.declared.work.Work.{Work}
 use Rattle.ill_work.specs.BadWork.{MisjudgesWork, disturbs_reader, misses_due, takes_today_for_past, keeps_overdue}
 use Rattle.ill_work.specs.BadWork.{keeps_recalled, returns_unreceived, forgets_parcel, forgets_conditions, declines_again}

@@ -4,8 +4,8 @@ use Rattle.ill_values.specs.Day.{Date}
 use Rattle.ill_core.specs.declared.verb.Verb.{Verb}
 use Rattle.ill_core.specs.Requester.{is_declined, is_received_by}
 use Rattle.ill_core.specs.Verbs.{is_verb_among}
-use Rattle.ill_saved.specs.declared.side.Side.{Side}
-use Rattle.ill_saved.specs.declared.side.Side.TheVariants as sides
+use Rattle.ill_record.specs.declared.side.Side.{Side}
+use Rattle.ill_record.specs.declared.side.Side.TheVariants as sides
 use Rattle.ill_words.specs.Possible.{possible_on}
 use Rattle.ill_work.specs.Work.{work_verbs}
 use Rattle.ill_work.specs.Table.{kind_of_work, dates_on}

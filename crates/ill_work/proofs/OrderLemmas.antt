@@ -6,7 +6,7 @@ use Rattle.std.proofs.lemmas.List.Sorted.{IsPermutation-middle}
 use Rattle.std.specs.Prelude.{IsPermutation}
 use Rattle.std.specs.List.Sorted.{IsSortedByKey, IsStableByKey, IsSortedBy, IsStableBy}
 use Rattle.ill_values.specs.Day.{Date}
-use Rattle.ill_saved.specs.declared.side.Side.{Side}
+use Rattle.ill_record.specs.declared.side.Side.{Side}
 use Rattle.ill_words.specs.Waiting.{ordered, placed, most_urgent_first}
 use Rattle.ill_work.specs.Order.{most_pressing_first}
 use Rattle.ill_words.proofs.OrderLemmas.{ordered_mapped, sorted_is_ordered}

@@ -8,7 +8,7 @@ use Rattle.ill_core.specs.declared.verb.Verb.{Verb}
 use Rattle.ill_core.specs.State.{is_among}
 use Rattle.ill_core.specs.Requester.{later}
 use Rattle.ill_core.specs.Verbs.{is_verb_among, requester_verbs_in, requester_turn_in}
-use Rattle.ill_saved.specs.declared.side.Side.{Side}
+use Rattle.ill_record.specs.declared.side.Side.{Side}
 use Rattle.ill_words.specs.Possible.{is_allowed}
 use Rattle.ill_words.specs.Waiting.{is_turn}
 use Rattle.ill_work.specs.declared.dates.Dates.{Dates}

@@ -14,7 +14,7 @@ use Rattle.ill_core.specs.State.{is_among}
 use Rattle.ill_core.specs.Responder.{ResponderRecord, later, due_of}
 use Rattle.ill_core.specs.ResponderActions.{acts, expiry_of}
 use Rattle.ill_core.specs.Verbs.{is_verb_among, is_now, responder_verbs, responder_verbs_in, responder_turn_in, deed_verb}
-use Rattle.ill_saved.specs.declared.side.Side.TheVariants as sides
+use Rattle.ill_record.specs.declared.side.Side.TheVariants as sides
 use Rattle.ill_words.specs.Possible.{is_allowed}
 use Rattle.ill_words.specs.Waiting.{is_turn}
 use Rattle.ill_work.specs.declared.dates.Dates.{Dates}

@@ -15,9 +15,9 @@ use Rattle.ill_core.specs.Responder.{ResponderRecord, due_of}
 use Rattle.ill_core.specs.ResponderRules.{ResponderRules}
 use Rattle.ill_core.proofs.ResponderLists.{due_there, no_grants}
 use Rattle.ill_core.proofs.Rules.{requester_rules, responder_rules}
-use Rattle.ill_saved.specs.declared.side.Side.{Side}
-use Rattle.ill_saved.specs.declared.side.Side.TheVariants as sides
-use Rattle.ill_saved.specs.Side.{IsConsistent}
+use Rattle.ill_record.specs.declared.side.Side.{Side}
+use Rattle.ill_record.specs.declared.side.Side.TheVariants as sides
+use Rattle.ill_record.specs.Side.{IsConsistent}
 use Rattle.ill_words.specs.Waiting.{deadline_of, is_sooner, is_turn, turn_on}
 use Rattle.ill_work.specs.declared.work.Work.TheVariants as kinds
 use Rattle.ill_work.specs.Work.{wants_a_hand, is_work_among}

@@ -7,9 +7,9 @@ use Rattle.ill_core.specs.declared.turn.Turn.TheVariants.{Mine}
 use Rattle.ill_core.specs.declared.verb.Verb.{Verb}
 use Rattle.ill_core.specs.Requester.{is_declined, is_received_by}
 use Rattle.ill_core.specs.Verbs.{is_verb_among}
-use Rattle.ill_saved.specs.declared.side.Side.{Side}
-use Rattle.ill_saved.specs.declared.side.Side.TheVariants as sides
-use Rattle.ill_saved.specs.SideVerbs.{turn_of}
+use Rattle.ill_record.specs.declared.side.Side.{Side}
+use Rattle.ill_record.specs.declared.side.Side.TheVariants as sides
+use Rattle.ill_record.specs.SideVerbs.{turn_of}
 use Rattle.ill_words.specs.Possible.{possible_on}
 use Rattle.ill_words.specs.Waiting.{is_turn}
 use Rattle.ill_work.specs.declared.dates.Dates.{Dates}

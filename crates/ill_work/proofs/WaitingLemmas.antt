@@ -10,9 +10,9 @@ use Rattle.ill_values.specs.declared.fault.DayFault.TheVariants.{OutOfRange}
 use Rattle.ill_core.specs.declared.state.State.{State}
 use Rattle.ill_core.specs.Dates.{is_before, is_after_due}
 use Rattle.ill_core.specs.Requester.{is_declined, is_received_by}
-use Rattle.ill_saved.specs.declared.side.Side.{Side}
-use Rattle.ill_saved.specs.declared.side.Side.TheVariants as sides
-use Rattle.ill_saved.specs.Side.{due_date_of}
+use Rattle.ill_record.specs.declared.side.Side.{Side}
+use Rattle.ill_record.specs.declared.side.Side.TheVariants as sides
+use Rattle.ill_record.specs.Side.{due_date_of}
 use Rattle.ill_words.specs.Possible.{request_of}
 use Rattle.ill_core.specs.ResponderActions.{expiry_of}
 use Rattle.ill_work.specs.declared.dates.Dates.{Dates}

@@ -9,8 +9,8 @@ use Rattle.ill_core.specs.Requester.{RequesterRecord, is_declined, is_received_b
 use Rattle.ill_core.specs.Responder.{ResponderRecord, due_of}
 use Rattle.ill_core.specs.ResponderActions.{expiry_of}
 use Rattle.ill_core.specs.Verbs.{is_verb_among}
-use Rattle.ill_saved.specs.declared.side.Side.{Side}
-use Rattle.ill_saved.specs.declared.side.Side.TheVariants as sides
+use Rattle.ill_record.specs.declared.side.Side.{Side}
+use Rattle.ill_record.specs.declared.side.Side.TheVariants as sides
 use Rattle.ill_words.specs.Possible.{request_of}
 use Rattle.ill_words.specs.Sending.{is_over}
 use Rattle.ill_work.specs.declared.work.Work.{Work}

@@ -1,7 +1,7 @@
 -- Loans in the order of their kinds of work, and the number of loans of each kind (this profile's own).
 use Rattle.std.specs.Prelude.{ℕ, Bool, nat_lt, List, [], ◌∷◌, count_by}
 use Rattle.ill_values.specs.Day.{Date}
-use Rattle.ill_saved.specs.declared.side.Side.{Side}
+use Rattle.ill_record.specs.declared.side.Side.{Side}
 use Rattle.ill_words.specs.Waiting.{ordered, most_urgent_first}
 use Rattle.ill_work.specs.declared.work.Work.{Work}
 use Rattle.ill_work.specs.Work.{is_work_among, urgency_of}

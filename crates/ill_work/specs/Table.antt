@@ -8,9 +8,9 @@ use Rattle.ill_core.specs.Requester.{RequesterRecord, is_declined, is_received_b
 use Rattle.ill_core.specs.Responder.{ResponderRecord}
 use Rattle.ill_core.specs.ResponderActions.{expiry_of}
 use Rattle.ill_core.specs.Dates.{is_after_due}
-use Rattle.ill_saved.specs.declared.side.Side.{Side}
-use Rattle.ill_saved.specs.declared.side.Side.TheVariants as sides
-use Rattle.ill_saved.specs.Side.{due_date_of}
+use Rattle.ill_record.specs.declared.side.Side.{Side}
+use Rattle.ill_record.specs.declared.side.Side.TheVariants as sides
+use Rattle.ill_record.specs.Side.{due_date_of}
 use Rattle.ill_words.specs.Possible.{request_of}
 use Rattle.ill_work.specs.Dates.{is_due_within}
 use Rattle.ill_work.specs.declared.dates.Dates.{Dates}

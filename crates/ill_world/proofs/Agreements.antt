@@ -16,9 +16,9 @@ use Rattle.ill_core.specs.Requester.{RequesterRecord, later}
 use Rattle.ill_core.specs.RequesterEvidence as requester
 use Rattle.ill_core.specs.Responder.{ResponderRecord, later as shipped_states}
 use Rattle.ill_core.specs.ResponderEvidence as responder
-use Rattle.ill_saved.specs.declared.side.Side.{Side}
-use Rattle.ill_saved.specs.declared.side.Side.TheVariants as sides
-use Rattle.ill_saved.specs.Side.{issued_of}
+use Rattle.ill_record.specs.declared.side.Side.{Side}
+use Rattle.ill_record.specs.declared.side.Side.TheVariants as sides
+use Rattle.ill_record.specs.Side.{issued_of}
 use Rattle.ill_world.specs.World.{Party, Parties, sent_message}
 use Rattle.ill_world.specs.Safety.{OfBoth}
 use Rattle.ill_world.specs.Agreement.{AnswersOnce, EndsOnce, Facing, AcceptedBy, IsNotLater, SaysTrue, Agrees}

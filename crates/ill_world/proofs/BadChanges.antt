@@ -1,7 +1,7 @@
 -- The definitions of changes exclude each case of `BadChanges`.
 use Rattle.std.proofs.Common.{◌≡◌, true, sym}
 use Rattle.std.proofs.lemmas.Bool.{true≢false}
-use Rattle.ill_saved.specs.declared.role.Role.TheVariants as who
+use Rattle.ill_record.specs.declared.role.Role.TheVariants as who
 use Rattle.ill_words.specs.declared.outcome.Outcome.{Outcome}
 use Rattle.ill_world.specs.World.{Party, Parties}
 use Rattle.ill_world.specs.Changes.{OnlyLands, OnlyLandedChanges, MayChange, KeepsSent, can_be_seen}

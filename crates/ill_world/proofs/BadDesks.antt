@@ -9,13 +9,13 @@ use Rattle.ill_core.specs.declared.state.State.{State}
 use Rattle.ill_core.specs.declared.state.State.TheVariants as states
 use Rattle.ill_values.specs.Bodies.{is_end, is_ill_request, is_returned}
 use Rattle.ill_core.specs.Issued.{is_same_txn}
-use Rattle.ill_saved.specs.declared.role.Role.{Role}
-use Rattle.ill_saved.specs.declared.role.Role.TheVariants as who
-use Rattle.ill_saved.specs.Side.{other}
+use Rattle.ill_record.specs.declared.role.Role.{Role}
+use Rattle.ill_record.specs.declared.role.Role.TheVariants as who
+use Rattle.ill_record.specs.Side.{other}
 use Rattle.ill_saved.specs.Holdings.{DeskEntry}
 use Rattle.ill_saved.specs.ManySides.{found_by, txn_held, held_for}
-use Rattle.ill_saved.specs.declared.side.Side.{Side}
-use Rattle.ill_saved.proofs.Finding.{same_is, same_self}
+use Rattle.ill_record.specs.declared.side.Side.{Side}
+use Rattle.ill_record.proofs.Finding.{same_is, same_self}
 use Rattle.ill_world.specs.declared.event.DeskEvent.{DeskEvent}
 use Rattle.ill_world.specs.declared.event.DeskEvent.TheVariants as events
 use Rattle.ill_words.specs.declared.outcome.Outcome.{Outcome}

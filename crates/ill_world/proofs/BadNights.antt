@@ -4,8 +4,8 @@ use Rattle.std.proofs.lemmas.Bool.{true≢false, and_from}
 use Rattle.ill_core.specs.Issued.{is_none}
 use Rattle.ill_core.specs.Requester.{RequesterRecord}
 use Rattle.ill_core.specs.Responder.{ResponderRecord}
-use Rattle.ill_saved.specs.declared.side.Side.{Side}
-use Rattle.ill_saved.specs.Side.{issued_of}
+use Rattle.ill_record.specs.declared.side.Side.{Side}
+use Rattle.ill_record.specs.Side.{issued_of}
 use Rattle.ill_words.specs.Sending.{wants_sending}
 use Rattle.ill_world.specs.Night.{asks, AtRest}
 use Rattle.ill_world.specs.BadNights.{MisjudgesAsking, over_asks, idle_asks, open_asks_not, Restless, open_requester}

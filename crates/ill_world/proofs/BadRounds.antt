@@ -4,10 +4,10 @@ use Rattle.std.proofs.Common.{rules, inl, inr, List, Err, refl, sym, subst}
 use Rattle.std.proofs.lemmas.Bool.{true≢false}
 use Rattle.ill_core.specs.Requester.{RequesterRecord}
 use Rattle.ill_core.specs.Responder.{ResponderRecord}
-use Rattle.ill_saved.specs.declared.side.Side.{Side}
-use Rattle.ill_saved.specs.declared.side.Side.TheVariants as sides
-use Rattle.ill_saved.specs.declared.role.Role.{Role}
-use Rattle.ill_saved.specs.declared.role.Role.TheVariants as who
+use Rattle.ill_record.specs.declared.side.Side.{Side}
+use Rattle.ill_record.specs.declared.side.Side.TheVariants as sides
+use Rattle.ill_record.specs.declared.role.Role.{Role}
+use Rattle.ill_record.specs.declared.role.Role.TheVariants as who
 use Rattle.ill_world.specs.declared.event.Event.{Event}
 use Rattle.ill_world.specs.World.{Parties, run_of, run_by}
 use Rattle.ill_world.specs.Agreement.{Facing}

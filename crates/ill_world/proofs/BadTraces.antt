@@ -1,7 +1,7 @@
 -- A simulation writes no trace of `Leaves` or `IsOfNoPrefix`, and has no result of `Misreports`.
 use Rattle.std.proofs.Common.{arith, rules, ◌≡◌, ℕ, List, [], ◌∷◌, ◌++◌, length, Option, Some, None, Result, Err, refl, sym}
 use Rattle.std.proofs.Common.{ap, ◌∙◌, subst, append_assoc, append-nil, length-append}
-use Rattle.ill_saved.specs.Side.{IsPrefix}
+use Rattle.ill_record.specs.Side.{IsPrefix}
 use Rattle.ill_world.specs.declared.fault.SimFault.{SimFault}
 use Rattle.ill_world.specs.declared.fault.SimFault.TheVariants.{Write, OutOfMemory}
 use Rattle.ill_world.specs.Play.{Play, Progress, Streams, reading_on, broken_on, trace_on, Plays}

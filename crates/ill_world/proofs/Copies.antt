@@ -3,12 +3,12 @@ use Rattle.std.proofs.Common.{arith, rules, ◌≡◌, List, Option, inl, inr, r
 use Rattle.ill_values.specs.TxnId.{Qualifiers}
 use Rattle.ill_values.specs.declared.apdu.Apdu.{Apdu}
 use Rattle.ill_core.specs.declared.state.State.TheVariants as states
-use Rattle.ill_saved.specs.declared.side.Side.{Side}
-use Rattle.ill_saved.specs.Side.{issued_of}
-use Rattle.ill_saved.specs.Sides.{SidesOf}
+use Rattle.ill_record.specs.declared.side.Side.{Side}
+use Rattle.ill_record.specs.Side.{issued_of}
+use Rattle.ill_record.specs.Sides.{SidesOf}
 use Rattle.ill_saved.specs.ManySides.{side_for}
-use Rattle.ill_saved.specs.declared.role.Role.{Role}
-use Rattle.ill_saved.specs.declared.role.Role.TheVariants as who
+use Rattle.ill_record.specs.declared.role.Role.{Role}
+use Rattle.ill_record.specs.declared.role.Role.TheVariants as who
 use Rattle.ill_world.specs.declared.event.Event.{Event}
 use Rattle.ill_world.specs.declared.event.DeskEvent.{DeskEvent}
 use Rattle.ill_world.specs.World.{Party, Parties, party, restarts, run_of, run_by}

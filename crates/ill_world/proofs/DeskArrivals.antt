@@ -10,14 +10,14 @@ use Rattle.ill_values.specs.Bodies.{is_ill_request, is_returned, is_shipped}
 use Rattle.ill_core.specs.Issued.{message, has_message_with, is_none}
 use Rattle.ill_core.specs.Rules.{implies}
 use Rattle.ill_core.specs.ResponderEvidence as responder
-use Rattle.ill_saved.specs.declared.role.Role.{Role}
-use Rattle.ill_saved.specs.declared.role.Role.TheVariants as who
-use Rattle.ill_saved.specs.declared.side.Side.{Side}
-use Rattle.ill_saved.specs.declared.side.Side.TheVariants as sides
-use Rattle.ill_saved.specs.Side.{other, issued_of, idle_side}
+use Rattle.ill_record.specs.declared.role.Role.{Role}
+use Rattle.ill_record.specs.declared.role.Role.TheVariants as who
+use Rattle.ill_record.specs.declared.side.Side.{Side}
+use Rattle.ill_record.specs.declared.side.Side.TheVariants as sides
+use Rattle.ill_record.specs.Side.{other, issued_of, idle_side}
 use Rattle.ill_saved.specs.Holdings.{DeskEntry}
 use Rattle.ill_saved.specs.ManySides.{held_for, found_or, idle_held, found_by, txn_held}
-use Rattle.ill_saved.proofs.Finding.{same_self}
+use Rattle.ill_record.proofs.Finding.{same_self}
 use Rattle.ill_world.specs.declared.event.DeskEvent.{DeskEvent}
 use Rattle.ill_world.specs.declared.event.DeskEvent.TheVariants as desk_events
 use Rattle.ill_world.specs.declared.event.Event.{Event}

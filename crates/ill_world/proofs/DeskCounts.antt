@@ -16,17 +16,17 @@ use Rattle.ill_values.specs.Bodies.{is_ill_request}
 use Rattle.ill_core.specs.Issued.{message, is_same_txn}
 use Rattle.ill_saved.specs.declared.fault.DeskFault.{DeskFault}
 use Rattle.ill_saved.specs.declared.fault.DeskFault.TheVariants as faults
-use Rattle.ill_saved.specs.declared.role.Role.{Role}
-use Rattle.ill_saved.specs.declared.role.Role.TheVariants as who
-use Rattle.ill_saved.specs.declared.side.Side.{Side}
-use Rattle.ill_saved.specs.declared.side.Action.{Action}
-use Rattle.ill_saved.specs.declared.side.Action.TheVariants as actions
-use Rattle.ill_saved.specs.Side.{issued_of, txn_of, other, idle_side, acts, takes, acted, took, begins}
-use Rattle.ill_saved.specs.Sides.{found_by, is_same_role, most_sides, side_with}
+use Rattle.ill_record.specs.declared.role.Role.{Role}
+use Rattle.ill_record.specs.declared.role.Role.TheVariants as who
+use Rattle.ill_record.specs.declared.side.Side.{Side}
+use Rattle.ill_record.specs.declared.side.Action.{Action}
+use Rattle.ill_record.specs.declared.side.Action.TheVariants as actions
+use Rattle.ill_record.specs.Side.{issued_of, txn_of, other, idle_side, acts, takes, acted, took, begins}
+use Rattle.ill_record.specs.Sides.{found_by, is_same_role, most_sides, side_with}
 use Rattle.ill_saved.specs.Holdings.{DeskEntry, whole}
 use Rattle.ill_saved.specs.ManySides.{txn_held, idle_held, found_or, with_held, held_or_begun, side_for_call, is_own}
 use Rattle.ill_saved.specs.ManySides.{acted as acted_at, acts_reached, contents_after_message as took_at, takes_reached}
-use Rattle.ill_saved.proofs.Finding.{same_is, same_self, apart_back, found_is, keys_put, put_last}
+use Rattle.ill_record.proofs.Finding.{same_is, same_self, apart_back, found_is, keys_put, put_last}
 use Rattle.ill_world.specs.declared.event.DeskEvent.{DeskEvent}
 use Rattle.ill_world.specs.declared.event.DeskEvent.TheVariants as desk_events
 use Rattle.ill_words.specs.declared.outcome.DeskOutcome.{DeskOutcome}

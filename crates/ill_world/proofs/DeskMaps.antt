@@ -6,9 +6,9 @@ use Rattle.std.proofs.lemmas.List.{map-append}
 use Rattle.ill_values.specs.TxnId.{Qualifiers}
 use Rattle.ill_values.specs.declared.apdu.Apdu.{Apdu}
 use Rattle.ill_core.specs.Issued.{is_same_txn}
-use Rattle.ill_saved.specs.Sides.{found_by, put_by}
+use Rattle.ill_record.specs.Sides.{found_by, put_by}
 use Rattle.ill_saved.specs.ManySides.{found_or}
-use Rattle.ill_saved.proofs.Finding.{same_is, put_last, some_is}
+use Rattle.ill_record.proofs.Finding.{same_is, put_last, some_is}
 use Rattle.ill_world.specs.World.{nothing_sent, sent_message, with_sent}
 use Rattle.ill_world.specs.Desks.{Sending, txn_sent, sent_for, with_sent_for}
 use Rattle.ill_world.specs.DeskRefinement.{sendings_of, BecomesAmong}

@@ -6,13 +6,14 @@ use Rattle.std.proofs.lemmas.Bool.{or_parts, or_from}
 use Rattle.ill_values.specs.TxnId.{Qualifiers}
 use Rattle.ill_values.specs.declared.apdu.Apdu.{Apdu}
 use Rattle.ill_core.specs.Issued.{is_same_txn}
-use Rattle.ill_saved.specs.declared.role.Role.{Role}
-use Rattle.ill_saved.specs.declared.role.Role.TheVariants as who
-use Rattle.ill_saved.specs.declared.side.Side.{Side}
-use Rattle.ill_saved.specs.Side.{issued_of, txn_of, idle_side}
-use Rattle.ill_saved.specs.Sides.{found_by, side_with}
+use Rattle.ill_record.specs.declared.role.Role.{Role}
+use Rattle.ill_record.specs.declared.role.Role.TheVariants as who
+use Rattle.ill_record.specs.declared.side.Side.{Side}
+use Rattle.ill_record.specs.Side.{issued_of, txn_of, idle_side}
+use Rattle.ill_record.specs.Sides.{found_by, side_with}
 use Rattle.ill_saved.specs.ManySides.{DeskContents, found_or, held_for, sides_held}
-use Rattle.ill_saved.proofs.Finding.{same_is, side_of_held}
+use Rattle.ill_record.proofs.Finding.{same_is}
+use Rattle.ill_saved.proofs.Contents.{side_of_held}
 use Rattle.ill_world.specs.declared.event.Event.{Event}
 use Rattle.ill_world.specs.declared.event.Event.TheVariants as events
 use Rattle.ill_world.specs.declared.event.DeskEvent.TheVariants as desk_events

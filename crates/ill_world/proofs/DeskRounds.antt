@@ -15,15 +15,16 @@ use Rattle.ill_values.specs.Bodies.{is_ill_request, is_requesters}
 use Rattle.ill_core.specs.Issued.{message, is_same_txn, first_refusal}
 use Rattle.ill_core.specs.Responder.{ResponderRecord, responder_of}
 use Rattle.ill_core.specs.ResponderDeliveries.{take_message}
-use Rattle.ill_saved.specs.declared.role.Role.{Role}
-use Rattle.ill_saved.specs.declared.role.Role.TheVariants as who
-use Rattle.ill_saved.specs.declared.side.Side.{Side}
-use Rattle.ill_saved.specs.declared.side.Side.TheVariants as sides
-use Rattle.ill_saved.specs.Side.{issued_of, txn_of, idle_side, other, takes}
-use Rattle.ill_saved.specs.Sides.{found_by, side_with}
+use Rattle.ill_record.specs.declared.role.Role.{Role}
+use Rattle.ill_record.specs.declared.role.Role.TheVariants as who
+use Rattle.ill_record.specs.declared.side.Side.{Side}
+use Rattle.ill_record.specs.declared.side.Side.TheVariants as sides
+use Rattle.ill_record.specs.Side.{issued_of, txn_of, idle_side, other, takes}
+use Rattle.ill_record.specs.Sides.{found_by, side_with}
 use Rattle.ill_saved.specs.Holdings.{DeskEntry}
 use Rattle.ill_saved.specs.ManySides.{DeskContents, txn_held, idle_held, found_or, held_for, sides_held}
-use Rattle.ill_saved.proofs.Finding.{same_is, same_self, side_of_held}
+use Rattle.ill_record.proofs.Finding.{same_is, same_self}
+use Rattle.ill_saved.proofs.Contents.{side_of_held}
 use Rattle.ill_world.specs.declared.event.Event.TheVariants as events
 use Rattle.ill_world.specs.declared.event.DeskEvent.{DeskEvent}
 use Rattle.ill_world.specs.declared.event.DeskEvent.TheVariants as desk_events

@@ -12,10 +12,10 @@ use Rattle.ill_core.specs.Requester.{RequesterRecord, is_declined}
 use Rattle.ill_core.specs.Responder.{ResponderRecord}
 use Rattle.ill_core.specs.ResponderEvidence as responder
 use Rattle.ill_core.specs.Verbs.{requester_turn_in, responder_turn_in}
-use Rattle.ill_saved.specs.declared.role.Role.TheVariants as who
-use Rattle.ill_saved.specs.declared.side.Side.{Side}
-use Rattle.ill_saved.specs.declared.side.Side.TheVariants as sides
-use Rattle.ill_saved.specs.Side.{issued_of}
+use Rattle.ill_record.specs.declared.role.Role.TheVariants as who
+use Rattle.ill_record.specs.declared.side.Side.{Side}
+use Rattle.ill_record.specs.declared.side.Side.TheVariants as sides
+use Rattle.ill_record.specs.Side.{issued_of}
 use Rattle.ill_world.specs.declared.event.Event.{Event}
 use Rattle.ill_world.specs.declared.event.Event.TheVariants.{Save}
 use Rattle.ill_world.specs.World.{Parties, happens, run_by, run_of}

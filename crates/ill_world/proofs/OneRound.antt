@@ -27,10 +27,10 @@ use Rattle.ill_core.specs.ResponderDeliveries as responder_deliveries
 use Rattle.ill_core.specs.ResponderEvidence.{IssuesUnfilled, Ends}
 use Rattle.ill_core.specs.ResponderNotices as records
 use Rattle.ill_core.specs.ResponderNotices.{is_recall, grant, grant_of}
-use Rattle.ill_saved.specs.declared.side.Side.{Side}
-use Rattle.ill_saved.specs.declared.side.Side.TheVariants as sides
-use Rattle.ill_saved.specs.Side.{issued_of, IsPrefix}
-use Rattle.ill_saved.specs.declared.role.Role.TheVariants as who
+use Rattle.ill_record.specs.declared.side.Side.{Side}
+use Rattle.ill_record.specs.declared.side.Side.TheVariants as sides
+use Rattle.ill_record.specs.Side.{issued_of, IsPrefix}
+use Rattle.ill_record.specs.declared.role.Role.TheVariants as who
 use Rattle.ill_world.specs.declared.event.Event.{Event}
 use Rattle.ill_world.specs.World.{Parties, happens, run_of}
 use Rattle.ill_world.specs.Agreement.{Facing}

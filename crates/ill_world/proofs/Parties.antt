@@ -4,10 +4,10 @@ use Rattle.ill_values.specs.declared.apdu.Apdu.{Apdu}
 use Rattle.ill_der.specs.declared.fault.DerFault.{DerFault}
 use Rattle.ill_core.specs.declared.refusal.Refusal.{Refusal}
 use Rattle.ill_core.specs.declared.taking.Taking.{Taking}
-use Rattle.ill_saved.specs.declared.side.Side.{Side}
+use Rattle.ill_record.specs.declared.side.Side.{Side}
 use Rattle.ill_saved.specs.declared.fault.DeskFault.{DeskFault}
 use Rattle.ill_saved.specs.declared.fault.DeskFault.TheVariants as faults
-use Rattle.ill_saved.specs.Side.{idle_of, takes, IsSideTransition, Grows, took}
+use Rattle.ill_record.specs.Side.{idle_of, takes, IsSideTransition, Grows, took}
 use Rattle.ill_saved.specs.Holdings.{DeskEntry}
 use Rattle.ill_saved.specs.OneSide.{one_acts, one_side, with_side}
 use Rattle.ill_saved.specs.Desk.{DeskTakes}

@@ -12,20 +12,21 @@ use Rattle.ill_values.specs.Bodies.{is_ill_request}
 use Rattle.ill_core.specs.Issued.{message, is_same_txn}
 use Rattle.ill_saved.specs.declared.fault.DeskFault.{DeskFault}
 use Rattle.ill_saved.specs.declared.fault.DeskFault.TheVariants as faults
-use Rattle.ill_saved.specs.declared.role.Role.{Role}
-use Rattle.ill_saved.specs.declared.role.Role.TheVariants as who
-use Rattle.ill_saved.specs.declared.side.Side.{Side}
-use Rattle.ill_saved.specs.declared.side.Side.TheVariants as sides
-use Rattle.ill_saved.specs.declared.side.Action.{Action}
-use Rattle.ill_saved.specs.declared.side.Action.TheVariants as actions
-use Rattle.ill_saved.specs.Side.{issued_of, txn_of, role_of, idle_side, acts, takes, acted, took, IsSideTransition, role_for}
-use Rattle.ill_saved.specs.Side.{begins}
-use Rattle.ill_saved.specs.Sides.{SidesOf, is_same_role, most_sides, side_with}
+use Rattle.ill_record.specs.declared.role.Role.{Role}
+use Rattle.ill_record.specs.declared.role.Role.TheVariants as who
+use Rattle.ill_record.specs.declared.side.Side.{Side}
+use Rattle.ill_record.specs.declared.side.Side.TheVariants as sides
+use Rattle.ill_record.specs.declared.side.Action.{Action}
+use Rattle.ill_record.specs.declared.side.Action.TheVariants as actions
+use Rattle.ill_record.specs.Side.{issued_of, txn_of, role_of, idle_side, acts, takes, acted, took, IsSideTransition, role_for}
+use Rattle.ill_record.specs.Side.{begins}
+use Rattle.ill_record.specs.Sides.{SidesOf, is_same_role, most_sides, side_with}
 use Rattle.ill_saved.specs.Holdings.{DeskEntry, whole}
 use Rattle.ill_saved.specs.ManySides.{DeskContents, found_by, txn_held, idle_held, found_or, held_for, with_held, side_for}
 use Rattle.ill_saved.specs.ManySides.{sides_held, whole_of, is_own, held_or_begun, side_for_call, acted as acted_at, acts_reached}
 use Rattle.ill_saved.specs.ManySides.{desk_acts, contents_after_message as took_at, takes_reached}
-use Rattle.ill_saved.proofs.Finding.{same_is, same_self, found_is, found_put, found_mapped, side_of_held}
+use Rattle.ill_record.proofs.Finding.{same_is, same_self, found_is, found_put, found_mapped}
+use Rattle.ill_saved.proofs.Contents.{side_of_held}
 use Rattle.ill_world.specs.declared.event.DeskEvent.{DeskEvent}
 use Rattle.ill_world.specs.declared.event.DeskEvent.TheVariants as events
 use Rattle.ill_words.specs.declared.outcome.Outcome.{Outcome}

@@ -8,13 +8,13 @@ use Rattle.ill_core.specs.declared.refusal.Refusal.TheVariants.{WrongRole}
 use Rattle.ill_values.specs.Bodies.{is_ill_request}
 use Rattle.ill_saved.specs.declared.fault.DeskFault.{DeskFault}
 use Rattle.ill_saved.specs.declared.fault.DeskFault.TheVariants as faults
-use Rattle.ill_saved.specs.declared.role.Role.{Role}
-use Rattle.ill_saved.specs.declared.role.Role.TheVariants as who
-use Rattle.ill_saved.specs.declared.side.Side.{Side}
-use Rattle.ill_saved.specs.declared.side.Action.{Action}
-use Rattle.ill_saved.specs.declared.side.Action.TheVariants as actions
-use Rattle.ill_saved.specs.Side.{other, acts, takes, role_for, begins}
-use Rattle.ill_saved.specs.Sides.{is_same_role, most_sides}
+use Rattle.ill_record.specs.declared.role.Role.{Role}
+use Rattle.ill_record.specs.declared.role.Role.TheVariants as who
+use Rattle.ill_record.specs.declared.side.Side.{Side}
+use Rattle.ill_record.specs.declared.side.Action.{Action}
+use Rattle.ill_record.specs.declared.side.Action.TheVariants as actions
+use Rattle.ill_record.specs.Side.{other, acts, takes, role_for, begins}
+use Rattle.ill_record.specs.Sides.{is_same_role, most_sides}
 use Rattle.ill_saved.specs.Holdings.{DeskEntry}
 use Rattle.ill_saved.specs.ManySides.{DeskContents, found_by, txn_held, idle_held, held_or_begun, side_for_call}
 use Rattle.ill_saved.specs.ManySides.{acted as acted_at, acts_reached, desk_acts, contents_after_message as took_at}

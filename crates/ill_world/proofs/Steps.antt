@@ -5,7 +5,7 @@ use Rattle.std.specs.Prelude.{IsErrAnd}
 use Rattle.std.specs.Io.KnownBytes.{Consumes, Appends, IsAtEnd, prepend_known}
 use Rattle.std.proofs.KnownBytes.{Appends-nil, Consumes-nil}
 use Rattle.std.proofs.Math.ListN.{take-append-drop}
-use Rattle.ill_saved.specs.Side.{IsPrefix}
+use Rattle.ill_record.specs.Side.{IsPrefix}
 use Rattle.ill_world.specs.declared.lines.Found.TheVariants as found
 use Rattle.ill_world.specs.declared.script.ScriptLine.{ScriptLine}
 use Rattle.ill_world.specs.declared.script.ScriptLine.TheVariants as lines

@@ -1,15 +1,15 @@
 -- The code begins with the first world of the model, and gives each event of the model.
 use Rattle.std.proofs.Common.{◌≡◌, inl, inr, Result, Ok, Err, refl, sym, ap, ◌∙◌, subst}
 use Rattle.ill_values.specs.TxnId.{Qualifiers}
-use Rattle.ill_saved.specs.declared.side.Side.{Side}
-use Rattle.ill_saved.specs.declared.role.Role.{Role}
-use Rattle.ill_saved.specs.declared.role.Role.TheVariants as who
+use Rattle.ill_record.specs.declared.side.Side.{Side}
+use Rattle.ill_record.specs.declared.role.Role.{Role}
+use Rattle.ill_record.specs.declared.role.Role.TheVariants as who
 use Rattle.ill_world.specs.declared.event.Event.{Event}
 use Rattle.ill_world.specs.declared.event.Event.TheVariants as events
 use Rattle.ill_words.specs.declared.outcome.Outcome.{Outcome}
 use Rattle.ill_world.specs.World.{Party, Parties, TwoOf, happens_at, first_party, first_world, party, with_party, who_of}
 use Rattle.ill_world.specs.World.{happens_to, happens}
-use Rattle.ill_saved.specs.Side.{idle_side, other}
+use Rattle.ill_record.specs.Side.{idle_side, other}
 use Rattle.ill_world.specs.PartyRefinement.{GivesOutcome}
 use Rattle.ill_world.specs.Invariant.{Invariant}
 use Rattle.ill_world.specs.Agreement.{KeepsDates}

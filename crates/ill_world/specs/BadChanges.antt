@@ -6,7 +6,7 @@ use Rattle.ill_core.specs.declared.state.State.{State}
 use Rattle.ill_core.specs.declared.refusal.Refusal.{Refusal}
 use Rattle.ill_core.specs.declared.refusal.Refusal.TheVariants.{WrongRole, OutOfMemory}
 use Rattle.ill_core.specs.declared.taking.Taking.TheVariants.{Repeat, Stale, Conflict}
-use Rattle.ill_saved.specs.declared.role.Role.{Role}
+use Rattle.ill_record.specs.declared.role.Role.{Role}
 use Rattle.ill_words.specs.declared.outcome.Outcome.{Outcome}
 use Rattle.ill_words.specs.declared.outcome.Outcome.TheVariants.{Faulted, Answered, Refused, NoSuchMessage, NotSaved, NotSent}
 use Rattle.ill_words.specs.declared.outcome.Outcome.TheVariants.{Garbled, Forged}

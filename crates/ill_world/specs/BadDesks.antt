@@ -13,12 +13,12 @@ use Rattle.ill_values.specs.Bodies.{is_final, is_ill_request}
 use Rattle.ill_core.specs.declared.requester.Wish.{Wish as RequesterWish}
 use Rattle.ill_core.specs.declared.responder.Deed.{Deed as ResponderDeed}
 use Rattle.ill_core.specs.Requester.{later}
-use Rattle.ill_saved.specs.declared.role.Role.{Role}
-use Rattle.ill_saved.specs.declared.role.Role.TheVariants.{Requester, Responder}
-use Rattle.ill_saved.specs.declared.side.Action.TheVariants as actions
-use Rattle.ill_saved.specs.declared.side.Side.{Side}
-use Rattle.ill_saved.specs.Side.{other, begins}
-use Rattle.ill_saved.specs.Sides.{side_with}
+use Rattle.ill_record.specs.declared.role.Role.{Role}
+use Rattle.ill_record.specs.declared.role.Role.TheVariants.{Requester, Responder}
+use Rattle.ill_record.specs.declared.side.Action.TheVariants as actions
+use Rattle.ill_record.specs.declared.side.Side.{Side}
+use Rattle.ill_record.specs.Side.{other, begins}
+use Rattle.ill_record.specs.Sides.{side_with}
 use Rattle.ill_saved.specs.Holdings.{DeskEntry}
 use Rattle.ill_saved.specs.ManySides.{found_by, txn_held, held_for}
 use Rattle.ill_world.specs.declared.event.DeskEvent.{DeskEvent}

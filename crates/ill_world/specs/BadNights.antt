@@ -5,9 +5,9 @@ use Rattle.ill_core.specs.State.{is_among}
 use Rattle.ill_core.specs.Issued.{is_none}
 use Rattle.ill_core.specs.Requester.{RequesterRecord}
 use Rattle.ill_core.specs.Responder.{ResponderRecord}
-use Rattle.ill_saved.specs.declared.side.Side.{Side}
-use Rattle.ill_saved.specs.declared.side.Side.TheVariants as sides
-use Rattle.ill_saved.specs.Side.{issued_of}
+use Rattle.ill_record.specs.declared.side.Side.{Side}
+use Rattle.ill_record.specs.declared.side.Side.TheVariants as sides
+use Rattle.ill_record.specs.Side.{issued_of}
 use Rattle.ill_world.specs.Round.{facing_in}
 use Rattle.ill_words.specs.Sending.{is_over}
 

@@ -16,10 +16,10 @@ use Rattle.ill_values.specs.Bodies.{is_end, is_final, is_received, is_shipped, a
 use Rattle.ill_core.specs.Issued.{message, has_message_with}
 use Rattle.ill_core.specs.Requester.{RequesterRecord, later}
 use Rattle.ill_core.specs.Responder.{ResponderRecord, due_of}
-use Rattle.ill_saved.specs.declared.side.Side.{Side}
-use Rattle.ill_saved.specs.declared.side.Side.TheVariants as sides
-use Rattle.ill_saved.specs.Side.{state_of, due_date_of, issued_of}
-use Rattle.ill_saved.specs.declared.role.Role.TheVariants.{Requester, Responder}
+use Rattle.ill_record.specs.declared.side.Side.{Side}
+use Rattle.ill_record.specs.declared.side.Side.TheVariants as sides
+use Rattle.ill_record.specs.Side.{state_of, due_date_of, issued_of}
+use Rattle.ill_record.specs.declared.role.Role.TheVariants.{Requester, Responder}
 use Rattle.ill_world.specs.declared.event.Event.{Event}
 use Rattle.ill_world.specs.declared.event.Event.TheVariants.{Deliver, Restart}
 use Rattle.ill_words.specs.declared.outcome.Outcome.{Outcome}

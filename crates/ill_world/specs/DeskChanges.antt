@@ -3,10 +3,10 @@ use Rattle.std.specs.Prelude.{◌≡◌, nat_lt, Bool, true, false, length, Opti
 use Rattle.ill_values.specs.TxnId.{Qualifiers}
 use Rattle.ill_values.specs.declared.apdu.Apdu.{Apdu}
 use Rattle.ill_values.specs.Bodies.{is_ill_request}
-use Rattle.ill_saved.specs.declared.side.Action.TheVariants as actions
-use Rattle.ill_saved.specs.declared.side.Side.{Side}
-use Rattle.ill_saved.specs.Side.{other, begins}
-use Rattle.ill_saved.specs.Sides.{side_with}
+use Rattle.ill_record.specs.declared.side.Action.TheVariants as actions
+use Rattle.ill_record.specs.declared.side.Side.{Side}
+use Rattle.ill_record.specs.Side.{other, begins}
+use Rattle.ill_record.specs.Sides.{side_with}
 use Rattle.ill_saved.specs.Holdings.{DeskEntry}
 use Rattle.ill_saved.specs.ManySides.{found_by, txn_held}
 use Rattle.ill_world.specs.declared.event.DeskEvent.{DeskEvent}

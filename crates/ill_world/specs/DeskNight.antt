@@ -1,10 +1,10 @@
 -- A night of two desks is a night of both sides in each transaction that a desk holds. It is this profile's own.
 use Rattle.std.specs.Prelude.{Bool, false, List, ◌++◌, filter}
-use Rattle.ill_saved.specs.declared.side.Side.{Side}
-use Rattle.ill_saved.specs.Side.{txn_of}
+use Rattle.ill_record.specs.declared.side.Side.{Side}
+use Rattle.ill_record.specs.Side.{txn_of}
 use Rattle.ill_saved.specs.ManySides.{held_for, sides_held}
-use Rattle.ill_saved.specs.declared.role.Role.{Role}
-use Rattle.ill_saved.specs.declared.role.Role.TheVariants.{Requester, Responder}
+use Rattle.ill_record.specs.declared.role.Role.{Role}
+use Rattle.ill_record.specs.declared.role.Role.TheVariants.{Requester, Responder}
 use Rattle.ill_world.specs.declared.event.DeskEvent.{DeskEvent}
 use Rattle.ill_world.specs.World.{party}
 use Rattle.ill_world.specs.Desks.{DeskParties, desks_run}

@@ -7,7 +7,7 @@ use Rattle.ill_core.specs.Issued.{is_same_txn}
 use Rattle.ill_store.specs.declared.store.NextCall.TheVariants.{Works}
 use Rattle.ill_saved.specs.declared.fault.DeskFault.{DeskFault}
 use Rattle.ill_saved.specs.declared.fault.DeskFault.TheVariants as faults
-use Rattle.ill_saved.specs.Sides.{SidesOf}
+use Rattle.ill_record.specs.Sides.{SidesOf}
 use Rattle.ill_store.specs.Store.{MemoryStoreState}
 use Rattle.ill_saved.specs.Holdings.{is_refusal, landed_live}
 use Rattle.ill_saved.specs.Desk.{DeskOf}

@@ -1,10 +1,10 @@
 -- A round of two desks is a round of both sides in each transaction that a desk holds. It is this profile's own.
 use Rattle.std.specs.Prelude.{List, ◌∷◌, ◌++◌, length, map, flat_map}
-use Rattle.ill_saved.specs.declared.side.Side.{Side}
-use Rattle.ill_saved.specs.Side.{issued_of, txn_of}
+use Rattle.ill_record.specs.declared.side.Side.{Side}
+use Rattle.ill_record.specs.Side.{issued_of, txn_of}
 use Rattle.ill_saved.specs.ManySides.{sides_held}
-use Rattle.ill_saved.specs.declared.role.Role.{Role}
-use Rattle.ill_saved.specs.declared.role.Role.TheVariants.{Requester, Responder}
+use Rattle.ill_record.specs.declared.role.Role.{Role}
+use Rattle.ill_record.specs.declared.role.Role.TheVariants.{Requester, Responder}
 use Rattle.ill_world.specs.declared.event.DeskEvent.{DeskEvent}
 use Rattle.ill_world.specs.declared.event.DeskEvent.TheVariants.{Save}
 use Rattle.ill_world.specs.World.{party}

@@ -2,7 +2,7 @@
 use Rattle.std.specs.Prelude.{ℕ, List}
 use Rattle.ill_values.specs.TxnId.{Qualifiers}
 use Rattle.ill_saved.specs.declared.shown.Shown.{Shown}
-use Rattle.ill_saved.specs.Side.{shown_of}
+use Rattle.ill_saved.specs.Shown.{shown_of}
 use Rattle.ill_saved.specs.ManySides.{held_for}
 use Rattle.ill_words.specs.declared.outcome.DeskOutcome.{DeskOutcome}
 use Rattle.ill_world.specs.Desks.{DeskParty, DeskParties}

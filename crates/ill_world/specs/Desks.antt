@@ -10,11 +10,11 @@ use Rattle.ill_core.specs.declared.taking.Taking.{Taking}
 use Rattle.ill_core.specs.Issued.{message, is_same_txn}
 use Rattle.ill_saved.specs.declared.fault.DeskFault.{DeskFault}
 use Rattle.ill_saved.specs.declared.fault.DeskFault.TheVariants as faults
-use Rattle.ill_saved.specs.declared.side.Action.TheVariants as actions
-use Rattle.ill_saved.specs.declared.role.Role.{Role}
-use Rattle.ill_saved.specs.declared.role.Role.TheVariants.{Requester, Responder}
-use Rattle.ill_saved.specs.Side.{issued_of}
-use Rattle.ill_saved.specs.Sides.{SidesOf}
+use Rattle.ill_record.specs.declared.side.Action.TheVariants as actions
+use Rattle.ill_record.specs.declared.role.Role.{Role}
+use Rattle.ill_record.specs.declared.role.Role.TheVariants.{Requester, Responder}
+use Rattle.ill_record.specs.Side.{issued_of}
+use Rattle.ill_record.specs.Sides.{SidesOf}
 use Rattle.ill_saved.specs.Holdings.{DeskEntry}
 use Rattle.ill_saved.specs.ManySides.{DeskContents, found_by, put_by, txn_held, found_or, held_for, side_for, sides_held}
 use Rattle.ill_saved.specs.ManySides.{whole_of, desk_acts, desk_takes}

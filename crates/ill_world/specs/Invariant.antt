@@ -16,9 +16,9 @@ use Rattle.ill_core.specs.ResponderEvidence as responder
 use Rattle.ill_core.specs.ResponderEvidence.{Question, asks}
 use Rattle.ill_core.specs.ResponderNotices.{WasAsked, HasAnsweredLast, RecallFits, ShipsBeforeRecall, GrantsRise, OverdueFits}
 use Rattle.ill_core.specs.ResponderNotices.{GrantsBeforeOverdue}
-use Rattle.ill_saved.specs.declared.side.Side.{Side}
-use Rattle.ill_saved.specs.declared.side.Side.TheVariants as sides
-use Rattle.ill_saved.specs.Side.{issued_of, due_date_of, IsPrefix}
+use Rattle.ill_record.specs.declared.side.Side.{Side}
+use Rattle.ill_record.specs.declared.side.Side.TheVariants as sides
+use Rattle.ill_record.specs.Side.{issued_of, due_date_of, IsPrefix}
 use Rattle.ill_world.specs.World.{Party, Parties, sent_message}
 
 -- ---- one record, and the messages of the other side

@@ -5,10 +5,10 @@ use Rattle.ill_values.specs.TxnId.{Qualifiers}
 use Rattle.ill_core.specs.Issued.{is_same_txn}
 use Rattle.ill_values.specs.declared.apdu.BodyWith.TheVariants.{Cancel}
 use Rattle.ill_der.specs.declared.fault.DerFault.{DerFault}
-use Rattle.ill_saved.specs.declared.fault.RecordFault.{RecordFault}
-use Rattle.ill_saved.specs.declared.side.Side.{Side}
+use Rattle.ill_record.specs.declared.fault.RecordFault.{RecordFault}
+use Rattle.ill_record.specs.declared.side.Side.{Side}
 use Rattle.ill_store.specs.declared.store.NextCall.TheVariants.{Works}
-use Rattle.ill_saved.specs.Side.{idle_of}
+use Rattle.ill_record.specs.Side.{idle_of}
 use Rattle.ill_store.specs.Store.{MemoryStoreState}
 use Rattle.ill_saved.specs.Holdings.{DeskEntry, landed_live, whole}
 use Rattle.ill_saved.specs.OneSide.{one_side}

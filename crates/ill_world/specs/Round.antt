@@ -8,10 +8,10 @@ use Rattle.ill_values.specs.Bodies.{is_end, is_received, declines}
 use Rattle.ill_core.specs.Issued.{has_message_with}
 use Rattle.ill_core.specs.Requester.{RequesterRecord, is_declined, is_received_by}
 use Rattle.ill_core.specs.Responder.{ResponderRecord, due_of, later}
-use Rattle.ill_saved.specs.declared.side.Side.{Side}
-use Rattle.ill_saved.specs.Side.{issued_of, other, IsPrefix}
-use Rattle.ill_saved.specs.declared.role.Role.{Role}
-use Rattle.ill_saved.specs.declared.role.Role.TheVariants.{Requester, Responder}
+use Rattle.ill_record.specs.declared.side.Side.{Side}
+use Rattle.ill_record.specs.Side.{issued_of, other, IsPrefix}
+use Rattle.ill_record.specs.declared.role.Role.{Role}
+use Rattle.ill_record.specs.declared.role.Role.TheVariants.{Requester, Responder}
 use Rattle.ill_world.specs.declared.event.Event.{Event}
 use Rattle.ill_world.specs.declared.event.Event.TheVariants.{Save, Send, Deliver}
 use Rattle.ill_world.specs.World.{Parties, party, run_of}

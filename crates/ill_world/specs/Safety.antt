@@ -8,8 +8,8 @@ use Rattle.ill_core.specs.State.{is_among}
 use Rattle.ill_values.specs.Bodies.{is_shipped, grant_in}
 use Rattle.ill_core.specs.Issued.{message, has_message_with}
 use Rattle.ill_core.specs.Requester.{later}
-use Rattle.ill_saved.specs.declared.side.Side.{Side}
-use Rattle.ill_saved.specs.Side.{state_of, due_date_of, issued_of}
+use Rattle.ill_record.specs.declared.side.Side.{Side}
+use Rattle.ill_record.specs.Side.{state_of, due_date_of, issued_of}
 use Rattle.ill_world.specs.declared.event.Event.{Event}
 use Rattle.ill_world.specs.World.{Parties, run_of}
 

@@ -1,7 +1,7 @@
 -- A trace of a run has a line for each event, with its outcome and both sides after it. It is this profile's own.
 use Rattle.std.specs.Prelude.{ℕ, List, ◌++◌, codes}
 use Rattle.std.specs.Fmt.{decimal}
-use Rattle.ill_saved.specs.Side.{shown_of}
+use Rattle.ill_saved.specs.Shown.{shown_of}
 use Rattle.ill_words.specs.declared.outcome.Outcome.{Outcome}
 use Rattle.ill_saved.specs.declared.shown.Shown.{Shown}
 use Rattle.ill_world.specs.World.{Party, Parties}

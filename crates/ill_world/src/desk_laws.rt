@@ -2,11 +2,11 @@
 
 ghost use Rattle.std.specs.Prelude.{◌≡◌, ◌++◌, ℕ, Bool, List, [], ◌∷◌, Option, Some, None, Result, Err};
 ghost use Rattle.ill_values.specs.TxnId.{Qualifiers};
-ghost use Rattle.ill_saved.specs.Side.{IsPrefix};
-ghost use Rattle.ill_saved.specs.declared.role.Role.{Role};
-ghost use Rattle.ill_saved.specs.declared.role.Role.TheVariants.{Requester};
+ghost use Rattle.ill_record.specs.Side.{IsPrefix};
+ghost use Rattle.ill_record.specs.declared.role.Role.{Role};
+ghost use Rattle.ill_record.specs.declared.role.Role.TheVariants.{Requester};
 ghost use Rattle.ill_saved.specs.ManySides.{found_by, txn_held, side_for};
-ghost use Rattle.ill_saved.specs.Sides.{SidesOf};
+ghost use Rattle.ill_record.specs.Sides.{SidesOf};
 ghost use Rattle.ill_world.specs.declared.event.DeskEvent.{DeskEvent};
 ghost use Rattle.ill_world.specs.declared.event.DeskEvent.TheVariants.{Save, SaveFault, Deliver, Restart, Noise};
 ghost use Rattle.ill_words.specs.declared.outcome.DeskOutcome.{DeskOutcome};

@@ -3,7 +3,7 @@
 ghost use Rattle.std.specs.Prelude.{◌≡◌, false, nat_le, option_map, IfOk};
 ghost use Rattle.ill_der.specs.ShortForm.{apdu_at};
 ghost use Rattle.ill_core.specs.Issued.{message};
-ghost use Rattle.ill_saved.specs.Side.{acts, issued_of, idle_of, txn_of};
+ghost use Rattle.ill_record.specs.Side.{acts, issued_of, idle_of, txn_of};
 ghost use Rattle.ill_world.specs.World as model;
 ghost use Rattle.ill_words.specs.declared.outcome.Outcome.TheVariants as outcomes;
 ghost use Rattle.ill_world.specs.Trace.{party_shown};

@@ -2,7 +2,7 @@
 
 ghost use Rattle.std.specs.Prelude.{◌≡◌, ◌++◌, ℕ, List, [], ◌∷◌, None};
 ghost use Rattle.ill_values.specs.TxnId.{Qualifiers};
-ghost use Rattle.ill_saved.specs.declared.role.Role.{Role};
+ghost use Rattle.ill_record.specs.declared.role.Role.{Role};
 ghost use Rattle.ill_saved.specs.ManySides.{found_by, txn_held};
 ghost use Rattle.ill_world.specs.World.{party, first_world};
 ghost use Rattle.ill_world.specs.Desks.{first_desks, desks_happen, desks_run, project};

@@ -2,7 +2,7 @@
 
 ghost use Rattle.std.specs.Prelude.{◌≡◌, ◌++◌, ◌∷◌, IfOk, OnOk};
 ghost use Rattle.ill_values.specs.TxnId.{Qualifiers};
-ghost use Rattle.ill_saved.specs.declared.side.Side.TheVariants as sides;
+ghost use Rattle.ill_record.specs.declared.side.Side.TheVariants as sides;
 ghost use Rattle.ill_world.specs.World as model;
 ghost use Rattle.ill_world.specs.Trace.{line};
 ghost use Rattle.ill_world.specs.Safety.{IsSafeRun};

@@ -150,19 +150,19 @@ def constant(name, path):
 
 def numbers_of():
     """Returns the numbers that the phrases name."""
-    saved, der, values = (f"crates/{it}/src" for it in ("ill_saved", "ill_der", "ill_values"))
+    saved, record, der, values = (f"crates/{it}/src" for it in ("ill_saved", "ill_record", "ill_der", "ill_values"))
     years = find(r"year < (\d+) \|\| year > (\d+)", f"{values}/day.rt")
     pause = int(find(r"Duration::from_millis\((\d+)\)", f"{saved}/file_lock.rt")[1])
     number = find(r"pub struct Number \{\s*value: u(\d+),", f"{values}/number.rt")[1]
     least = 1 if "if value == 0 {" in body("new", f"{values}/number.rt") else 0
-    roles = variants("Role", f"{saved}/role.rt")
+    roles = variants("Role", f"{record}/role.rt")
     # A line of a loan has an outcome, and the fields of Shown, of which the last two are one of it.
     shown = find(r"struct Shown \{.*?\}", f"{saved}/shown.rt")[0]
     # A Cancel of qualifiers of one byte: two octets of a head, the version, the id with its parts, and the number.
     shortest = 2 + constant("VERSION_SIZE", f"{der}/sizing.rt") + 2 + 2 * 3 + 3
     return {
         "zero": 0, "first": least, "second": least + 1, "third": least + 2, "last": 2 ** int(number) - 1,
-        "loans": constant("SIDES_LIMIT", f"{saved}/sides.rt"), "messages": constant("MAX_APDUS", f"{TEXT}/input.rt"),
+        "loans": constant("SIDES_LIMIT", f"{record}/sides.rt"), "messages": constant("MAX_APDUS", f"{TEXT}/input.rt"),
         "many": constant("MANY", f"{COMMANDS}/commands.rt"), "few": constant("FEW", f"{SHOW}/numbers.rt"),
         "soon": constant("SOON", f"{LIST}/soon.rt"),
         "mails": constant("MAILS", f"{MAILBOX}/mail.rt"),
@@ -171,7 +171,7 @@ def numbers_of():
         "lines": constant("MAX_LINES", f"{WORLD}/simulation.rt"), "line": constant("MAX_LINE", f"{WORLD}/lines.rt"),
         "qualifier": constant("QUALIFIER_LIMIT", f"{values}/text.rt"),
         "item": constant("ITEM_LIMIT", f"{values}/text.rt"),
-        "record": constant("RECORD_LIMIT", f"{saved}/sides.rt"),
+        "record": constant("RECORD_LIMIT", f"{record}/sides.rt"),
         "wait": constant("TRIES", f"{saved}/file_lock.rt") * pause // 1000,
         "day_digits": int(find(r"text\.len\(\) == (\d+) && is_digits", f"{values}/day.rt")[1]),
         "first_year": int(years[1]), "last_year": int(years[2]),
@@ -234,7 +234,7 @@ def texts_of(kind, path):
 
 
 SOURCES = {"ToolFault": f"{TEXT}/fault.rt", "DeskFault": "crates/ill_saved/src/fault.rt",
-           "BadKey": f"{TEXT}/fault.rt", "RecordFault": "crates/ill_saved/src/fault.rt", "StoreFault": "crates/ill_store/src/store.rt",
+           "BadKey": f"{TEXT}/fault.rt", "RecordFault": "crates/ill_record/src/fault.rt", "StoreFault": "crates/ill_store/src/store.rt",
            "DerFault": "crates/ill_der/src/fault.rt"}
 
 
@@ -523,8 +523,8 @@ def compare_lists(text, arguments):
 def lists_of(arguments):
     """Returns the lists in sentences: the text, the sentence and the words; and the words of all outcomes, by
     variant."""
-    core, saved = "crates/ill_core/src", "crates/ill_saved/src"
-    roles = [name.lower() for name in variants("Role", f"{saved}/role.rt")]
+    core, record = "crates/ill_core/src", "crates/ill_record/src"
+    roles = [name.lower() for name in variants("Role", f"{record}/role.rt")]
     results = results_of()
     filed = [command for command, own in arguments.items() if FILE_KINDS & set(own)]
     locking = [name for name in filed if re.search(r"\block\(|open_locked\(", body(name, *FILED))]

@@ -3,8 +3,8 @@ use Rattle.std.proofs.Common.{rules, ◌≡◌, true, ◌++◌, List, [], ◌∷
 use Rattle.std.proofs.lemmas.List.{map-append}
 use Rattle.ill_core.specs.declared.state.State.TheVariants.{Shipped}
 use Rattle.ill_core.specs.State.{is_among}
-use Rattle.ill_saved.specs.declared.side.Side.{Side}
-use Rattle.ill_saved.specs.Side.{state_of}
+use Rattle.ill_record.specs.declared.side.Side.{Side}
+use Rattle.ill_record.specs.Side.{state_of}
 use Rattle.due_dates.specs.Shipped.{shipped}
 use Rattle.due_dates.proofs.shipped.Goals as goal
 

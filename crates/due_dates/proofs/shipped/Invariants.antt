@@ -1,6 +1,6 @@
 -- The loop invariant of `shipped` (`src/main.rt`).
 use Rattle.std.proofs.Common.{◌≡◌, ◌++◌, map, Bor}
-use Rattle.ill_saved.specs.declared.side.Side.{Side}
+use Rattle.ill_record.specs.declared.side.Side.{Side}
 use Rattle.due_dates.specs.Shipped.{shipped}
 use Rattle.due_dates.proofs.shipped.Given as goal
 

@@ -1,7 +1,7 @@
 -- Answers the contract of `act_at` (`src/commands.rt`).
 use Rattle.std.proofs.Common.{Option, inr, ap, subst, ◌∙◌}
-use Rattle.ill_saved.specs.declared.side.Side.{Side}
-use Rattle.ill_saved.specs.Sides.{SidesOf, side_with}
+use Rattle.ill_record.specs.declared.side.Side.{Side}
+use Rattle.ill_record.specs.Sides.{SidesOf, side_with}
 use Rattle.ill_show.specs.ItemLine.{item_of}
 use Rattle.ill_commands.specs.AtFile.{TellsItem}
 use Rattle.ill_commands.proofs.commands.act_at.Goals as goal

@@ -1,7 +1,7 @@
 -- Answers the contract of `act_words` (`src/act_as.rt`).
 use Rattle.std.proofs.Common.{ℕ, List, Bor, map, subst}
 use Rattle.ill_saved.specs.ManySides.{many_sides}
-use Rattle.ill_saved.specs.declared.role.Role.{Role}
+use Rattle.ill_record.specs.declared.role.Role.{Role}
 use Rattle.ill_desk.specs.Act.{NamesNone}
 use Rattle.ill_desk.specs.Actions.{action_named}
 use Rattle.ill_desk.proofs.ActLemmas.{not_named}

@@ -1,6 +1,6 @@
 -- Answers the contract of `action` (`src/action.rt`).
 use Rattle.std.proofs.Common.{◌≡◌, map, IfOk, Bor, sym, ap, subst, ◌∙◌, List, ℕ, Option}
-use Rattle.ill_saved.specs.declared.side.Action.{Action}
+use Rattle.ill_record.specs.declared.side.Action.{Action}
 use Rattle.ill_desk.specs.Actions.{action_for}
 use Rattle.ill_desk.proofs.ActionLemmas.{named_by_words, named_by_none}
 use Rattle.ill_desk.proofs.action.action.Goals as goal

@@ -1,6 +1,6 @@
 -- Answers the contract of `run_desk_figures` (`src/figures.rt`).
 use Rattle.std.proofs.Common.{ℕ, List, subst}
-use Rattle.ill_saved.specs.Sides.{SidesOf}
+use Rattle.ill_record.specs.Sides.{SidesOf}
 use Rattle.ill_text.specs.Output.{WritesPrefix}
 use Rattle.ill_show.specs.FileLines.{lines_of}
 use Rattle.ill_list.specs.News.{IsTextOf}

@@ -1,6 +1,6 @@
 -- States the loop invariant of `push_all` (`src/deeds.rt`).
 use Rattle.std.proofs.Common.{◌≡◌, ◌++◌, map, take, Bor, Some}
-use Rattle.ill_saved.specs.declared.side.Side.{Side}
+use Rattle.ill_record.specs.declared.side.Side.{Side}
 use Rattle.ill_list.specs.Deeds.{deeds_since}
 use Rattle.ill_list.proofs.deeds.push_all.Given as goal
 

@@ -1,7 +1,7 @@
 -- Answers the contract of `found_of` (`src/finding.rt`).
 use Rattle.std.proofs.Common.{ℕ, List, Option, Bor, map, option_map, ap, sym, ◌∙◌}
 use Rattle.std.specs.Prelude.{filter}
-use Rattle.ill_saved.specs.declared.side.Side.{Side}
+use Rattle.ill_record.specs.declared.side.Side.{Side}
 use Rattle.ill_list.specs.Finding.{is_found}
 use Rattle.ill_show.specs.FileLines.{lines_of}
 use Rattle.ill_list.proofs.FindingLemmas.{all_found}

@@ -1,7 +1,7 @@
 -- States the loop invariant of `told_of` (`src/finding.rt`).
 use Rattle.std.proofs.Common.{◌≡◌, map, take, Bor}
 use Rattle.std.specs.Prelude.{filter}
-use Rattle.ill_saved.specs.declared.side.Side.{Side}
+use Rattle.ill_record.specs.declared.side.Side.{Side}
 use Rattle.ill_list.specs.Finding.{has_words}
 use Rattle.ill_show.specs.FileLines.{lines_of}
 use Rattle.ill_list.proofs.finding.told_of.Given as goal

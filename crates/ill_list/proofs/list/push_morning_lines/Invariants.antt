@@ -1,7 +1,7 @@
 -- States the loop invariant of `push_morning_lines` (`src/list.rt`).
 use Rattle.std.proofs.Common.{◌≡◌, ◌++◌, take, Bor}
 use Rattle.std.specs.List.{flat_map}
-use Rattle.ill_saved.specs.declared.side.Side.{Side}
+use Rattle.ill_record.specs.declared.side.Side.{Side}
 use Rattle.ill_list.specs.Listing.{told_morning}
 use Rattle.ill_show.specs.Since.{annex_of}
 use Rattle.ill_list.proofs.list.push_morning_lines.Given as goal

@@ -1,7 +1,7 @@
 -- States the loop invariant of `push_sections` (`src/list.rt`).
 use Rattle.std.proofs.Common.{◌≡◌, ◌++◌, map, take, Bor}
 use Rattle.std.specs.List.{flat_map}
-use Rattle.ill_saved.specs.declared.side.Side.{Side}
+use Rattle.ill_record.specs.declared.side.Side.{Side}
 use Rattle.ill_list.specs.Listing.{section, work_text}
 use Rattle.ill_list.proofs.list.push_sections.Given as goal
 

@@ -1,7 +1,7 @@
 -- States the loop invariant of `push_work_objects` (`src/list.rt`).
 use Rattle.std.proofs.Common.{◌≡◌, ◌++◌, take, Bor, option_map}
 use Rattle.std.specs.List.{flat_map}
-use Rattle.ill_saved.specs.declared.side.Side.{Side}
+use Rattle.ill_record.specs.declared.side.Side.{Side}
 use Rattle.ill_list.specs.ListObjects.{row_object}
 use Rattle.ill_show.specs.Since.{annex_of}
 use Rattle.ill_list.proofs.list.push_work_objects.Given as goal

@@ -1,6 +1,6 @@
 -- Answers the contract of `run_desk_list` (`src/list.rt`).
 use Rattle.std.proofs.Common.{◌++◌, sym, subst}
-use Rattle.ill_saved.specs.Sides.{SidesOf}
+use Rattle.ill_record.specs.Sides.{SidesOf}
 use Rattle.ill_saved.specs.ManySides.{sides_held}
 use Rattle.ill_text.specs.Output.{WritesText}
 use Rattle.ill_text.specs.declared.form.Form.{Form}

@@ -1,6 +1,6 @@
 -- Answers the contract of `with_work` (`src/list.rt`).
 use Rattle.std.proofs.Common.{List, Bor, map, ap, ◌∙◌}
-use Rattle.ill_saved.specs.declared.side.Side.{Side}
+use Rattle.ill_record.specs.declared.side.Side.{Side}
 use Rattle.ill_list.specs.List.{has_work}
 use Rattle.ill_list.proofs.ListLemmas.{filter_mapped}
 use Rattle.ill_list.proofs.list.with_work.Goals as goal

@@ -1,6 +1,6 @@
 -- States the loop invariant of `work_width` (`src/morning.rt`).
 use Rattle.std.proofs.Common.{◌≡◌, map, take, Bor}
-use Rattle.ill_saved.specs.declared.side.Side.{Side}
+use Rattle.ill_record.specs.declared.side.Side.{Side}
 use Rattle.ill_work.specs.Work.{work_words}
 use Rattle.ill_list.specs.List.{work_of}
 use Rattle.ill_list.specs.Morning.{widest}

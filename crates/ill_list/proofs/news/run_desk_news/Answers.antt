@@ -1,6 +1,6 @@
 -- Answers the contract of `run_desk_news` (`src/news.rt`).
 use Rattle.std.proofs.Common.{ℕ, ◌++◌, List, subst}
-use Rattle.ill_saved.specs.Sides.{SidesOf}
+use Rattle.ill_record.specs.Sides.{SidesOf}
 use Rattle.ill_text.specs.Output.{WritesPrefix}
 use Rattle.ill_list.specs.Listing.{between}
 use Rattle.ill_list.specs.News.{IsTextOf, news_desk}

@@ -1,7 +1,7 @@
 -- Answers the contract of `push_found` (`src/report.rt`).
 use Rattle.std.proofs.Common.{◌≡◌, ◌++◌, List, Bor, OnOk, map, ap, subst, ◌∙◌}
 use Rattle.std.specs.List.{flat_map}
-use Rattle.ill_saved.specs.declared.side.Side.{Side}
+use Rattle.ill_record.specs.declared.side.Side.{Side}
 use Rattle.ill_show.specs.Since.{annex_of}
 use Rattle.ill_work.specs.declared.work.Work.{Work}
 use Rattle.ill_list.specs.Report.{page_shown, work_text, works_text}

@@ -1,7 +1,7 @@
 -- States the loop invariant of `push_rows` (`src/report.rt`).
 use Rattle.std.proofs.Common.{◌≡◌, ◌++◌, take, ◌∷◌, [], Bor}
 use Rattle.std.specs.List.{flat_map}
-use Rattle.ill_saved.specs.declared.side.Side.{Side}
+use Rattle.ill_record.specs.declared.side.Side.{Side}
 use Rattle.ill_show.specs.Since.{annex_of}
 use Rattle.ill_list.specs.Report.{page_shown, rows_text}
 use Rattle.ill_list.proofs.report.push_rows.Given as goal

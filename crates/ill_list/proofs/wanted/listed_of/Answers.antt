@@ -1,6 +1,6 @@
 -- Answers the contract of `listed_of` (`src/wanted.rt`).
 use Rattle.std.proofs.Common.{List, Bor, map, ap, ◌∙◌}
-use Rattle.ill_saved.specs.declared.side.Side.{Side}
+use Rattle.ill_record.specs.declared.side.Side.{Side}
 use Rattle.ill_list.specs.List.{is_listed}
 use Rattle.ill_show.specs.Since.{annex_of}
 use Rattle.ill_list.proofs.ListLemmas.{filter_mapped}

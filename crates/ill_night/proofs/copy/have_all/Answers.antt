@@ -2,7 +2,7 @@
 use Rattle.std.proofs.Common.{Bor, List, map, refl, subst}
 use Rattle.std.specs.Prelude.{All}
 use Rattle.std.proofs.lemmas.List.{take_all}
-use Rattle.ill_saved.specs.declared.side.Side.{Side}
+use Rattle.ill_record.specs.declared.side.Side.{Side}
 use Rattle.ill_night.specs.CopyOver.{HasLoan}
 use Rattle.ill_night.proofs.CopyLemmas.{lacks_one}
 use Rattle.ill_night.proofs.copy.have_all.Goals as goal

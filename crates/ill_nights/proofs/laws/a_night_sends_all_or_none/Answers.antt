@@ -1,5 +1,5 @@
 -- Proves the contract of `a_night_sends_all_or_none` (`src/laws.rt`). A history leads to two desks that stand.
-use Rattle.ill_saved.specs.Side.{other}
+use Rattle.ill_record.specs.Side.{other}
 use Rattle.ill_world.specs.World.{party}
 use Rattle.ill_world.specs.Desks.{first_desks, desks_run}
 use Rattle.ill_world.proofs.Desks.{desks_stand_on}

@@ -4,7 +4,7 @@ use Rattle.std.proofs.Common.{rules, arith, ◌≡◌, ◌<◌, ◌+◌, ◌++�
 use Rattle.std.specs.List.{slice_get}
 use Rattle.std.proofs.lemmas.Option.{get_or_from_slice_get}
 use Rattle.ill_saved.specs.ManySides.{counts}
-use Rattle.ill_saved.proofs.Lists.{none_past}
+use Rattle.ill_record.proofs.Lists.{none_past}
 use Rattle.ill_saved.proofs.Contents.{one_counted}
 use Rattle.ill_saved.proofs.many_sides.counts_of.Goals as goal
 use Rattle.ill_saved.proofs.many_sides.counts_of.Goals.{in-Some+in_ok-push, in_default}

@@ -1,8 +1,8 @@
 -- Proves the contract of `read_sides` (`src/many_sides.rt`).
 -- Decoding gives only consistent sides, which back themselves.
 use Rattle.std.proofs.Common.{◌≡◌, arith, ap, sym, subst}
-use Rattle.ill_saved.specs.Side.{IsConsistent}
-use Rattle.ill_saved.specs.Ranges.{Each}
+use Rattle.ill_record.specs.Side.{IsConsistent}
+use Rattle.ill_record.specs.Ranges.{Each}
 use Rattle.ill_saved.specs.ManySides.{ManyBack, sides_held, whole_of}
 use Rattle.ill_saved.proofs.Contents.{read_consistent, sides_of_whole, whole_back}
 use Rattle.ill_saved.proofs.many_sides.read_sides.Goals as goal

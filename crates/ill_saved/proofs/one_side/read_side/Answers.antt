@@ -1,8 +1,8 @@
 -- Proves the contract of `read_side` (`src/one_side.rt`).
 -- Bytes that are read as a side are its encoding.
 use Rattle.std.proofs.Common.{arith}
-use Rattle.ill_saved.specs.Records.{begins_as_record}
-use Rattle.ill_saved.proofs.Records.{decodes_encoded}
+use Rattle.ill_record.specs.Records.{begins_as_record}
+use Rattle.ill_record.proofs.Records.{decodes_encoded}
 use Rattle.ill_saved.proofs.one_side.read_side.Goals as goal
 
 -- The answer is the answer of decoding, and a side that it gives has the bytes as its encoding.

@@ -3,7 +3,7 @@ use Rattle.std.proofs.Common.{◌++◌, ◌∷◌, [], map, Bor, ap, sym, ◌∙
 use Rattle.std.specs.List.{flat_map}
 use Rattle.std.proofs.lemmas.List.{take_all}
 use Rattle.std.proofs.lemmas.List.Folds.{flat_map-map}
-use Rattle.ill_saved.specs.declared.side.Side.{Side}
+use Rattle.ill_record.specs.declared.side.Side.{Side}
 use Rattle.ill_show.specs.Numbers.{has_few_numbers, numbers_line, numbers_lines}
 use Rattle.ill_show.proofs.TextLemmas.{kept_apart}
 use Rattle.ill_show.proofs.numbers.push_lines.Goals as goal

@@ -1,7 +1,7 @@
 -- States the loop invariant of `push_lines` (`src/numbers.rt`).
 use Rattle.std.proofs.Common.{◌≡◌, ◌++◌, ◌∷◌, [], take, Bor}
 use Rattle.std.specs.List.{flat_map}
-use Rattle.ill_saved.specs.declared.side.Side.{Side}
+use Rattle.ill_record.specs.declared.side.Side.{Side}
 use Rattle.ill_show.specs.Numbers.{numbers_lines}
 use Rattle.ill_show.proofs.numbers.push_lines.Given as goal
 

@@ -2,7 +2,7 @@
 use Rattle.std.proofs.Common.{rules, ◌≡◌, ◌++◌, OnOk, ℕ, List, Some, None, ap, sym, subst, ◌∙◌}
 use Rattle.std.specs.Prelude.{slice_get}
 use Rattle.std.proofs.lemmas.List.{append-nil}
-use Rattle.ill_saved.specs.Side.{txn_of}
+use Rattle.ill_record.specs.Side.{txn_of}
 use Rattle.ill_saved.specs.ManySides.{held_for, sides_held}
 use Rattle.ill_show.proofs.StatusLemmas.{lines_there, no_lines_there}
 use Rattle.ill_show.proofs.status.push_status_at.Goals as goal

@@ -1,8 +1,8 @@
 -- States the loop invariant of `issued_by_all` (`src/verify.rt`).
 use Rattle.std.proofs.Common.{◌≡◌, ◌≤◌, ◌*◌, length, take, Bor}
 use Rattle.std.specs.Prelude.{sum_by}
-use Rattle.ill_saved.specs.declared.side.Side.{Side}
-use Rattle.ill_saved.specs.Side.{issued_of}
+use Rattle.ill_record.specs.declared.side.Side.{Side}
+use Rattle.ill_record.specs.Side.{issued_of}
 use Rattle.ill_show.proofs.verify.issued_by_all.Given as goal
 
 -- `issued` is the number of messages of the sides so far, at most 255 of each.

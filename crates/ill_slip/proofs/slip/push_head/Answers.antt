@@ -1,6 +1,6 @@
 -- Answers the contract of `push_head` (`src/slip.rt`).
 use Rattle.std.proofs.Common.{◌++◌, ap, ◌∙◌}
-use Rattle.ill_saved.specs.Side.{role_of}
+use Rattle.ill_record.specs.Side.{role_of}
 use Rattle.ill_words.specs.Possible.{item_asked, request_of}
 use Rattle.ill_slip.specs.declared.slip_parts.TheConstants.{PAGE, ROLE}
 use Rattle.ill_slip.specs.Slip.{head_part, role_text, title_part}

@@ -1,7 +1,7 @@
 -- Answers the contract of `push_names` (`src/slip.rt`).
 use Rattle.std.proofs.Common.{◌++◌, ap, ◌∙◌}
 use Rattle.ill_values.specs.TxnId.{Qualifiers}
-use Rattle.ill_saved.specs.Side.{due_date_of, txn_of}
+use Rattle.ill_record.specs.Side.{due_date_of, txn_of}
 use Rattle.ill_text.specs.Html.{html_text}
 use Rattle.ill_slip.specs.declared.slip_parts.TheConstants.{GROUP, TRANSACTION, NAMED}
 use Rattle.ill_slip.specs.Slip.{due_part, names_part}

@@ -1,7 +1,7 @@
 -- Answers the contract of `run_desk_slip` (`src/slip.rt`).
 use Rattle.std.proofs.Common.{rules, ◌≡◌, Option, Some, None, Err, ℕ, List, sym, subst, ◌∙◌}
 use Rattle.std.proofs.KnownBytes.{Appends-nil}
-use Rattle.ill_saved.specs.Sides.{side_with}
+use Rattle.ill_record.specs.Sides.{side_with}
 use Rattle.ill_saved.specs.Holdings.{DeskEntry}
 use Rattle.ill_saved.specs.ManySides.{sides_held}
 use Rattle.ill_saved.proofs.Contents.{held_there, none_held_there}

@@ -1,7 +1,7 @@
 -- Proves the contract of `push_file` (`src/show.rt`).
 use Rattle.std.proofs.Common.{List, Ok, Err, refl}
-use Rattle.ill_saved.specs.declared.role.Role.{Role}
-use Rattle.ill_saved.specs.declared.side.Side.{Side}
+use Rattle.ill_record.specs.declared.role.Role.{Role}
+use Rattle.ill_record.specs.declared.side.Side.{Side}
 use Rattle.ill_show.specs.Since.{AnnexRead, annex_of}
 use Rattle.ill_web.proofs.DeskLemmas.{then_ok}
 use Rattle.ill_web.proofs.show.push_file.Goals as goal

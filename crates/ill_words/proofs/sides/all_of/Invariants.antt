@@ -1,6 +1,6 @@
 -- States the loop invariant of `all_of` (`src/sides.rt`).
 use Rattle.std.proofs.Common.{◌≡◌, ◌++◌, map, drop, Bor}
-use Rattle.ill_saved.specs.declared.side.Side.{Side}
+use Rattle.ill_record.specs.declared.side.Side.{Side}
 use Rattle.ill_words.proofs.sides.all_of.Given as goal
 
 -- `all`, and the sides that are left, are all sides.

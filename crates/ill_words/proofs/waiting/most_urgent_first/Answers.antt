@@ -2,7 +2,7 @@
 use Rattle.std.proofs.Common.{rules, Bool, Option, Bor, is_none, ap, ◌∙◌}
 use Rattle.std.proofs.lemmas.List.Sorted.{answers_always}
 use Rattle.ill_values.specs.Day.{Date}
-use Rattle.ill_saved.specs.declared.side.Side.{Side}
+use Rattle.ill_record.specs.declared.side.Side.{Side}
 use Rattle.ill_words.specs.Waiting.{deadline_of, most_urgent_first}
 use Rattle.ill_words.proofs.WaitingLemmas.{sorted_by_urgency}
 use Rattle.ill_words.proofs.waiting.most_urgent_first.Goals as goal

@@ -4,7 +4,7 @@ use Rattle.std.proofs.Common.{rules, of_calls, ℕ, ap, sym, subst, ◌∙◌}
 use Rattle.std.proofs.lemmas.Fn.{always_returns_same}
 use Rattle.std.proofs.lemmas.List.Sorted.{IsNonDecreasingBy-from_sort}
 use Rattle.std.specs.Prelude.{IsPermutation}
-use Rattle.ill_saved.specs.declared.side.Side.{Side}
+use Rattle.ill_record.specs.declared.side.Side.{Side}
 use Rattle.ill_words.specs.Waiting.{ordered}
 use Rattle.ill_work.specs.Order.{is_more_pressing, urgency_on}
 use Rattle.ill_work.proofs.OrderLemmas.{pressing_kept, sorted_by_number}

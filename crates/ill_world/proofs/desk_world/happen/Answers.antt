@@ -1,7 +1,7 @@
 -- Proves the contract of `happen` (`src/desk_world.rt`), for an event at either desk. The event of one desk is the
 -- event of both, by `both_give`.
 use Rattle.std.proofs.Common.{sym, ◌∙◌}
-use Rattle.ill_saved.specs.declared.role.Role.TheVariants as who
+use Rattle.ill_record.specs.declared.role.Role.TheVariants as who
 use Rattle.ill_world.specs.World.{who_of}
 use Rattle.ill_world.specs.Desks.{DeskParty, DeskParties, plain, desk_happens_to}
 use Rattle.ill_world.proofs.Worlds.{both_give}

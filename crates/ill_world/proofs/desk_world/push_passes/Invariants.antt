@@ -1,6 +1,6 @@
 -- The loop of `push_passes` (`src/desk_world.rt`) keeps this invariant.
 use Rattle.std.proofs.Common.{◌≡◌, ◌++◌, map}
-use Rattle.ill_saved.specs.Side.{txn_of}
+use Rattle.ill_record.specs.Side.{txn_of}
 use Rattle.ill_world.specs.DeskScript.{in_txn}
 use Rattle.ill_world.specs.DeskRound.{passes_side}
 use Rattle.ill_world.proofs.desk_world.push_passes.Given as goal

@@ -1,7 +1,7 @@
 -- States the loop invariant of `Columns::of` (`src/row.rt`).
 use Rattle.std.proofs.Common.{◌≡◌, take, Bor}
 use Rattle.std.specs.Prelude.{fold}
-use Rattle.ill_saved.specs.declared.side.Side.{Side}
+use Rattle.ill_record.specs.declared.side.Side.{Side}
 use Rattle.ill_list.specs.declared.row.Columns.{Columns}
 use Rattle.ill_list.specs.List.{no_columns, widened}
 use Rattle.ill_list.proofs.row.Columns.of.Given as goal

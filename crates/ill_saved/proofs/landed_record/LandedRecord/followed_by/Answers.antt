@@ -4,7 +4,7 @@ use Rattle.std.proofs.Common.{rules, arith, ◌≡◌, ◌+◌, ◌-◌, ◌++�
 use Rattle.std.specs.List.{All}
 use Rattle.std.proofs.lemmas.List.{drop_more, drop_all}
 use Rattle.ill_der.specs.ShortForm.{encoding}
-use Rattle.ill_saved.specs.Layout.{encode_all}
+use Rattle.ill_record.specs.Layout.{encode_all}
 use Rattle.ill_saved.specs.LandedBytes.{piece_at, IsWithin}
 use Rattle.ill_saved.proofs.Places.{ArePlaced, ArePlacedIn, first_placed, next_placed, all_placed}
 use Rattle.ill_saved.proofs.landed_record.LandedRecord.followed_by.Goals as goal

@@ -1,6 +1,6 @@
 use Rattle.std.proofs.Common.{◌++◌, map, drop}
 use Rattle.ill_der.specs.ShortForm.{encoding}
-use Rattle.ill_saved.specs.Layout.{encode_all}
+use Rattle.ill_record.specs.Layout.{encode_all}
 use Rattle.ill_saved.proofs.Places.{ArePlaced}
 use Rattle.ill_saved.proofs.landed_record.LandedRecord.followed_by.Given as goal
 

@@ -2,7 +2,7 @@
 -- The landed messages are a prefix of the issued ones, which are the last part of a record.
 use Rattle.std.proofs.Common.{◌++◌, ap, sym, ◌∙◌}
 use Rattle.ill_der.specs.ShortForm.{encoding}
-use Rattle.ill_saved.specs.Layout.{encode_all}
+use Rattle.ill_record.specs.Layout.{encode_all}
 use Rattle.ill_saved.proofs.Places.{landed_continues, ends_with_messages, next_landed}
 use Rattle.ill_saved.proofs.landed_record.LandedRecord.next.Goals as goal
 

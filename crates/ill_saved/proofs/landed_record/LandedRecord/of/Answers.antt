@@ -2,8 +2,8 @@
 -- The issued messages are the last part of a record.
 use Rattle.std.proofs.Common.{rules, ◌++◌, ◌≡◌, ◌∙◌, ap, sym}
 use Rattle.ill_der.specs.ShortForm.{encoding}
-use Rattle.ill_saved.specs.Layout.{encode_all}
-use Rattle.ill_saved.specs.Side.{issued_of}
+use Rattle.ill_record.specs.Layout.{encode_all}
+use Rattle.ill_record.specs.Side.{issued_of}
 use Rattle.ill_saved.proofs.Places.{ends_with_messages}
 use Rattle.ill_saved.proofs.landed_record.LandedRecord.of.Goals as goal
 

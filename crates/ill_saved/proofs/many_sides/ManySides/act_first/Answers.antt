@@ -1,8 +1,8 @@
 -- Proves the contract of `ManySides::act_first` (`src/many_sides.rt`).
 -- The action leads to the new side by a transition from the idle side of the transaction.
 use Rattle.std.proofs.Common.{rules, ◌≡◌, true, None, Ok, length, nat_lt}
-use Rattle.ill_saved.specs.Side.{acted, acts, txn_of, idle_side, IsSideTransition}
-use Rattle.ill_saved.specs.Sides.{most_sides, put_refusal}
+use Rattle.ill_record.specs.Side.{acted, acts, txn_of, idle_side, IsSideTransition}
+use Rattle.ill_record.specs.Sides.{most_sides, put_refusal}
 use Rattle.ill_saved.specs.ManySides.{sides_held}
 use Rattle.ill_saved.proofs.Contents.{first_may}
 use Rattle.ill_saved.proofs.many_sides.ManySides.act_first.Goals.{In_ok-side}

@@ -1,8 +1,8 @@
 -- Proves the contract of `ManySides::hold` (`src/many_sides.rt`).
 -- A side that began by a transition is backed by the sides that back the others.
 use Rattle.std.proofs.Common.{rules, ◌≡◌, ◌++◌, ◌+◌, ◌∷◌, [], length, length-append, None, ap, sym, subst, ◌∙◌}
-use Rattle.ill_saved.specs.Side.{txn_of, idle_side, IsSideTransition}
-use Rattle.ill_saved.specs.Sides.{put_refusal, put_last}
+use Rattle.ill_record.specs.Side.{txn_of, idle_side, IsSideTransition}
+use Rattle.ill_record.specs.Sides.{put_refusal, put_last}
 use Rattle.ill_saved.specs.Holdings.{StaysBacked}
 use Rattle.ill_saved.specs.ManySides.{with_held, AreBackable, ManyBack, held_of, many_sides}
 use Rattle.ill_saved.proofs.Contents.{as_seen, held_more, more_backed, more_backable}

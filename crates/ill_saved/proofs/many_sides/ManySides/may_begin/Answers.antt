@@ -1,7 +1,7 @@
 -- Proves the contract of `ManySides::may_begin` (`src/many_sides.rt`).
 -- The number of held entries is the number of sides.
 use Rattle.std.proofs.Common.{rules, ◌≡◌, nat_lt, length, true, false, ap, sym, ◌∙◌}
-use Rattle.ill_saved.specs.Sides.{most_sides}
+use Rattle.ill_record.specs.Sides.{most_sides}
 use Rattle.ill_saved.proofs.Contents.{as_many_held}
 use Rattle.ill_saved.proofs.many_sides.ManySides.may_begin.Goals.{After-len}
 use Rattle.ill_saved.proofs.many_sides.ManySides.may_begin.Goals as goal

@@ -1,9 +1,9 @@
 -- Proves the contract of `ManySides::none` (`src/many_sides.rt`).
 -- A desk that holds no side backs itself.
 use Rattle.std.proofs.Common.{rules, ◌≡◌, [], ap, sym, subst}
-use Rattle.ill_saved.specs.Side.{IsConsistent}
-use Rattle.ill_saved.specs.Ranges.{Each}
-use Rattle.ill_saved.specs.Sides.{SidesOf}
+use Rattle.ill_record.specs.Side.{IsConsistent}
+use Rattle.ill_record.specs.Ranges.{Each}
+use Rattle.ill_record.specs.Sides.{SidesOf}
 use Rattle.ill_saved.specs.ManySides.{counts, held_of}
 use Rattle.ill_saved.proofs.Contents.{as_many_counted, none_are, whole_backable}
 use Rattle.ill_saved.proofs.many_sides.ManySides.none.Goals as goal

@@ -3,7 +3,7 @@
 use Rattle.std.proofs.Common.{rules, ◌≡◌, ℕ, ◌<◌, ◌≤◌, length, Some, None, ap, sym, subst, ◌∙◌}
 use Rattle.std.specs.Prelude.{position}
 use Rattle.ill_core.specs.Issued.{is_same_txn}
-use Rattle.ill_saved.specs.Side.{txn_of, issued_of}
+use Rattle.ill_record.specs.Side.{txn_of, issued_of}
 use Rattle.ill_saved.specs.ManySides.{held_for, AreBackable}
 use Rattle.ill_saved.proofs.Contents.{count_there, no_count, few_released}
 use Rattle.ill_saved.proofs.many_sides.ManySides.released_of.Goals as goal

@@ -3,8 +3,8 @@
 use Rattle.std.proofs.Common.{rules, ◌≡◌, true, None, Ok, length, nat_lt, ap}
 use Rattle.ill_core.specs.declared.taking.Taking.TheVariants.{Taken}
 use Rattle.ill_values.specs.Bodies.{is_ill_request}
-use Rattle.ill_saved.specs.Side.{took, takes, txn_of, idle_side, IsSideTransition}
-use Rattle.ill_saved.specs.Sides.{most_sides, put_refusal}
+use Rattle.ill_record.specs.Side.{took, takes, txn_of, idle_side, IsSideTransition}
+use Rattle.ill_record.specs.Sides.{most_sides, put_refusal}
 use Rattle.ill_saved.specs.ManySides.{sides_held}
 use Rattle.ill_saved.proofs.Contents.{first_may, first_begins}
 use Rattle.ill_saved.proofs.many_sides.ManySides.take_first.Goals.{In_ok-side}

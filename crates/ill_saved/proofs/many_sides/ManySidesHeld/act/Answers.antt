@@ -1,12 +1,12 @@
 -- Proves the contract of `ManySides::act` (`src/many_sides.rt`).
 -- Only the side of the transaction changes, by a transition.
 use Rattle.std.proofs.Common.{rules, ◌≡◌, true, length, ap, subst, ◌∙◌}
-use Rattle.ill_saved.specs.Side.{Acts, role_for}
-use Rattle.ill_saved.specs.Sides.{is_same_role, found_by}
+use Rattle.ill_record.specs.Side.{Acts, role_for}
+use Rattle.ill_record.specs.Sides.{is_same_role, found_by}
 use Rattle.ill_saved.specs.Holdings.{DeskActs, StaysBacked}
 use Rattle.ill_saved.specs.ManySides.{txn_held, held_of, AreBackable, ManyBack, many_sides}
 use Rattle.ill_saved.proofs.Desks.{core_answer}
-use Rattle.ill_saved.proofs.DeskEntry.{acts_row}
+use Rattle.ill_record.proofs.DeskEntry.{acts_row}
 use Rattle.ill_saved.proofs.Contents.{none_held, changed_held, still_backed, still_backable, desk_acts_so}
 use Rattle.ill_saved.proofs.many_sides.ManySidesHeld.act.Goals.{In-Some}
 use Rattle.ill_saved.proofs.many_sides.ManySidesHeld.act.Goals as goal

@@ -1,7 +1,7 @@
 -- Proves the contract of `ManySides::message` (`src/many_sides.rt`).
 -- The side and its released count are those of the held entry.
 use Rattle.std.proofs.Common.{rules, ◌≡◌, Some, None, ap, sym, ◌∙◌}
-use Rattle.ill_saved.specs.Sides.{found_by, side_with}
+use Rattle.ill_record.specs.Sides.{found_by, side_with}
 use Rattle.ill_saved.specs.ManySides.{txn_held, held_for}
 use Rattle.ill_saved.proofs.Contents.{as_seen, held_there, none_held_there}
 use Rattle.ill_saved.proofs.many_sides.ManySidesHeld.message.Goals.{In-Some}

@@ -1,7 +1,7 @@
 -- Proves the contract of `ManySides::record` (`src/many_sides.rt`).
 -- The sides in range are read from their encoding.
 use Rattle.std.proofs.Common.{subst, ap, ◌∙◌}
-use Rattle.ill_saved.specs.RecordsV2.{AreSides}
+use Rattle.ill_record.specs.RecordsV2.{AreSides}
 use Rattle.ill_saved.specs.ManySides.{counts, AreBackable}
 use Rattle.ill_saved.proofs.Contents.{as_seen, each_consistent, sides_record}
 use Rattle.ill_saved.proofs.many_sides.ManySidesHeld.record.Goals as goal

@@ -1,7 +1,7 @@
 -- Proves the contract of `ManySides::release` (`src/many_sides.rt`).
 -- The record has the number of issued messages of each side.
 use Rattle.std.proofs.Common.{◌≡◌, ap, sym, subst, ◌∙◌}
-use Rattle.ill_saved.specs.RecordsV2.{AreSides}
+use Rattle.ill_record.specs.RecordsV2.{AreSides}
 use Rattle.ill_saved.specs.ManySides.{counts, whole_of}
 use Rattle.ill_saved.proofs.Contents.{as_many_counted, as_seen, each_consistent, whole_backable, whole_held}
 use Rattle.ill_saved.proofs.many_sides.ManySidesHeld.release.Goals as goal

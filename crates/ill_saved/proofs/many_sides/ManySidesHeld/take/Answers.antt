@@ -1,12 +1,12 @@
 -- Proves the contract of `ManySides::take` (`src/many_sides.rt`).
 -- Only the side of the message changes, by a transition.
 use Rattle.std.proofs.Common.{rules, ◌≡◌, false, length, ap, subst, ◌∙◌}
-use Rattle.ill_saved.specs.Side.{Takes}
-use Rattle.ill_saved.specs.Sides.{found_by}
+use Rattle.ill_record.specs.Side.{Takes}
+use Rattle.ill_record.specs.Sides.{found_by}
 use Rattle.ill_saved.specs.Holdings.{DeskTakesApdu, StaysBacked}
 use Rattle.ill_saved.specs.ManySides.{txn_held, held_of, is_own, AreBackable, ManyBack, many_sides}
 use Rattle.ill_saved.proofs.Desks.{core_answer}
-use Rattle.ill_saved.proofs.DeskEntry.{takes_row}
+use Rattle.ill_record.proofs.DeskEntry.{takes_row}
 use Rattle.ill_saved.proofs.Contents.{none_held, changed_held, still_backed, still_backable, desk_takes_so}
 use Rattle.ill_saved.proofs.many_sides.ManySidesHeld.take.Goals.{In-Some}
 use Rattle.ill_saved.proofs.many_sides.ManySidesHeld.take.Goals as goal

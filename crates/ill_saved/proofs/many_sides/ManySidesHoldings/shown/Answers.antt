@@ -1,8 +1,8 @@
 -- Proves the contract of `ManySides::shown` (`src/many_sides.rt`).
 -- The side and its released count are those of the held entry.
 use Rattle.std.proofs.Common.{rules, ◌≡◌, Some, None, ap, sym, ◌∙◌}
-use Rattle.ill_saved.specs.Side.{shown_of}
-use Rattle.ill_saved.specs.Sides.{side_with}
+use Rattle.ill_saved.specs.Shown.{shown_of}
+use Rattle.ill_record.specs.Sides.{side_with}
 use Rattle.ill_saved.specs.ManySides.{idle_held, found_or}
 use Rattle.ill_saved.proofs.Contents.{as_seen, held_there, none_held_there}
 use Rattle.ill_saved.proofs.many_sides.ManySidesHoldings.shown.Goals as goal

@@ -1,9 +1,10 @@
 -- Proves the contract of `OneSide::begin` (`src/one_side.rt`).
 -- The idle side backs itself with no message released.
 use Rattle.std.proofs.Common.{◌≡◌, sym, subst}
-use Rattle.ill_saved.specs.Side.{idle_of}
+use Rattle.ill_record.specs.Side.{idle_of}
 use Rattle.ill_saved.specs.OneSide.{OneBacks, one_side}
-use Rattle.ill_saved.proofs.Desks.{idle_backs, idle_is_idle}
+use Rattle.ill_saved.proofs.Desks.{idle_backs}
+use Rattle.ill_record.proofs.Transitions.{idle_is_idle}
 use Rattle.ill_saved.proofs.one_side.OneSideHeld.begin.Goals as goal
 
 -- The idle side backs itself.

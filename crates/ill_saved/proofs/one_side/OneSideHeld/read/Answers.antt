@@ -1,7 +1,7 @@
 -- Proves the contract of `OneSide::read` (`src/one_side.rt`).
 -- A side that is read is consistent, so it backs itself.
 use Rattle.std.proofs.Common.{rules, arith}
-use Rattle.ill_saved.specs.Records.{begins_as_record}
+use Rattle.ill_record.specs.Records.{begins_as_record}
 use Rattle.ill_saved.proofs.Desks.{itself_backs, keeps_whole, record_faults}
 use Rattle.ill_saved.proofs.one_side.OneSideHeld.read.Goals as goal
 

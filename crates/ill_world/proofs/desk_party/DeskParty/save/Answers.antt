@@ -3,7 +3,7 @@
 use Rattle.std.proofs.Common.{rules, ◌≡◌, Ok, ap}
 use Rattle.ill_saved.specs.Holdings.{map_ok}
 use Rattle.ill_saved.specs.ManySides.{many_sides, sides_held, whole_of}
-use Rattle.ill_saved.specs.RecordsV2.{AreSides}
+use Rattle.ill_record.specs.RecordsV2.{AreSides}
 use Rattle.ill_saved.proofs.Contents.{sides_of_whole}
 use Rattle.ill_world.proofs.desk_party.DeskParty.save.Goals as goal
 

@@ -2,7 +2,7 @@
 -- of a round, after which `one_desk_round_is_enough` holds.
 use Rattle.std.proofs.Common.{◌++◌, subst}
 use Rattle.ill_values.specs.TxnId.{Qualifiers}
-use Rattle.ill_saved.specs.declared.role.Role.TheVariants.{Requester, Responder}
+use Rattle.ill_record.specs.declared.role.Role.TheVariants.{Requester, Responder}
 use Rattle.ill_world.specs.Desks.{DeskParties, desks_happen, desks_run, project}
 use Rattle.ill_world.specs.Round.{Performs, CanAnswer, AreInStep}
 use Rattle.ill_world.specs.DeskRound.{desk_half_of, desk_round_of}

@@ -1,6 +1,6 @@
 -- Proves the contract of `Party::act` (`src/party.rt`). The desk does or refuses an action as its side does.
 use Rattle.std.proofs.Common.{rules}
-use Rattle.ill_saved.specs.Side.{acts}
+use Rattle.ill_record.specs.Side.{acts}
 use Rattle.ill_world.proofs.Parties.{one_done, one_refused}
 use Rattle.ill_world.proofs.party.Party.act.Goals as goal
 

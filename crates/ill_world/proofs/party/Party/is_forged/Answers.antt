@@ -1,7 +1,7 @@
 -- Proves the contract of `Party::is_forged` (`src/party.rt`) if the bytes begin with an APDU. They are exactly one APDU
 -- if it has their length.
 use Rattle.std.proofs.Common.{rules}
-use Rattle.ill_saved.specs.Side.{txn_of}
+use Rattle.ill_record.specs.Side.{txn_of}
 use Rattle.ill_der.specs.ShortForm.{apdu_at}
 use Rattle.ill_world.proofs.Messages.{whole_is_of, part_is_of}
 use Rattle.ill_world.proofs.party.Party.is_forged.Goals as goal

@@ -1,7 +1,7 @@
 -- Proves the clauses `performs` and `in_step` of `World::exchange` (`src/world.rt`). It performs both halves of a
 -- round, after which `one_round_is_enough` holds.
 use Rattle.std.proofs.Common.{◌++◌, subst}
-use Rattle.ill_saved.specs.declared.role.Role.TheVariants.{Requester, Responder}
+use Rattle.ill_record.specs.declared.role.Role.TheVariants.{Requester, Responder}
 use Rattle.ill_world.specs.World.{Parties, happens, run_of}
 use Rattle.ill_world.specs.Round.{half_of, round_of, Performs, CanAnswer, AreInStep}
 use Rattle.ill_world.proofs.Rounds.{performs_prefix, performs_both, performed, prefix_further}

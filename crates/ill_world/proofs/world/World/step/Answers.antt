@@ -1,7 +1,7 @@
 -- Proves the invariant and all clauses of `World::step` (`src/world.rt`), for an event at either party. The event of
 -- one party is the event of the world, by `world_gives`.
 use Rattle.std.proofs.Common.{sym, ◌∙◌, subst}
-use Rattle.ill_saved.specs.declared.role.Role.TheVariants as who
+use Rattle.ill_record.specs.declared.role.Role.TheVariants as who
 use Rattle.ill_world.specs.World.{Parties, happens}
 use Rattle.ill_world.specs.Agreement.{KeepsDates, Arrives}
 use Rattle.ill_world.specs.PartyRefinement.{GivesOutcome}

@@ -1,0 +1,13 @@
+pub mod Lists
+pub mod Records
+pub mod Rules
+pub mod Steps
+pub mod Fields
+pub mod RecordLaws
+pub mod SidesLaws
+pub mod Roles
+pub mod Finding
+pub mod Transitions
+pub mod DeskEntry
+pub mod Together
+pub mod Sizes

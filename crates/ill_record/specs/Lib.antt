@@ -1,0 +1,9 @@
+pub mod Roles
+pub mod Side
+pub mod SideVerbs
+pub mod Sides
+pub mod Layout
+pub mod Records
+pub mod RecordsV2
+pub mod Ranges
+pub mod Faults

@@ -1,7 +1,0 @@
--- Proves the contract of `one_side` (`src/laws.rt`).
-use Rattle.ill_saved.proofs.RecordLaws.{one_side}
-use Rattle.ill_saved.proofs.laws.one_side.Goals as goal
-
--- Two sides in range with equal encodings are equal.
-pub returns : goal.returns
-returns c = one_side c.read_again.ensures

@@ -9,6 +9,7 @@ ghost use Rattle.ill_text.specs.declared.form.Form.TheVariants as forms;
 ghost use Rattle.ill_text.specs.Fault.{IsOpenFault};
 
 use crate::backup::HostBackup;
+use crate::outlet::Outlet;
 use crate::rooms::{Plan, Rooms, Sending, night_in, take_in};
 use crate::sending::send_asked;
 use ill_files::came::{CameFile, open_came};
@@ -214,30 +215,6 @@ fn find_mails<T: Files, W: Write, E: Write>(
         run.as_str(),
     );
     machine.report_fault_at(found, place.folder, NOT_READ)
-}
-
-/// The folder into which messages are put, and the key with which they are sealed, if there is one.
-#[derive(Clone, Copy)]
-pub struct Outlet<'a> {
-    /// The path of the folder.
-    pub folder: &'a str,
-    /// The key of the letters in which they leave, if there is one.
-    pub key: Option<&'a Key>,
-}
-
-impl<'a> Outlet<'a> {
-    /// Returns the outlet into `folder`, in which each message leaves in a mail of its own.
-    pub fn plain(folder: &'a str) -> Outlet<'a> {
-        Outlet { folder, key: None }
-    }
-
-    /// Returns the outlet into `folder`, in which messages leave in letters that are sealed with `key`.
-    pub fn sealed(folder: &'a str, key: &'a Key) -> Outlet<'a> {
-        Outlet {
-            folder,
-            key: Some(key),
-        }
-    }
 }
 
 /// Returns the key and the sender of the letters that come to a desk of this role, if there is a key.

@@ -4,7 +4,8 @@ ghost use Rattle.std.specs.Prelude.{true, Some, is_some, option_map};
 ghost use Rattle.ill_mail.specs.Keyed.{WithKey};
 ghost use Rattle.ill_mail.specs.Nights.{ExchangesAtFile, InboxAtFile, OutboxAtFile, asked_night};
 
-use crate::exchange::{Outlet, exchange, inbox, outbox};
+use crate::exchange::{exchange, inbox, outbox};
+use crate::outlet::Outlet;
 use ill_files::machine::Machine;
 use ill_key::Key;
 use ill_key::key_file::read_key;

@@ -5,5 +5,6 @@ pub mod backup;
 pub mod exchange;
 pub mod keyed;
 pub mod laws;
+pub mod outlet;
 pub mod rooms;
 pub mod sending;

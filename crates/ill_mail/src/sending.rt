@@ -4,7 +4,7 @@ ghost use Rattle.std.specs.Prelude.{◌≡◌, IfErr};
 ghost use Rattle.ill_mail.specs.Nights.{SendsAsked};
 ghost use Rattle.ill_text.specs.Fault.{IsFileFault};
 
-use crate::exchange::Outlet;
+use crate::outlet::Outlet;
 use crate::rooms::{Sending, put_asked};
 use ill_der::encode;
 use ill_files::machine::Machine;

@@ -12,7 +12,7 @@ use crate::on_shelf::{
 use ill_files::machine::Machine;
 use ill_files::shelf::Shelf;
 use ill_key::key_file::read_key;
-use ill_mail::exchange::Outlet;
+use ill_mail::outlet::Outlet;
 use ill_mailbox::mail::Incoming;
 use ill_night::night::Night;
 use ill_saved::LockFiles;

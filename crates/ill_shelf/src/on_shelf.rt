@@ -22,7 +22,7 @@ use ill_files::paths::{KEPT, MAIL, RETIRED, is_there, path_of};
 use ill_files::shelf::{Shelf, is_retired, names_of_desks, own_path, refuse_retired, retired_path};
 use ill_key::Key;
 use ill_mail::backup::beat;
-use ill_mail::exchange::Outlet;
+use ill_mail::outlet::Outlet;
 use ill_mailbox::mail::{Incoming, names_in};
 use ill_mailbox::mail_box::remove_if_there;
 use ill_mailbox::places::{Places, look_at_places};

@@ -8,7 +8,7 @@ use ill_der::ApduView;
 use ill_files::durable::error_of_store;
 use ill_files::machine::Machine;
 use ill_files::shelf::{Shelf, retired_path};
-use ill_mail::exchange::Outlet;
+use ill_mail::outlet::Outlet;
 use ill_mail::sending::{SentAll, send_words};
 use ill_mailbox::mail_box::asked_bytes;
 use ill_night::retire::words_in;

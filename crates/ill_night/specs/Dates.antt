@@ -19,7 +19,7 @@ use Rattle.ill_record.specs.Side.{due_date_of, role_of, state_of, txn_of}
 use Rattle.ill_saved.specs.ManySides.{DeskContents, sides_held, many_sides}
 use Rattle.ill_text.specs.declared.fault.ToolFault.{ToolFault}
 use Rattle.ill_night.specs.declared.dates.Dates.{Dates}
-use Rattle.ill_night.specs.declared.dates.Due.{Due}
+use Rattle.ill_night.specs.declared.due.Due.{Due}
 use Rattle.ill_saved.specs.Holdings.{Effects}
 use Rattle.ill_desk.specs.Performing.{CommandState, has_any, Run, EndsRun}
 use Rattle.ill_text.specs.declared.form.Form.{Form}

@@ -11,7 +11,7 @@ use Rattle.ill_text.specs.Diary.{DiaryState, Enters, message_key}
 use Rattle.ill_desk.specs.Performing.{has_any}
 use Rattle.ill_desk.specs.Telling.{shown_at}
 use Rattle.ill_night.specs.declared.dates.Dates.{Dates}
-use Rattle.ill_night.specs.declared.dates.Due.{Due}
+use Rattle.ill_night.specs.declared.due.Due.{Due}
 use Rattle.ill_night.specs.Dates.{Doing, after_dates}
 
 -- Returns the line of a diary that names a deed at the desk `live`. It begins with `begin`, the text before the key. The

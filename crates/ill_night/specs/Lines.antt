@@ -13,7 +13,7 @@ use Rattle.ill_words.specs.Outcome.{desk_outcome_word}
 use Rattle.ill_text.specs.Escape.{escaped}
 use Rattle.ill_text.specs.LongLines.{word}
 use Rattle.ill_desk.specs.Telling.{done_line, once_saved, shown_at}
-use Rattle.ill_night.specs.declared.dates.Due.{Due}
+use Rattle.ill_night.specs.declared.due.Due.{Due}
 use Rattle.ill_night.specs.declared.tally.Tally.{Tally}
 use Rattle.ill_night.specs.declared.verdict.Delay.{Delay}
 use Rattle.ill_night.specs.declared.verdict.Delay.TheVariants as delays

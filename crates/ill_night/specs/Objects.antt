@@ -14,7 +14,7 @@ use Rattle.ill_text.specs.declared.form.Form.TheVariants.{Lines, Json}
 use Rattle.ill_text.specs.Json.{Field, day, optional, quoted}
 use Rattle.ill_text.specs.ApduObject.{apdu_fields, object_line}
 use Rattle.ill_desk.specs.Telling.{long, once_saved, shown_at}
-use Rattle.ill_night.specs.declared.dates.Due.{Due}
+use Rattle.ill_night.specs.declared.due.Due.{Due}
 use Rattle.ill_night.specs.declared.tally.Tally.{Tally}
 use Rattle.ill_night.specs.declared.verdict.Verdict.{Verdict}
 use Rattle.ill_night.specs.declared.verdict.Verdict.TheVariants.{Done, Aside, Left}

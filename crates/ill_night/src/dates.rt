@@ -16,6 +16,7 @@ ghost use Rattle.ill_text.specs.Diary.{diary_state};
 ghost use Rattle.ill_night.specs.DeedDiary.{EntersDeeds, lines_of_dates, lines_of_doing};
 
 use crate::deed_diary::DeedDiary;
+use crate::due::Due;
 use crate::objects::push_deed_object;
 use ill_core::{Deed, State};
 use ill_desk::side_line::push_done_line;
@@ -36,13 +37,6 @@ pub struct Dates {
     pub overdue: bool,
     /// An Expire for each request whose expiry date is past.
     pub expire: bool,
-}
-
-/// A deed that is due on a day, and the transaction of its loan.
-#[derive(Drop)]
-pub(crate) struct Due {
-    pub txn: TxnId,
-    pub deed: Deed,
 }
 
 /// The dates of a run: a day, the deeds that it may make due, and the form in which they are told.

@@ -4,7 +4,7 @@ ghost use Rattle.std.specs.Prelude.{◌≡◌, ◌++◌, false, map, IfOk, OnOk}
 ghost use Rattle.ill_text.specs.Diary.{diary_state};
 ghost use Rattle.ill_night.specs.DeedDiary.{EntersAny, deed_diary_line, deed_diary_lines, lines_beginning};
 
-use crate::dates::Due;
+use crate::due::Due;
 use ill_saved::{AnyDesk, Holdings, Store};
 use ill_text::diary::{Diary, message_key};
 use ill_values::{OutOfMemory, TxnId};

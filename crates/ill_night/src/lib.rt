@@ -6,6 +6,7 @@ pub mod asked;
 pub mod copy;
 pub mod dates;
 pub mod deed_diary;
+mod due;
 pub mod inbox;
 pub mod night;
 pub mod objects;

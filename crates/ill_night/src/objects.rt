@@ -6,7 +6,7 @@ ghost use Rattle.ill_text.specs.ApduObject.{apdu_fields, object_line};
 ghost use Rattle.ill_night.specs.Lines.{sent_line, unfit_text};
 ghost use Rattle.ill_night.specs.Objects.{deed_fields, message_fields, outcome_fields, sent_fields, stays_fields, tally_fields, told_message, told_sent, told_tally, told_verdict, verdict_object};
 
-use crate::dates::Due;
+use crate::due::Due;
 use crate::tally::{Tally, push_tally};
 use crate::verdict::{Unfit, Verdict, delay_word, push_unfit, push_verdict};
 use ill_der::ApduView;

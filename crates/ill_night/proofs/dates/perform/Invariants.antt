@@ -1,7 +1,7 @@
 -- States the loop invariant of `perform` (`src/dates.rt`).
 use Rattle.std.proofs.Common.{◌≡◌, [], map, take, Bor}
 use Rattle.std.specs.Prelude.{fold}
-use Rattle.ill_night.specs.declared.dates.Due.{Due}
+use Rattle.ill_night.specs.declared.due.Due.{Due}
 use Rattle.ill_night.specs.Dates.{after_deed, doing}
 use Rattle.ill_night.proofs.dates.perform.Given as goal
 

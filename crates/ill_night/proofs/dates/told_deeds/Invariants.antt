@@ -1,7 +1,7 @@
 -- States the loop invariant of `told_deeds` (`src/dates.rt`).
 use Rattle.std.proofs.Common.{◌≡◌, take, Bor}
 use Rattle.std.specs.List.{flat_map}
-use Rattle.ill_night.specs.declared.dates.Due.{Due}
+use Rattle.ill_night.specs.declared.due.Due.{Due}
 use Rattle.ill_night.specs.Objects.{told_deed}
 use Rattle.ill_night.proofs.dates.told_deeds.Given as goal
 

@@ -3,7 +3,7 @@ use Rattle.std.proofs.Common.{Bor, ap, sym, ◌∙◌}
 use Rattle.std.specs.List.{flat_map}
 use Rattle.std.proofs.lemmas.List.{take_all}
 use Rattle.std.proofs.lemmas.List.Folds.{flat_map-map}
-use Rattle.ill_night.specs.declared.dates.Due.{Due}
+use Rattle.ill_night.specs.declared.due.Due.{Due}
 use Rattle.ill_night.specs.DeedDiary.{deed_diary_line}
 use Rattle.ill_night.proofs.deed_diary.diary_lines.Goals as goal
 

@@ -1,7 +1,7 @@
 -- States the loop invariant of `diary_lines` (`src/deed_diary.rt`).
 use Rattle.std.proofs.Common.{◌≡◌, take, Bor}
 use Rattle.std.specs.List.{flat_map}
-use Rattle.ill_night.specs.declared.dates.Due.{Due}
+use Rattle.ill_night.specs.declared.due.Due.{Due}
 use Rattle.ill_night.specs.DeedDiary.{deed_diary_line}
 use Rattle.ill_night.proofs.deed_diary.diary_lines.Given as goal
 

@@ -27,9 +27,9 @@ use Rattle.ill_words.specs.declared.outcome.Outcome.TheVariants as outcomes
 use Rattle.ill_words.specs.declared.outcome.DeskOutcome.{DeskOutcome}
 use Rattle.ill_words.specs.declared.outcome.DeskOutcome.TheVariants as seen
 use Rattle.ill_night.specs.Lines.{delay_text, der_word, place_text, unfit_text}
-use Rattle.ill_night.specs.Objects.{deed_fields, message_fields, outcome_fields, sent_fields, shown_fields, stays_fields}
-use Rattle.ill_night.specs.Objects.{tally_fields, told_message}
-use Rattle.ill_night.specs.declared.tally.Tally.{Tally}
+use Rattle.ill_inbox.specs.Objects.{deed_fields, message_fields, outcome_fields, sent_fields, shown_fields, stays_fields}
+use Rattle.ill_inbox.specs.Objects.{tally_fields, told_message}
+use Rattle.ill_inbox.specs.declared.tally.Tally.{Tally}
 use Rattle.ill_night.specs.declared.verdict.Delay.{Delay}
 use Rattle.ill_night.specs.declared.verdict.Delay.TheVariants as delays
 use Rattle.ill_night.specs.declared.verdict.Unfit.{Unfit}

@@ -23,7 +23,7 @@ use Rattle.ill_show.specs.Notes.{note_fields}
 use Rattle.ill_list.specs.News.{news_fields}
 use Rattle.ill_show.specs.Since.{AnnexRead}
 use Rattle.ill_show.specs.Objects.{status_fields, kept_fields}
-use Rattle.ill_night.specs.declared.tally.Tally.{Tally}
+use Rattle.ill_inbox.specs.declared.tally.Tally.{Tally}
 use Rattle.ill_night.specs.declared.verdict.Unfit.{Unfit}
 use Rattle.ill_night.specs.declared.verdict.Unfit.TheVariants.{NoMessage}
 use Rattle.ill_list.specs.ListObjects.{full_row_fields, counts_fields, file_fields}

@@ -29,7 +29,7 @@ use Rattle.ill_show.specs.declared.loan.LoanForm.{LoanForm}
 use Rattle.ill_text.specs.Diary.{Stamped, is_name, stamped}
 use Rattle.ill_text.specs.declared.form.Form.{Form}
 use Rattle.ill_text.specs.declared.form.Form.TheVariants as forms
-use Rattle.ill_night.specs.declared.dates.Dates.{Dates}
+use Rattle.ill_night.specs.declared.night.Dates.{Dates}
 use Rattle.ill_list.specs.declared.wanted.Which.{Which}
 use Rattle.ill_list.specs.declared.wanted.Which.TheVariants as loans
 use Rattle.ill_list.specs.declared.soon.TheConstants.{SOON}

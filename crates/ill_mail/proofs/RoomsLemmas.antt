@@ -5,9 +5,9 @@ use Rattle.ill_saved.specs.ManySides.{DeskContents, sides_held}
 use Rattle.ill_text.specs.declared.fault.ToolFault.{ToolFault}
 use Rattle.ill_text.specs.Fault.{IsOpenFault}
 use Rattle.ill_desk.specs.Performing.{CommandState, HeldAndLanded, command_state}
-use Rattle.ill_night.specs.declared.dates.Dates.{Dates}
+use Rattle.ill_night.specs.declared.night.Dates.{Dates}
 use Rattle.ill_text.specs.declared.form.Form.{Form}
-use Rattle.ill_night.specs.Inbox.{Arrived}
+use Rattle.ill_inbox.specs.Inbox.{Arrived}
 use Rattle.ill_night.specs.Outbox.{Putting}
 use Rattle.ill_room.specs.Room.{Answers}
 use Rattle.ill_room.specs.Backup.{BackupState, CopiesDesk, HasCopy, IsSameWish, Signs, is_honest_backup}

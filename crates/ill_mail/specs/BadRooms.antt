@@ -6,7 +6,7 @@ use Rattle.ill_text.specs.declared.fault.ToolFault.{ToolFault}
 use Rattle.ill_desk.specs.Performing.{HeldAndLanded}
 use Rattle.ill_night.specs.declared.verdict.Mail.{Mail}
 use Rattle.ill_night.specs.declared.verdict.Verdict.{Verdict}
-use Rattle.ill_night.specs.Inbox.{EndedWell}
+use Rattle.ill_inbox.specs.Inbox.{EndedWell}
 use Rattle.ill_night.specs.Outbox.{Putting, RunsOutbox}
 use Rattle.ill_room.specs.Room.{RoomState}
 use Rattle.ill_mail.specs.Rooms.{OutState}

@@ -13,15 +13,15 @@ use Rattle.ill_desk.specs.Performing.{HeldAndLanded, CommandState, command_state
 use Rattle.ill_text.specs.Output.{WritesText}
 use Rattle.ill_night.specs.declared.verdict.Mail.{Mail}
 use Rattle.ill_night.specs.declared.verdict.Verdict.{Verdict}
-use Rattle.ill_night.specs.declared.dates.Dates.{Dates}
+use Rattle.ill_night.specs.declared.night.Dates.{Dates}
 use Rattle.ill_night.specs.declared.night.Night.{Night as NightRun}
 use Rattle.ill_mail.specs.declared.exchange.Taken.{Taken}
-use Rattle.ill_night.specs.Dates.{RunsDates}
-use Rattle.ill_night.specs.DeedDiary.{EntersDeeds, lines_of_dates}
+use Rattle.ill_inbox.specs.Dates.{RunsDates}
+use Rattle.ill_inbox.specs.DeedDiary.{EntersDeeds, lines_of_dates}
 use Rattle.ill_text.specs.Diary.{DiaryState}
 use Rattle.ill_night.specs.Person.{wants_person}
-use Rattle.ill_night.specs.Inbox.{Arrived, RunsInbox, ending, is_waiting, tally_of}
-use Rattle.ill_night.specs.Objects.{told_sent}
+use Rattle.ill_inbox.specs.Inbox.{Arrived, RunsInbox, ending, is_waiting, tally_of}
+use Rattle.ill_inbox.specs.Objects.{told_sent}
 use Rattle.ill_text.specs.declared.form.Form.{Form}
 use Rattle.ill_text.specs.declared.form.Form.TheVariants.{Lines}
 use Rattle.ill_text.specs.Input.{AreIn}

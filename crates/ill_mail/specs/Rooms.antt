@@ -7,11 +7,11 @@ use Rattle.ill_saved.specs.ManySides.{DeskContents, many_sides, sides_held}
 use Rattle.ill_text.specs.declared.fault.ToolFault.{ToolFault}
 use Rattle.ill_words.specs.declared.outcome.DeskOutcome.{DeskOutcome}
 use Rattle.ill_desk.specs.Performing.{HeldAndLanded, CommandState, command_state, with_kept}
-use Rattle.ill_night.specs.declared.dates.Dates.{Dates}
+use Rattle.ill_night.specs.declared.night.Dates.{Dates}
 use Rattle.ill_night.specs.declared.verdict.Mail.{Mail}
 use Rattle.ill_night.specs.declared.verdict.Verdict.{Verdict}
 use Rattle.ill_night.specs.declared.verdict.Verdict.TheVariants.{Done}
-use Rattle.ill_night.specs.Inbox.{Arrived, EndedWell, RunsInbox}
+use Rattle.ill_inbox.specs.Inbox.{Arrived, EndedWell, RunsInbox}
 use Rattle.ill_night.specs.Outbox.{Putting, RunsOutbox, asked_by}
 use Rattle.ill_room.specs.Room.{RoomState, Answers, EndsRun, is_honest_room}
 use Rattle.ill_room.specs.Backup.{BackupState, HasCopy, IsSameWish}

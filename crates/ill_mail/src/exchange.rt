@@ -3,7 +3,7 @@
 
 ghost use Rattle.std.specs.Prelude.{◌≡◌, is_some, IfErr};
 ghost use Rattle.ill_mail.specs.Nights.{ExchangesAt, ExchangesAtFile, InboxAtFile, OutboxAtFile, SendsFrom, SendsOn, SendsTo, TakesMails, asked_night, ending_of, taken_of};
-ghost use Rattle.ill_night.specs.Inbox.{answered_with};
+ghost use Rattle.ill_inbox.specs.Inbox.{answered_with};
 ghost use Rattle.ill_desk.specs.Performing.{command_state, view_of};
 ghost use Rattle.ill_text.specs.declared.form.Form.TheVariants as forms;
 ghost use Rattle.ill_text.specs.Fault.{IsOpenFault};
@@ -17,6 +17,8 @@ use ill_files::diary::{ReopenedDiary, RunDiary, open_run_diary, warn_of_diary};
 use ill_files::machine::Machine;
 use ill_files::open::{all_well, open_locked};
 use ill_files::paths::folder_of;
+use ill_inbox::deed_diary::DeedDiary;
+use ill_inbox::tally::Tally;
 use ill_key::Key;
 use ill_key::role::{other_sender, own_sender};
 use ill_mailbox::fault_lines::{NO_BOX, NO_RUN, NOT_READ, report_fault_of_mail};
@@ -25,10 +27,8 @@ use ill_mailbox::mail::{Incoming, Mails, Opening, Source, begin_run, claim_mails
 use ill_mailbox::mail_box::{MailBox, MailPaths, asked_bytes, open_box};
 use ill_mailbox::mail_folder::MailFolder;
 use ill_mailbox::places::{Places, look_at_out, look_at_places};
-use ill_night::deed_diary::DeedDiary;
 use ill_night::night::Night;
 use ill_night::outbox::run_desk_outbox_stream;
-use ill_night::tally::Tally;
 use ill_night::verdict::{Batch, Verdict};
 use ill_room::sealed::Seal;
 use ill_saved::{Desk, LockFiles, Role, Store};

@@ -9,7 +9,7 @@
 //! With a key, the mails of a run are the messages in sealed letters. A file that is no letter gives no bytes.
 
 ghost use Rattle.std.specs.Prelude.{◌≡◌, IfErr};
-ghost use Rattle.ill_night.specs.Inbox.{is_line_end, without_line_end};
+ghost use Rattle.ill_night.specs.Mails.{is_line_end, without_line_end};
 ghost use Rattle.ill_text.specs.Fault.{IsOpenFault};
 
 use crate::mail_box::{MailBox, MailPaths, give_back};
@@ -18,7 +18,7 @@ use ill_files::paths::{joined, path_of, raw_names};
 use ill_files::shelf::is_for_desk;
 use ill_key::letter::LETTER_LIMIT;
 use ill_key::{Key, Sender};
-use ill_night::inbox::message_in;
+use ill_night::message::message_in;
 use ill_night::verdict::{InLetter, Mail, is_record};
 use ill_room::letters::messages_in;
 use ill_saved::Role;

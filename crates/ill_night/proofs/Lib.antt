@@ -1,4 +1,3 @@
 pub mod CopyLemmas
-pub mod DatesLemmas
-pub mod InboxLemmas
+pub mod MailsLemmas
 pub mod OutboxLemmas

@@ -1,10 +1,7 @@
 pub mod Copy
 pub mod CopyOver
-pub mod Dates
-pub mod DeedDiary
-pub mod Inbox
 pub mod Lines
-pub mod Objects
+pub mod Mails
 pub mod Outbox
 pub mod Person
 pub mod Retire

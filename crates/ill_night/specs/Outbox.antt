@@ -26,7 +26,7 @@ use Rattle.ill_night.specs.declared.verdict.Verdict.{Verdict}
 use Rattle.ill_night.specs.declared.verdict.Verdict.TheVariants.{Done}
 use Rattle.ill_night.specs.declared.outbox.Leaving.{Leaving}
 use Rattle.ill_night.specs.declared.verdict.Unfit.{Unfit}
-use Rattle.ill_night.specs.Inbox.{message_in}
+use Rattle.ill_night.specs.Mails.{message_in}
 use Rattle.ill_text.specs.Input.{AreIn}
 use Rattle.ill_text.specs.Output.{WritesText}
 use Rattle.ill_record.specs.Roles.{role_name}

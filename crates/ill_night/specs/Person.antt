@@ -18,7 +18,7 @@ use Rattle.ill_night.specs.declared.verdict.Delay.{Delay}
 use Rattle.ill_night.specs.declared.verdict.Delay.TheVariants as delays
 use Rattle.ill_night.specs.declared.person.Matter.{Matter}
 use Rattle.ill_night.specs.declared.person.Matter.TheVariants as matters
-use Rattle.ill_night.specs.Inbox.{message_in}
+use Rattle.ill_night.specs.Mails.{message_in}
 
 -- Returns true for a message whose conflict only a fault explains. All messages are sent again, in their
 -- order, so neither loss nor delay brings these into conflict.

@@ -4,9 +4,9 @@ ghost use Rattle.std.specs.Prelude.{◌≡◌, ◌++◌, Ok, slice_get, IfOk, On
 ghost use Rattle.std.specs.List.{zip};
 ghost use Rattle.ill_record.specs.Sides.{side_with};
 ghost use Rattle.ill_night.specs.Outbox.{asked_by, asking_bytes, asking_bytes_at, asking_bytes_of_mail, is_held_over};
-ghost use Rattle.ill_night.specs.Inbox.{message_in};
+ghost use Rattle.ill_night.specs.Mails.{message_in};
 
-use crate::inbox::message_in;
+use crate::message::message_in;
 use crate::verdict::{Mail, Verdict};
 use ill_saved::{Desk, Sides, Store};
 use ill_values::{OutOfMemory, TxnId};

@@ -1,9 +1,17 @@
 //! The arguments of a night.
 
-use crate::dates::Dates;
 use ill_text::diary::Stamp;
 use ill_text::form::Form;
 use ill_values::Day;
+
+/// The kinds of deeds that a day may make due: each is set if it is wanted.
+#[derive(Clone, Copy, Debug, PartialEq, Eq, Hash)]
+pub struct Dates {
+    /// An Overdue for each overdue loan.
+    pub overdue: bool,
+    /// An Expire for each request whose expiry date is past.
+    pub expire: bool,
+}
 
 /// The arguments of a run of `ill exchange`.
 #[derive(Clone, Copy)]

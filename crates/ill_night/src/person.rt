@@ -3,10 +3,10 @@
 ghost use Rattle.std.specs.Prelude.{◌≡◌, option_map};
 ghost use Rattle.std.specs.List.{zip};
 ghost use Rattle.ill_values.specs.Body.{body_in};
-ghost use Rattle.ill_night.specs.Inbox.{message_in};
+ghost use Rattle.ill_night.specs.Mails.{message_in};
 ghost use Rattle.ill_night.specs.Person.{conflict_in, conflict_of, delay_matter, is_never_in_conflict, matter_of, wants_person};
 
-use crate::inbox::message_in;
+use crate::message::message_in;
 use crate::verdict::{Delay, Mail, Unfit, Verdict, push_unfit};
 use ill_core::Taking;
 use ill_der::BodyView;

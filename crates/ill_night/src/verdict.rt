@@ -2,7 +2,7 @@
 
 ghost use Rattle.std.specs.Prelude.{◌≡◌, ◌++◌, codes, OnOk};
 ghost use Rattle.ill_night.specs.declared.verdict.Unfit.TheVariants as unfits;
-ghost use Rattle.ill_night.specs.Inbox.{begins_as_record, verdict_of, verdict_unread, verdict_without_message};
+ghost use Rattle.ill_night.specs.Mails.{begins_as_record, verdict_of, verdict_unread, verdict_without_message};
 ghost use Rattle.ill_night.specs.Lines.{delay_text, der_word, place_text, stays_line, unfit_text, verdict_line};
 
 use ill_core::Refusal;
@@ -150,11 +150,7 @@ pub fn is_record(bytes: &[u8]) -> bool
 }
 
 /// Appends the line of the mail `name`. A mail that is done has none.
-pub(crate) fn push_verdict(
-    lines: &mut Vec<u8>,
-    name: &[u8],
-    verdict: Verdict,
-) -> Result<(), OutOfMemory>
+pub fn push_verdict(lines: &mut Vec<u8>, name: &[u8], verdict: Verdict) -> Result<(), OutOfMemory>
     ensures { OnOk result (lines.new.items ≡ lines.old.items ++ verdict_line name.now verdict) }
 {
     match verdict {
@@ -189,7 +185,7 @@ fn push_left(lines: &mut Vec<u8>, name: &[u8], delay: Delay) -> Result<(), OutOf
 }
 
 /// Returns the word of the reason why a mail waits.
-pub(crate) fn delay_word(delay: Delay) -> &'static str
+pub fn delay_word(delay: Delay) -> &'static str
     ensures { result.now ≡ delay_text delay }
 {
     match delay {

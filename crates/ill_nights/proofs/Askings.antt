@@ -31,7 +31,7 @@ use Rattle.ill_night.specs.declared.verdict.Unfit.{Unfit}
 use Rattle.ill_night.specs.declared.verdict.Unfit.TheVariants as unfits
 use Rattle.ill_night.specs.declared.verdict.Verdict.{Verdict}
 use Rattle.ill_night.specs.declared.verdict.Verdict.TheVariants.{Aside, Done, Left}
-use Rattle.ill_night.specs.Inbox.{message_in, one_message}
+use Rattle.ill_night.specs.Mails.{message_in, one_message}
 use Rattle.ill_night.specs.Outbox.{asked_by, asking_bytes, asking_bytes_if_read, asking_bytes_of_mail, is_asked, is_held_over}
 use Rattle.ill_runs.specs.Mail.{message_if, message_if_read, message_of}
 use Rattle.ill_nights.specs.Messages.{messages_for}

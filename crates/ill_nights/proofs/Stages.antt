@@ -19,11 +19,11 @@ use Rattle.ill_saved.specs.ManySides.{DeskContents, desk_acts, many_sides, side_
 use Rattle.ill_text.specs.declared.fault.ToolFault.{ToolFault}
 use Rattle.ill_desk.specs.Performing.{CommandState, HeldAndLanded, has_any, saved, with_sides}
 use Rattle.ill_text.specs.declared.form.Form.{Form}
-use Rattle.ill_night.specs.declared.dates.Dates.{Dates}
+use Rattle.ill_night.specs.declared.night.Dates.{Dates}
 use Rattle.ill_night.specs.declared.verdict.Mail.{Mail}
 use Rattle.ill_night.specs.declared.verdict.Verdict.{Verdict}
-use Rattle.ill_night.specs.Dates.{Doing, after_act, after_deed, after_deeds, all_due, doing}
-use Rattle.ill_night.specs.Inbox.{RunsInbox, after_mails, unsorted}
+use Rattle.ill_inbox.specs.Dates.{Doing, after_act, after_deed, after_deeds, all_due, doing}
+use Rattle.ill_inbox.specs.Inbox.{RunsInbox, after_mails, unsorted}
 use Rattle.ill_mail.specs.Nights.{Night, PerformsDueDeeds, SettlesRun, TakesMails, arrived_in}
 use Rattle.ill_world.specs.declared.event.Event.TheVariants as events
 use Rattle.ill_world.specs.declared.event.DeskEvent.{DeskEvent}

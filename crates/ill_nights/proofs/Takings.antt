@@ -22,8 +22,9 @@ use Rattle.ill_words.specs.declared.outcome.DeskOutcome.TheVariants.{Plain}
 use Rattle.ill_night.specs.declared.verdict.Mail.{Mail}
 use Rattle.ill_night.specs.declared.verdict.Unfit.{Unfit}
 use Rattle.ill_night.specs.declared.verdict.Verdict.{Verdict}
-use Rattle.ill_night.specs.Inbox.{Sorting, after_mail, after_bytes, after_handing, after_message, kept_bytes, message_in}
-use Rattle.ill_night.specs.Inbox.{verdict_unread}
+use Rattle.ill_inbox.specs.Inbox.{Sorting, after_mail, after_bytes, after_handing, after_message, kept_bytes}
+use Rattle.ill_night.specs.Mails.{message_in}
+use Rattle.ill_night.specs.Mails.{verdict_unread}
 use Rattle.ill_world.specs.declared.event.DeskEvent.{DeskEvent}
 use Rattle.ill_world.specs.declared.event.DeskEvent.TheVariants.{Deliver}
 use Rattle.ill_world.specs.World.{Parties, party}

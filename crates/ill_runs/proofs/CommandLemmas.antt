@@ -31,8 +31,9 @@ use Rattle.ill_desk.specs.Telling.{Wording}
 use Rattle.ill_night.specs.declared.verdict.Mail.{Mail}
 use Rattle.ill_night.specs.declared.verdict.Unfit.{Unfit}
 use Rattle.ill_night.specs.declared.verdict.Verdict.{Verdict}
-use Rattle.ill_night.specs.Inbox.{Sorting, after_mail, after_bytes, after_message, after_handing, message_in, verdict_unread}
-use Rattle.ill_night.specs.Dates.{Doing, after_act, after_deed}
+use Rattle.ill_inbox.specs.Inbox.{Sorting, after_mail, after_bytes, after_message, after_handing}
+use Rattle.ill_night.specs.Mails.{message_in, verdict_unread}
+use Rattle.ill_inbox.specs.Dates.{Doing, after_act, after_deed}
 use Rattle.ill_world.specs.declared.event.DeskEvent.TheVariants.{Wish, Deed}
 use Rattle.ill_world.specs.Desks.{DeskParty, Sending, desk_decides}
 use Rattle.ill_world.specs.DeskSafety.{IsDeskOf}

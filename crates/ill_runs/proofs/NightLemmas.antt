@@ -9,9 +9,9 @@ use Rattle.ill_desk.specs.Performing.{HeldAndLanded, CommandState}
 use Rattle.ill_text.specs.declared.form.Form.{Form}
 use Rattle.ill_night.specs.declared.verdict.Mail.{Mail}
 use Rattle.ill_night.specs.declared.verdict.Verdict.{Verdict}
-use Rattle.ill_night.specs.declared.dates.Dates.{Dates}
-use Rattle.ill_night.specs.Inbox.{Arrived, RunsInbox, after_all, inbox_run, unsorted}
-use Rattle.ill_night.specs.Dates.{after_deeds, all_due, deeds_run, doing}
+use Rattle.ill_night.specs.declared.night.Dates.{Dates}
+use Rattle.ill_inbox.specs.Inbox.{Arrived, RunsInbox, after_all, inbox_run, unsorted}
+use Rattle.ill_inbox.specs.Dates.{after_deeds, all_due, deeds_run, doing}
 use Rattle.ill_mail.specs.Nights.{AskedNight, Night, TakesMails, ExchangesAt, PerformsDueDeeds, SettlesRun, arrived_in}
 use Rattle.ill_world.specs.Desks.{DeskParty, Sending}
 use Rattle.ill_world.specs.DeskSafety.{IsDeskOf}

@@ -20,9 +20,9 @@ use Rattle.ill_desk.specs.Performing.{HeldAndLanded, CommandState, Run, IsChange
 use Rattle.ill_desk.specs.Take.{Progress, TakesMessage, progress}
 use Rattle.ill_desk.specs.Telling.{Wording}
 use Rattle.ill_night.specs.declared.verdict.Mail.{Mail}
-use Rattle.ill_night.specs.declared.dates.Dates.{Dates}
-use Rattle.ill_night.specs.Inbox.{after_mails, inbox_run}
-use Rattle.ill_night.specs.Dates.{after_dates, deeds_run}
+use Rattle.ill_night.specs.declared.night.Dates.{Dates}
+use Rattle.ill_inbox.specs.Inbox.{after_mails, inbox_run}
+use Rattle.ill_inbox.specs.Dates.{after_dates, deeds_run}
 use Rattle.ill_mail.specs.Nights.{Night, TakesMails}
 use Rattle.ill_world.specs.World.{party}
 use Rattle.ill_runs.specs.Mail.{IsOneOf, Bring, mails_taken}

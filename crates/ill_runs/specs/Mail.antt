@@ -18,7 +18,7 @@ use Rattle.ill_desk.specs.Take.{RunsTaking}
 use Rattle.ill_desk.specs.Telling.{Wording}
 use Rattle.ill_night.specs.declared.verdict.Mail.{Mail}
 use Rattle.ill_night.specs.declared.verdict.Unfit.{Unfit}
-use Rattle.ill_night.specs.Inbox.{message_in}
+use Rattle.ill_night.specs.Mails.{message_in}
 use Rattle.ill_night.specs.Outbox.{leaving_desk}
 use Rattle.ill_text.specs.declared.form.Form.{Form}
 use Rattle.ill_mail.specs.Nights.{AskedNight, Night, TakesMails, ExchangesAt}

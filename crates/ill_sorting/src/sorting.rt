@@ -21,7 +21,7 @@ use ill_mailbox::host_room::remove_runs;
 use ill_mailbox::mail::{Mails, Source, begin_run, claim_mails, new_run};
 use ill_mailbox::mail_box::{MailBox, give_back, open_box, remove_if_there};
 use ill_mailbox::reserved::is_within;
-use ill_night::inbox::message_in;
+use ill_night::message::message_in;
 use ill_night::verdict::Mail;
 use ill_saved::{DeskFault, FileStore, LockFiles, RECORD_LIMIT, Role};
 use ill_text::fault::{STORE_FAILED, ToolFault};

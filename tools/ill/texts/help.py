@@ -20,10 +20,10 @@ from ill.texts import words as command_line
 from ill.texts.words import HELP, LINE, MAN, body, find, named
 
 EXPLAIN = "crates/ill_explain/src"
-WORLD, WORDS, TEXT, SHOW, LIST, SLIP, COUNTED, DESK, NIGHT, FILES, KEY, COMMANDS, MAIL, MAILBOX, SHELF, ROOM = (
+WORLD, WORDS, TEXT, SHOW, LIST, SLIP, COUNTED, DESK, NIGHT, INBOX, FILES, KEY, COMMANDS, MAIL, MAILBOX, SHELF, ROOM = (
     f"crates/ill_{room}/src"
-    for room in ("world", "words", "text", "show", "list", "slip", "figures", "desk", "night", "files", "key", "commands",
-                 "mail", "mailbox", "shelf", "room"))
+    for room in ("world", "words", "text", "show", "list", "slip", "figures", "desk", "night", "inbox", "files", "key",
+                 "commands", "mail", "mailbox", "shelf", "room"))
 FILE_KINDS = {"File", "NewFile", "Paths", "Folder"}
 KEY_KINDS = {"KeyFile", "Key", "NightKey"}
 FLAGS = {"Long", "Keep", "Picture", "Open", "Mine", "Actions", "Json", "Csv"}
@@ -264,7 +264,7 @@ def statuses():
 
 def source_of(command):
     """Returns the path of the source of a command: it stands in one of the crates of the program."""
-    crates = (TEXT, SHOW, LIST, SLIP, COUNTED, DESK, NIGHT, FILES, KEY, COMMANDS, MAIL, SHELF, "crates/ill_tool/src")
+    crates = (TEXT, SHOW, LIST, SLIP, COUNTED, DESK, NIGHT, INBOX, FILES, KEY, COMMANDS, MAIL, SHELF, "crates/ill_tool/src")
     found = [path for path in (f"{crate}/{command}.rt" for crate in crates) if os.path.exists(repository.full(path))]
     if len(found) != 1:
         raise Unread(f"{command}.rt: it stands {len(found)} times in {', '.join(crates)}")
@@ -597,11 +597,11 @@ def compare_words(named_texts, words, arguments):
     files = re.findall(r"^  \$ ill new (\w+)", read(HELP), re.M)
     objects = "".join(map(read, (f"{TEXT}/apdu_object.rt", f"{SHOW}/objects.rt", f"{LIST}/list_objects.rt",
                                  f"{SHOW}/diary.rt", f"{SHOW}/since.rt", f"{LIST}/news.rt", f"{LIST}/listed_news.rt",
-                                 f"{SHOW}/verify.rt", f"{NIGHT}/objects.rt")))
+                                 f"{SHOW}/verify.rt", f"{INBOX}/objects.rt")))
     labels = set(re.findall(r'(?:\(|\(text, )"([\w-]+)"(?:, |\)\?;)', objects))
-    counted = set(re.findall(r"(\w+) \{\1\}", read(f"{NIGHT}/tally.rt")))
+    counted = set(re.findall(r"(\w+) \{\1\}", read(f"{INBOX}/tally.rt")))
     staying = {f"NAME {word} REASON" for word in re.findall(r'b" (\w+) "', read(f"{NIGHT}/verdict.rt"))}
-    sent = {f"{word} N" for word in re.findall(r'"(\w+) \{\w+\}\\n"', read(f"{NIGHT}/objects.rt"))}
+    sent = {f"{word} N" for word in re.findall(r'"(\w+) \{\w+\}\\n"', read(f"{INBOX}/objects.rt"))}
     told = {text for text, _ in told_faults()}
     told |= set(re.findall(r'b"(changed) "', read("crates/ill_desk/src/act_as.rt")))
     known = words | labels | counted | staying | sent | verbs_known | set(arguments) | told | set(files) | {

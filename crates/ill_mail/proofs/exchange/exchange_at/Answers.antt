@@ -2,7 +2,7 @@
 use Rattle.std.proofs.Common.{ap, subst, ◌∙◌}
 use Rattle.ill_desk.specs.Performing.{command_state, view_of}
 use Rattle.ill_text.specs.declared.form.Form.{Form}
-use Rattle.ill_night.specs.Inbox.{arrived_of}
+use Rattle.ill_inbox.specs.Inbox.{arrived_of}
 use Rattle.ill_mail.specs.Nights.{ExchangesAt, asked_night}
 use Rattle.ill_mail.proofs.RoomsLemmas.{night_opened, night_unopened}
 use Rattle.ill_mail.proofs.exchange.exchange_at.Goals as goal

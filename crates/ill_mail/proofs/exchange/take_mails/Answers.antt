@@ -3,7 +3,7 @@ use Rattle.std.proofs.Common.{ℕ, List, Ok, Err, Result, ap, refl, ◌∙◌}
 use Rattle.ill_desk.specs.Performing.{view_of}
 use Rattle.ill_text.specs.declared.fault.ToolFault.{ToolFault}
 use Rattle.ill_text.specs.declared.form.Form.TheVariants.{Lines}
-use Rattle.ill_night.specs.Inbox.{arrived_of}
+use Rattle.ill_inbox.specs.Inbox.{arrived_of}
 use Rattle.ill_night.specs.declared.verdict.Mail.{Mail}
 use Rattle.ill_night.specs.declared.verdict.Verdict.{Verdict}
 use Rattle.ill_mail.specs.Nights.{Night, taken_of}

@@ -2,7 +2,7 @@
 use Rattle.std.proofs.Common.{List, Ok, subst}
 use Rattle.ill_night.specs.declared.verdict.Verdict.{Verdict}
 use Rattle.ill_desk.specs.Performing.{command_state, view_of}
-use Rattle.ill_night.specs.Inbox.{arrived_of}
+use Rattle.ill_inbox.specs.Inbox.{arrived_of}
 use Rattle.ill_mail.specs.Nights.{FinishesNight}
 use Rattle.ill_mail.specs.Rooms.{asked_in, night_of}
 use Rattle.ill_mail.proofs.rooms.night_in.Goals as goal

@@ -1,0 +1,5 @@
+pub mod Dates
+pub mod DeedDiary
+pub mod Inbox
+pub mod Lines
+pub mod Objects

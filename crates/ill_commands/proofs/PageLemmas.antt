@@ -11,7 +11,7 @@ use Rattle.ill_values.specs.Day.{Date}
 use Rattle.ill_text.specs.declared.fault.ToolFault.{ToolFault}
 use Rattle.ill_text.specs.declared.fault.ToolFault.TheVariants.{Arguments, Der, TooMany, Script, Desk, Key, Left, Read, Write}
 use Rattle.ill_text.specs.declared.fault.ToolFault.TheVariants.{NotSealed, OutOfMemory}
-use Rattle.ill_list.specs.Report.{AddsPart, AddsParts, Part, gravest_part, part_answer, part_text}
+use Rattle.ill_commands.specs.Parts.{AddsPart, AddsParts, Part, gravest_part, part_answer, part_text}
 use Rattle.ill_text.specs.Visits.{graver}
 use Rattle.ill_text.specs.Fault.{IsOpenFault}
 

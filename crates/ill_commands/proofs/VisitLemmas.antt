@@ -3,8 +3,8 @@ use Rattle.std.proofs.Common.{◌≡◌, ℕ, Bool, List, [], Option, Some, opti
 use Rattle.std.proofs.KnownBytes.{Appends-nil}
 use Rattle.ill_der.specs.ShortForm.{header_at, outer_at, apdu_at}
 use Rattle.ill_text.specs.Input.{AreIn}
-use Rattle.ill_list.specs.CameSince.{came_since}
-use Rattle.ill_list.specs.News.{news_of}
+use Rattle.ill_news.specs.CameSince.{came_since}
+use Rattle.ill_news.specs.News.{news_of}
 use Rattle.ill_show.specs.Since.{AnnexRead}
 use Rattle.ill_text.specs.declared.fault.ToolFault.{ToolFault}
 use Rattle.ill_text.specs.declared.fault.ToolFault.TheVariants.{Write}

@@ -28,13 +28,15 @@ use Rattle.ill_figures.specs.Texts.{figures_text, head_text}
 use Rattle.ill_figures.specs.declared.figures.FiguresView.{FiguresView}
 use Rattle.ill_show.specs.Verify.{VerifiesLoaded}
 use Rattle.ill_list.specs.declared.wanted.Wanted.{Wanted}
-use Rattle.ill_list.specs.Listing.{between, listed_desk}
+use Rattle.ill_rows.specs.Heading.{between}
+use Rattle.ill_list.specs.Listing.{listed_desk}
 use Rattle.ill_show.specs.ItemLine.{item_line}
-use Rattle.ill_list.specs.News.{WritesNews, news_desk}
+use Rattle.ill_rows.specs.Messages.{WritesNews}
+use Rattle.ill_news.specs.News.{news_desk}
 use Rattle.ill_show.specs.ItemLine.{item_of}
-use Rattle.ill_list.specs.Told.{news_since, told_since}
+use Rattle.ill_news.specs.Told.{news_since, told_since}
 use Rattle.ill_show.specs.Since.{AnnexRead}
-use Rattle.ill_list.specs.Report.{Part, gravest_part, report_page}
+use Rattle.ill_commands.specs.Parts.{Part, gravest_part, report_page}
 use Rattle.ill_text.specs.declared.form.Form.{Form}
 use Rattle.ill_show.specs.Objects.{status_of_desk}
 use Rattle.ill_text.specs.Visits.{Stop, VisitsEach, graver}

@@ -3,7 +3,7 @@
 
 ghost use Rattle.std.specs.Prelude.{◌≡◌, map, option_copied, option_map, string_bytes, IfErr, IfOk};
 ghost use Rattle.ill_show.specs.ItemLine.{item_of};
-ghost use Rattle.ill_list.specs.Report.{AddsPart, AddsParts};
+ghost use Rattle.ill_commands.specs.Parts.{AddsPart, AddsParts};
 ghost use Rattle.ill_commands.specs.AtFile.{ActsAtFile, ListsDesk, ListsPaths, LoanAtFile, NewAtFile, ReportsPaths, SendsAtFile, ShowsFile, SlipAtFile, TakesAtFile, TellsItem, VerifiesFile, after_writing};
 ghost use Rattle.ill_commands.specs.Streams.{streams_of};
 ghost use Rattle.ill_desk.specs.ActAs.{RunsActAs, asking_of};
@@ -23,12 +23,11 @@ use ill_files::folder::{desk_paths, warn_of_names};
 use ill_files::machine::Machine;
 use ill_files::notes::notes_bytes;
 use ill_files::open::{all_well, end, lock, open, open_locked};
-use ill_list::finding::Sought;
-use ill_list::list::{count_left_out, run_desk_list};
-use ill_list::listed::{Listed, left_out_line, warning};
-use ill_list::news::news_since;
-use ill_list::report::{PageView, end_page, push_desk, push_fault, push_head};
+use ill_list::list::{Sought, count_left_out, run_desk_list};
 use ill_list::wanted::Wanted;
+use ill_news::news::news_since;
+use ill_report::report::{PageView, end_page, push_desk, push_fault, push_head};
+use ill_rows::listed::{Listed, left_out_line, warning};
 use ill_saved::{
     Desk, FileStore, LockFiles, LockedDesk, RECORD_LIMIT, Role, SIDES_LIMIT, Side, Sides, Store,
 };

@@ -8,7 +8,7 @@ use ill_figures::figures::{FiguresSought, FiguresView, run_desk_figures};
 use ill_files::came::came_bytes;
 use ill_files::machine::Machine;
 use ill_files::open::{all_well, open};
-use ill_list::listed::Listed;
+use ill_rows::listed::Listed;
 use ill_text::fault::ToolFault;
 use ill_text::form::Form;
 use ill_text::output::write_whole;

@@ -8,7 +8,7 @@ use Rattle.ill_record.specs.declared.side.Side.{Side}
 use Rattle.ill_figures.specs.declared.count.Count.{Count}
 use Rattle.ill_figures.specs.declared.count.Count.TheVariants as counts
 use Rattle.ill_figures.specs.declared.days.Span.{Span}
-use Rattle.ill_figures.specs.declared.figures.Gathered.{Gathered}
+use Rattle.ill_figures.specs.declared.count.Gathered.{Gathered}
 use Rattle.ill_figures.specs.declared.loan_figures.End.{End}
 use Rattle.ill_figures.specs.declared.loan_figures.End.TheVariants as ends
 use Rattle.ill_figures.specs.declared.loan_figures.Loan.{Loan}

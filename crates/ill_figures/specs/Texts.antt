@@ -4,7 +4,7 @@ use Rattle.std.specs.Prelude.{option_map}
 use Rattle.std.specs.List.{flat_map}
 use Rattle.std.specs.Fmt.{decimal}
 use Rattle.ill_values.specs.Day.{iso_text}
-use Rattle.ill_list.specs.Listing.{gap, heading}
+use Rattle.ill_rows.specs.Heading.{gap, heading}
 use Rattle.ill_figures.specs.declared.count.Count.{Count}
 use Rattle.ill_figures.specs.declared.count.Count.TheVariants as counts
 use Rattle.ill_figures.specs.declared.days.Span.{Span}

@@ -5,6 +5,15 @@ ghost use Rattle.ill_figures.specs.Figures.{counted, is_all_refused, is_of, unda
 
 use crate::loan_figures::{End, Loan};
 
+/// Figures of a desk.
+#[derive(Drop)]
+pub(crate) struct Gathered {
+    /// The loans that were asked in the span.
+    pub asked: Vec<Loan>,
+    /// The number of loans without a day of asking.
+    pub undated: usize,
+}
+
 /// A count of loans that were asked in a span.
 #[derive(Clone, Copy)]
 pub(crate) enum Count {

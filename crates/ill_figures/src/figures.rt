@@ -3,17 +3,17 @@
 ghost use Rattle.std.specs.Prelude.{◌≡◌, ◌≤◌, length, map, IfOk};
 ghost use Rattle.ill_saved.specs.ManySides.{sides_held};
 ghost use Rattle.ill_show.specs.FileLines.{lines_of};
-ghost use Rattle.ill_list.specs.News.{IsTextOf, WritesNews};
+ghost use Rattle.ill_rows.specs.Messages.{IsTextOf, WritesNews};
 ghost use Rattle.ill_figures.specs.Figures.{asked_in, figures_of, gathered, loans_of};
 ghost use Rattle.ill_figures.specs.LoanFigures.{mentioned, mentions_in};
 ghost use Rattle.ill_figures.specs.Texts.{figures_record, figures_text, head_text};
 
-use crate::count::undated;
+use crate::count::{Gathered, undated};
 pub use crate::days::Span;
 use crate::loan_figures::{Loan, loan_of};
 use crate::mentions::{Mention, mentions_in};
 use crate::texts::{HEAD, push_lines, push_record};
-use ill_list::listed::{Listed, heading};
+use ill_rows::listed::{Listed, heading};
 use ill_saved::{Desk, Side, Sides, Store};
 use ill_show::file_lines::FileLines;
 use ill_text::fault::ToolFault;
@@ -41,15 +41,6 @@ impl FiguresView {
     {
         if self.is_csv { HEAD } else { "" }
     }
-}
-
-/// Figures of a desk.
-#[derive(Drop)]
-pub(crate) struct Gathered {
-    /// The loans that were asked in the span.
-    pub asked: Vec<Loan>,
-    /// The number of loans without a day of asking.
-    pub undated: usize,
 }
 
 /// What figures of a desk are asked for, and what the files beside it have.

@@ -6,9 +6,8 @@ ghost use Rattle.std.specs.Fmt.{decimal};
 ghost use Rattle.ill_figures.specs.Figures.{gathered};
 ghost use Rattle.ill_figures.specs.Texts.{count_field, count_fields, count_label, count_line, count_lines, day_fields, figures_lines, figures_record, mean_field, mean_text, next_field, number_line, quoted, quoted_byte, span_line, tenths_text, undated_field, undated_line, wait_field, wait_fields, wait_label, wait_line, wait_lines};
 
-use crate::count::{COUNTS, Count, counted};
+use crate::count::{COUNTS, Count, Gathered, counted};
 use crate::days::Span;
-use crate::figures::Gathered;
 use crate::loan_figures::Loan;
 use crate::means::{WAITS, Wait, mean, waited};
 use ill_values::OutOfMemory;

@@ -25,15 +25,18 @@ use Rattle.ill_list.specs.declared.wanted.Wanted.{Wanted}
 use Rattle.ill_work.specs.declared.work.Work.{Work}
 use Rattle.ill_work.specs.Work.{all_work}
 use Rattle.ill_list.specs.List.{counts_of, has_work, is_listed, listed_of}
-use Rattle.ill_list.specs.Finding.{Seeking, is_found}
-use Rattle.ill_list.specs.Listing.{between, chosen_of, file_told, list_objects, listed, listed_desk, section, sections}
+use Rattle.ill_list.specs.Seeking.{Seeking}
+use Rattle.ill_rows.specs.Finding.{is_found}
+use Rattle.ill_rows.specs.Heading.{between, file_told}
+use Rattle.ill_list.specs.Listing.{chosen_of, list_objects, listed, listed_desk, section, sections}
 use Rattle.ill_list.specs.Listing.{work_objects}
 use Rattle.ill_show.specs.Diary.{Told, history_fields, history_of, messages_of, part_fields, part_object}
 use Rattle.ill_show.specs.Notes.{note_fields, note_of}
 use Rattle.ill_show.specs.Since.{AnnexRead, since_fields, since_of}
 use Rattle.ill_show.specs.Loan.{loan_text}
 use Rattle.ill_show.specs.Objects.{came_fields, kept_fields, loan_fields}
-use Rattle.ill_list.specs.ListObjects.{counts_fields, counts_object, file_fields}
+use Rattle.ill_list.specs.ListObjects.{counts_fields, counts_object}
+use Rattle.ill_rows.specs.Heading.{file_fields}
 use Rattle.ill_list.specs.ListedNews.{listed_news_fields}
 use Rattle.ill_show.specs.Objects.{message_object, names_of}
 use Rattle.ill_list.specs.ListObjects.{dated_fields, full_row_fields, noted_fields, row_fields, row_object}

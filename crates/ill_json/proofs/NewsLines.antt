@@ -15,13 +15,13 @@ use Rattle.ill_record.specs.RecordsV2.{AreSides}
 use Rattle.ill_record.specs.Sides.{SidesOf, found_by, side_with}
 use Rattle.ill_text.specs.declared.form.Form.TheVariants as forms
 use Rattle.ill_text.specs.ApduObject.{object_line}
-use Rattle.ill_list.specs.Listing.{between, file_told}
-use Rattle.ill_list.specs.News.{heard_at, is_told, last_of, news_desk, news_fields, news_of, news_objects, with_news}
-use Rattle.ill_list.specs.News.{words_at}
-use Rattle.ill_list.specs.CameSince.{came_since, is_new}
-use Rattle.ill_list.specs.Deeds.{deeds_at, deeds_since, is_deed_since}
-use Rattle.ill_list.specs.Told.{told_since}
-use Rattle.ill_list.specs.ListObjects.{file_fields}
+use Rattle.ill_rows.specs.Heading.{between, file_told}
+use Rattle.ill_news.specs.News.{heard_at, is_told, last_of, news_desk, news_fields, news_of, news_objects, with_news}
+use Rattle.ill_news.specs.News.{words_at}
+use Rattle.ill_news.specs.CameSince.{came_since, is_new}
+use Rattle.ill_news.specs.Deeds.{deeds_at, deeds_since, is_deed_since}
+use Rattle.ill_news.specs.Told.{told_since}
+use Rattle.ill_rows.specs.Heading.{file_fields}
 use Rattle.ill_json.specs.Lines.{fields_of_news}
 use Rattle.ill_json.specs.Objects.{AreObjectLines, IsObjectLine}
 use Rattle.ill_json.proofs.HistoryLines.{filter_each}

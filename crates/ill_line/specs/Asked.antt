@@ -32,7 +32,7 @@ use Rattle.ill_text.specs.declared.form.Form.TheVariants as forms
 use Rattle.ill_night.specs.declared.night.Dates.{Dates}
 use Rattle.ill_list.specs.declared.wanted.Which.{Which}
 use Rattle.ill_list.specs.declared.wanted.Which.TheVariants as loans
-use Rattle.ill_list.specs.declared.soon.TheConstants.{SOON}
+use Rattle.ill_rows.specs.declared.soon.TheConstants.{SOON}
 use Rattle.ill_list.specs.declared.wanted.Wanted.{Wanted}
 use Rattle.ill_line.specs.declared.request.Refusal.{Refusal}
 use Rattle.ill_line.specs.declared.request.Refusal.TheVariants.{Usage, Fault}

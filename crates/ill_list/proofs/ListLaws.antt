@@ -6,7 +6,8 @@ use Rattle.ill_list.specs.declared.row.Columns.{Columns}
 use Rattle.ill_list.specs.declared.wanted.Wanted.{Wanted}
 use Rattle.ill_list.specs.ListedNews.{listed_news}
 use Rattle.ill_list.specs.List.{columns_of, counts_line, counts_of, has_work}
-use Rattle.ill_list.specs.Listing.{chosen_of, heading, lines_text, list_lines, listed_desk, morning_lines, note_shown}
+use Rattle.ill_list.specs.Listing.{chosen_of, lines_text, list_lines, listed_desk, morning_lines, note_shown}
+use Rattle.ill_rows.specs.Heading.{heading}
 use Rattle.ill_list.specs.Listing.{noted_row, section, since_shown, told_morning, told_row, work_heading, work_lines}
 use Rattle.ill_list.specs.Morning.{is_morning, morning_columns, morning_row}
 use Rattle.ill_list.specs.declared.morning.MorningColumns.{MorningColumns}

@@ -1,12 +1,6 @@
-pub mod CameSince
-pub mod Deeds
-pub mod Finding
-pub mod Link
 pub mod List
 pub mod ListObjects
 pub mod ListedNews
 pub mod Listing
 pub mod Morning
-pub mod News
-pub mod Report
-pub mod Told
+pub mod Seeking

@@ -1,6 +1,6 @@
 -- The loans in the output of `list`, their work, the line of each, and the line of the counts.
-use Rattle.std.specs.Prelude.{ℕ, ◌-◌, max, Bool, true, false, ◌&&◌, ◌||◌, ◌==◌, if◌then◌else◌, List, [], ◌∷◌, ◌++◌, length, fold}
-use Rattle.std.specs.Prelude.{count_by, filter, replicate, Option, Some, None, is_none, not, codes}
+use Rattle.std.specs.Prelude.{ℕ, ◌-◌, max, Bool, true, false, ◌&&◌, ◌||◌, if◌then◌else◌, List, [], ◌∷◌, ◌++◌, length, fold}
+use Rattle.std.specs.Prelude.{count_by, filter, Option, Some, None, is_none, not, codes}
 use Rattle.std.specs.List.{join_by}
 use Rattle.std.specs.Fmt.{decimal}
 use Rattle.ill_values.specs.Day.{Date}
@@ -18,7 +18,6 @@ use Rattle.ill_list.specs.declared.wanted.Wanted.{Wanted}
 use Rattle.ill_list.specs.declared.counts.Counts.{Counts}
 use Rattle.ill_list.specs.declared.row.Columns.{Columns}
 use Rattle.ill_list.specs.ListedNews.{has_news}
-use Rattle.ill_text.specs.Escape.{escaped}
 use Rattle.ill_words.specs.Possible.{possible_on, request_of, item_asked}
 use Rattle.ill_words.specs.Waiting.{is_sooner, waits_by_date}
 use Rattle.ill_work.specs.declared.work.Work.{Work}
@@ -82,40 +81,7 @@ is_listed wanted news side = is_of_list wanted news side && is_wanted wanted sid
 abbrev pub listed_of : Wanted → (news : Option (List Apdu)) → List Side → List Side
 listed_of wanted news sides = filter (is_listed wanted news) sides
 
--- ---- the item of a loan
-
--- Returns an item for a screen, or a dash if there is none.
-abbrev pub title_text : Option (List ℕ) → List ℕ
-title_text None = codes "-"
-title_text (Some item) = escaped item
-
 -- ---- the line of a loan
-
--- Returns a byte of a column. A space is an escape if it is at an edge of the text or after another one.
-abbrev pub column_byte : (is_edge : Bool) → ℕ → List ℕ
-column_byte is_edge byte = if is_edge && byte == 0x20 then codes "\\u{20}" else byte ∷ []
-
--- Returns true if there is no further byte.
-abbrev pub is_end : List ℕ → Bool
-is_end [] = true
-is_end after = false
-
--- Returns the rest of a column. `is_edge` says that nothing, or a space, is before it.
-unfoldable pub column_rest : (is_edge : Bool) → List ℕ → List ℕ
-column_rest is_edge [] = []
-column_rest is_edge (byte ∷ after) = column_byte (is_edge || is_end after) byte ++ column_rest (byte == 0x20) after
-
--- Returns a qualifier for a column. No two spaces stand side by side in it, since two spaces end a column.
-abbrev pub column : List ℕ → List ℕ
-column text = column_rest true text
-
--- Returns `text` with spaces after it, up to `width`.
-unfoldable pub padded : ℕ → List ℕ → List ℕ
-padded width text = text ++ replicate (width - length text) 32
-
--- Returns `text` with spaces up to `width`, and two further ones before the next column.
-abbrev pub cell : ℕ → List ℕ → List ℕ
-cell width text = padded width text ++ codes "  "
 
 -- Returns the actions that the side may do on the day `today`, or on some day without one. A comma stands between two
 -- of them.

@@ -1,5 +1,5 @@
 -- The objects that `list` writes with `--json`: their fields, in the order of the output.
-use Rattle.std.specs.Prelude.{ℕ, List, [], ◌∷◌, ◌++◌, codes, Option, None, Some}
+use Rattle.std.specs.Prelude.{ℕ, List, [], ◌∷◌, ◌++◌, codes, Option}
 use Rattle.std.specs.Fmt.{decimal}
 use Rattle.ill_values.specs.Day.{Date}
 use Rattle.ill_core.specs.State.{state_name}
@@ -15,11 +15,6 @@ use Rattle.ill_list.specs.ListedNews.{listed_news_fields}
 use Rattle.ill_show.specs.Objects.{names_of}
 use Rattle.ill_show.specs.Notes.{note_fields, note_of}
 use Rattle.ill_show.specs.Since.{AnnexRead, since_fields, since_of}
-
--- Returns the field of the path of a desk, if there is a path.
-abbrev pub file_fields : Option (List ℕ) → List Field
-file_fields None = []
-file_fields (Some path) = (codes "file", quoted path) ∷ []
 
 -- Returns the field that says that a line is of a loan, and the field of its work.
 abbrev pub kind_fields : Work → List Field

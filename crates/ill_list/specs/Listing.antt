@@ -1,6 +1,5 @@
 -- The texts of `list`, in lines or in objects of JSON.
-use Rattle.std.specs.Prelude.{ℕ, Bool, true, false, if◌then◌else◌, nat_eq, List, [], ◌∷◌, ◌++◌, length, filter, Option, None}
-use Rattle.std.specs.Prelude.{Some}
+use Rattle.std.specs.Prelude.{ℕ, Bool, if◌then◌else◌, List, [], ◌∷◌, ◌++◌, length, filter, Option}
 use Rattle.std.specs.Prelude.{option_map, codes}
 use Rattle.std.specs.List.{flat_map}
 use Rattle.std.specs.Fmt.{decimal}
@@ -14,13 +13,12 @@ use Rattle.ill_list.specs.declared.row.Columns.{Columns}
 use Rattle.ill_list.specs.declared.list.Rows.{Rows}
 use Rattle.ill_list.specs.declared.morning.MorningColumns.{MorningColumns}
 use Rattle.ill_list.specs.declared.list.Rows.TheVariants as rows
-use Rattle.ill_text.specs.Escape.{escaped}
 use Rattle.ill_words.specs.Waiting.{most_urgent_first}
 use Rattle.ill_work.specs.declared.work.Work.{Work}
 use Rattle.ill_work.specs.Work.{all_work, work_words}
 use Rattle.ill_list.specs.List.{columns_of, row, has_work, listed_of, counts_of, counts_line}
 use Rattle.ill_list.specs.ListObjects.{row_object, counts_object}
-use Rattle.ill_list.specs.Finding.{Seeking, found_of}
+use Rattle.ill_list.specs.Seeking.{Seeking, found_of}
 use Rattle.ill_list.specs.ListedNews.{listed_news}
 use Rattle.ill_list.specs.Morning.{is_morning, morning_columns, morning_row}
 use Rattle.ill_show.specs.Notes.{listed_note, note_of}
@@ -126,42 +124,7 @@ list_objects file wanted seeking sides =
 
 -- ---- several desks
 
--- Returns the empty line between two desks, or nothing before the first one.
-abbrev pub gap : Bool → List ℕ
-gap true = []
-gap false = codes "\n"
-
--- Returns the line with the path of a desk, if several desks are listed.
-abbrev pub heading : Bool → List ℕ → List ℕ
-heading false path = []
-heading true path = escaped path ++ codes ":\n"
-
--- Returns the path of a desk, if several desks are listed.
-abbrev pub file_told : Bool → List ℕ → Option (List ℕ)
-file_told false path = None
-file_told true path = Some path
-
 -- Returns the text of one listed desk.
 abbrev pub listed_desk : Form → Bool → Wanted → Seeking → List ℕ → List Side → List ℕ
 listed_desk Lines is_headed wanted seeking path sides = heading is_headed path ++ list_lines wanted seeking sides
 listed_desk Json is_headed wanted seeking path sides = list_objects (file_told is_headed path) wanted seeking sides
-
--- Returns the text before a desk: in lines an empty line, if another desk is before it.
-abbrev pub between : Form → Bool → List ℕ
-between Lines is_first = gap is_first
-between Json is_first = []
-
--- Returns the line that warns of the room left at a desk.
-abbrev pub room_line : List ℕ → ℕ → List ℕ
-room_line path room =
-    codes "ill: " ++ escaped path ++ (codes " has room for " ++ (decimal room ++ codes " more loans\n"))
-
--- Returns the words of the line that tells what a list leaves out, after the number of loans.
-abbrev pub left_out_words : Bool → List ℕ
-left_out_words true = codes " more loan may want a hand by its date: give --today DAY\n"
-left_out_words false = codes " more loans may want a hand by their dates: give --today DAY\n"
-
--- Returns the line that tells how many loans of a desk a list leaves out since no day is given.
-abbrev pub left_out_line : List ℕ → ℕ → List ℕ
-left_out_line path count =
-    codes "ill: " ++ escaped path ++ (codes ": " ++ (decimal count ++ left_out_words (nat_eq count 1)))

@@ -8,7 +8,8 @@ use Rattle.ill_work.specs.declared.work.Work.{Work}
 use Rattle.ill_work.specs.Work.{work_words}
 use Rattle.ill_list.specs.declared.morning.MorningColumns.{MorningColumns}
 use Rattle.ill_list.specs.declared.wanted.Wanted.{Wanted}
-use Rattle.ill_list.specs.List.{cell, columns_of, is_mine, standing, title_text, work_of}
+use Rattle.ill_rows.specs.Cells.{cell, title_text}
+use Rattle.ill_list.specs.List.{columns_of, is_mine, standing, work_of}
 use Rattle.ill_show.specs.Kept.{kept_of}
 use Rattle.ill_show.specs.NewsWords.{told_words}
 

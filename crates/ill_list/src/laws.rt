@@ -1,89 +1,16 @@
-//! States the laws of the news of a desk, of a morning's list, and of lists without days, as contracts of functions that do
-//! nothing.
+//! States the laws of a morning's list, and of lists without days, as contracts of functions that do nothing.
 
-ghost use Rattle.std.specs.Prelude.{◌≡◌, ◌++◌, ◌∷◌, ◌&&◌, ℕ, Bool, true, false, bytes_eq, filter, find, List, Option, None, Some};
-ghost use Rattle.std.specs.List.{list_any};
-ghost use Rattle.ill_values.specs.Day.{Date};
+ghost use Rattle.std.specs.Prelude.{◌≡◌, ℕ, Bool, true, false, find, List, Option, None};
 ghost use Rattle.ill_values.specs.declared.apdu.Apdu.{Apdu};
 ghost use Rattle.ill_record.specs.declared.side.Side.{Side};
-ghost use Rattle.ill_list.specs.CameSince.{came_before, came_key, came_since, is_named_before, is_named_since, is_new};
-ghost use Rattle.ill_record.specs.Ranges.{Each};
-ghost use Rattle.ill_show.specs.Diary.{is_named};
 ghost use Rattle.ill_show.specs.Since.{AnnexRead, notes_alone};
-ghost use Rattle.ill_core.specs.Responder.{ResponderRecord};
-ghost use Rattle.ill_list.specs.Deeds.{deeds_since, is_by_date, is_deed_since};
 ghost use Rattle.ill_list.specs.List.{is_listed, is_mine, is_to_do, is_wanted};
 ghost use Rattle.ill_list.specs.ListedNews.{has_news};
 ghost use Rattle.ill_list.specs.Listing.{listed_desk};
 ghost use Rattle.ill_list.specs.declared.wanted.Which.TheVariants.{Mine};
-ghost use Rattle.ill_record.specs.declared.side.Side.TheVariants.{Responder};
-ghost use Rattle.ill_show.specs.Heard.{is_heard};
 ghost use Rattle.ill_list.specs.declared.wanted.Wanted.{Wanted};
 ghost use Rattle.ill_text.specs.declared.form.Form.TheVariants as forms;
 ghost use Rattle.ill_show.specs.declared.loan.LoanForm.TheVariants.{Lines};
-ghost use Rattle.ill_list.specs.News.{heard_at, is_same, is_told, news_of};
-
-/// A message that came is told if the record of its loan shows that it was taken.
-#[tactic(auto, using(crate::proofs::NewsLemmas::taken_is_told))]
-pub fn what_was_taken_is_news()
-    ensures { (sides : List Side) (before after : List Apdu) (a : Apdu) →
-        heard_at sides a ≡ true → is_told (news_of sides (before ++ a ∷ after)) a ≡ true }
-{}
-
-/// Nothing else is told: what is told came, and the record of its loan shows that it was taken.
-#[tactic(auto, using(crate::proofs::NewsLemmas::told_was_taken))]
-pub fn nothing_else_is_news()
-    ensures { (sides : List Side) (came : List Apdu) (a : Apdu) → is_told (news_of sides came) a ≡ true →
-        list_any (λ b. is_same b a && heard_at sides b) came ≡ true }
-{}
-
-/// What came since a day is told, but for repeats: all after the last message that came before, or all if none did. A
-/// message came before if a line of the diary names it, and no line of the day or later does.
-#[tactic(auto, using(crate::proofs::CameSinceLemmas::all_told, crate::proofs::CameSinceLemmas::later_told, crate::proofs::CameSinceLemmas::unnamed_told, crate::proofs::CameSinceLemmas::named_told))]
-pub fn what_came_since_is_told()
-    ensures all { (day : Date) (lines : List (List ℕ)) (came : List Apdu) →
-        list_any (came_before day lines) came ≡ false →
-        came_since (Some day) lines came ≡ filter (is_new day lines) came }
-    ensures later { (day : Date) (lines : List (List ℕ)) (came later : List Apdu) (a : Apdu) →
-        came_before day lines a ≡ true → list_any (came_before day lines) later ≡ false →
-        came_since (Some day) lines (came ++ a ∷ later) ≡ filter (is_new day lines) later }
-    ensures unnamed { (day : Date) (lines : List (List ℕ)) (a : Apdu) → is_named (came_key a) lines ≡ false →
-        came_before day lines a ≡ false }
-    ensures named { (day : Date) (lines : List (List ℕ)) (a : Apdu) → is_named_since day (came_key a) lines ≡ true →
-        came_before day lines a ≡ false }
-{}
-
-/// No repeat is told: a message that a line of an earlier day names is not among what came since the day.
-#[tactic(auto, using(crate::proofs::CameSinceLemmas::no_repeat))]
-pub fn no_repeat_is_news()
-    ensures { (day : Date) (lines : List (List ℕ)) (came : List Apdu) (a : Apdu) →
-        is_named_before day (came_key a) lines ≡ true →
-        list_any (λ b. bytes_eq (came_key b) (came_key a)) (came_since (Some day) lines came) ≡ false }
-{}
-
-/// No repeat hides news: a message that no line names is told, whatever came again after it on the day or later.
-#[tactic(auto, using(crate::proofs::CameSinceLemmas::not_hidden))]
-pub fn no_repeat_hides_news()
-    ensures { (day : Date) (lines : List (List ℕ)) (came repeats : List Apdu) (a : Apdu) →
-        is_named (came_key a) lines ≡ false → Each (λ b. is_named_since day (came_key b) lines ≡ true) repeats →
-        (before after : List Apdu) × (came_since (Some day) lines (came ++ a ∷ repeats) ≡ before ++ a ∷ after) }
-{}
-
-/// What a date made due is told: a message of a responder that the diary names on the day or later, and not before.
-pub fn what_a_date_made_due_is_news()
-    ensures { (day : Date) (lines : List (List ℕ)) (before after : List Side) (y : ResponderRecord) (first last : List Apdu)
-        (a : Apdu) → y.issued ≡ first ++ a ∷ last → is_deed_since day lines a ≡ true →
-        (more less : List Apdu) × (deeds_since (Some day) lines (before ++ Responder y ∷ after) ≡ more ++ a ∷ less) }
-{}
-
-/// Nothing else is told as such: an Overdue or an Expired that the diary names on the day or later, and not before. No
-/// message that came to a responder is one, so the words tell both apart.
-#[tactic(auto, using(crate::proofs::DeedLemmas::heard_apart))]
-pub fn nothing_else_was_made_due()
-    ensures deeds { (day : Date) (lines : List (List ℕ)) (sides : List Side) →
-        Each (λ a. is_deed_since day lines a ≡ true) (deeds_since (Some day) lines sides) }
-    ensures came { (y : ResponderRecord) (a : Apdu) → is_heard (Responder y) a ≡ true → is_by_date a.body ≡ false }
-{}
 
 /// The list of what wants a hand has each loan that has work or news, and no other. It has each that meets the conditions.
 #[tactic(auto, using(crate::proofs::MorningLaws::lists_news, crate::proofs::MorningLaws::lists_work, crate::proofs::MorningLaws::lists_no_other))]

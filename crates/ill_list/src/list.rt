@@ -5,20 +5,21 @@ ghost use Rattle.std.specs.List.{flat_map};
 ghost use Rattle.ill_saved.specs.ManySides.{sides_held};
 ghost use Rattle.ill_text.specs.Output.{WritesText};
 ghost use Rattle.ill_list.specs.List.{columns_of, counts_line, counts_of, has_work, is_left_out, lacks_day, left_out};
-ghost use Rattle.ill_list.specs.Finding.{seeking_of};
+ghost use Rattle.ill_list.specs.Seeking.{seeking_of};
 ghost use Rattle.ill_list.specs.Morning.{is_morning, morning_columns};
 ghost use Rattle.ill_show.specs.FileLines.{lines_of};
 ghost use Rattle.ill_show.specs.Since.{annex_of};
-ghost use Rattle.ill_list.specs.Listing.{between, chosen_of, counts_text, dated_row, file_told, gap, heading, list_lines, list_objects, listed_desk, morning_lines, note_shown, noted_row, ordered_lines, section, sections, since_shown, told_morning, told_row, work_heading, work_lines, work_objects, work_text};
+ghost use Rattle.ill_rows.specs.Heading.{between, file_told, gap, heading};
+ghost use Rattle.ill_list.specs.Listing.{chosen_of, counts_text, dated_row, list_lines, list_objects, listed_desk, morning_lines, note_shown, noted_row, ordered_lines, section, sections, since_shown, told_morning, told_row, work_heading, work_lines, work_objects, work_text};
 
 use crate::counts::Counts;
-use crate::finding::{Sought, found_of};
 use crate::list_objects::{RowObjects, push_counts_object, push_row_object};
-use crate::listed::{Listed, heading};
 use crate::listed_news::push_listed_news;
 use crate::morning::{MorningColumns, MorningLines, is_morning, push_morning_row};
 use crate::row::{Columns, push_row};
 use crate::wanted::{Wanted, has_work, is_of_list, is_wanted, listed_of};
+use ill_rows::finding::found_of;
+use ill_rows::listed::{Listed, heading};
 use ill_saved::{Desk, Side, Sides, Store};
 use ill_show::annex::Annex;
 use ill_show::notes::{Notes, push_listed_note};
@@ -32,6 +33,17 @@ use ill_words::waiting::{most_urgent_first, waits_by_date};
 use ill_work::Work;
 use std::alloc::Global;
 use std::io::Write;
+
+/// What a list of the loans of a desk is asked for, and the annex of the desk.
+#[derive(Clone, Copy)]
+pub struct Sought<'a> {
+    /// The conditions on the loans.
+    pub wanted: &'a Wanted,
+    /// The words that are sought in the loans, if there are any.
+    pub find: Option<&'a str>,
+    /// The annex.
+    pub annex: &'a Annex,
+}
 
 /// The form of a list.
 #[derive(Clone, Copy)]

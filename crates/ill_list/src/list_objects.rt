@@ -3,12 +3,14 @@
 ghost use Rattle.std.specs.Prelude.{◌≡◌, [], ◌++◌, map, option_map, codes, OnOk};
 ghost use Rattle.ill_text.specs.Json.{joined, member};
 ghost use Rattle.ill_show.specs.Objects.{names_of};
-ghost use Rattle.ill_list.specs.ListObjects.{kind_fields, listed_fields, counts_fields, counts_object, dated_fields, file_fields, full_row_fields, noted_fields, row_fields, row_object};
+ghost use Rattle.ill_list.specs.ListObjects.{kind_fields, listed_fields, counts_fields, counts_object, dated_fields, full_row_fields, noted_fields, row_fields, row_object};
+ghost use Rattle.ill_rows.specs.Heading.{file_fields};
 ghost use Rattle.ill_show.specs.FileLines.{lines_of};
 ghost use Rattle.ill_show.specs.Since.{annex_of};
 
 use crate::counts::Counts;
 use crate::listed_news::push_news_field;
+use ill_rows::listed::push_file;
 use ill_saved::Side;
 use ill_show::annex::Annex;
 use ill_show::notes::{Notes, push_note_field};
@@ -175,18 +177,6 @@ fn push_listed_fields<'a>(
             ("item", title(side)),
         ],
     )
-}
-
-/// Appends the path of a desk, if it is given.
-#[tactic(auto, unfolding(ill_text::specs::Json::joined))]
-pub(crate) fn push_file(text: &mut Vec<u8>, file: Option<&str>) -> Result<(), OutOfMemory>
-    ensures { OnOk result (text.new.items ≡ text.old.items
-        ++ joined member (codes ",") (file_fields (option_map (λ path. path.now) file.entry))) }
-{
-    match file {
-        None => Ok(()),
-        Some(path) => push_members(text, b",", &[("file", Value::Text(path.as_bytes()))]),
-    }
 }
 
 /// Appends the object of `counts`, on a line. It has the path `file` of the desk, if it is given.

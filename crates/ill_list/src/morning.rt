@@ -7,8 +7,9 @@ ghost use Rattle.ill_work.specs.Work.{work_words};
 ghost use Rattle.ill_list.specs.List.{work_of};
 ghost use Rattle.ill_list.specs.Morning.{break_after, is_morning, morning_columns, morning_row, news_text, text_or_dash, widest, with_words, words_of};
 
-use crate::row::{Columns, push_cell, push_standing, push_title};
+use crate::row::{Columns, push_standing};
 use crate::wanted::{Wanted, work};
+use ill_rows::cells::{push_cell, push_title};
 use ill_saved::Side;
 use ill_show::annex::Annex;
 use ill_show::kept::kept_of;

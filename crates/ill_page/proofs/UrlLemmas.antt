@@ -8,7 +8,7 @@ use Rattle.std.proofs.lemmas.Bool.Decides.{nat_tests}
 use Rattle.std.proofs.lemmas.List.Folds.{list_all-append}
 use Rattle.form_urlencoded.specs.Form.{byte_serialize, is_unchanged, serialize_byte}
 use Rattle.percent_encoding.specs.Percent.{percent_encode_byte}
-use Rattle.ill_list.specs.Link.{PlaceShown, named_text, place_text}
+use Rattle.ill_report.specs.Link.{PlaceShown, named_text, place_text}
 use Rattle.ill_page.specs.Urls.{is_of_url}
 
 -- A hexadecimal digit may stand in a URL.

@@ -6,7 +6,7 @@ use Rattle.ill_values.specs.declared.fault.DayFault.{DayFault}
 use Rattle.ill_core.specs.declared.verb.Verb.{Verb}
 use Rattle.ill_core.specs.Verbs.{verb_name}
 use Rattle.ill_text.specs.Html.{html_escaped}
-use Rattle.ill_list.specs.Link.{PlaceShown, place_shown}
+use Rattle.ill_report.specs.Link.{PlaceShown, place_shown}
 use Rattle.ill_page.specs.declared.forms.FormView.{FormView}
 use Rattle.ill_page.specs.declared.forms.TheConstants.{LOAN_DAYS}
 use Rattle.ill_page.specs.declared.parts.Inputs.{Inputs}

@@ -6,8 +6,8 @@ use Rattle.ill_record.specs.declared.side.Side.{Side}
 use Rattle.ill_record.specs.Side.{txn_of}
 use Rattle.ill_text.specs.Html.{html_escaped, html_text}
 use Rattle.ill_words.specs.Possible.{possible_on, request_of, item_asked}
-use Rattle.ill_list.specs.Link.{PlaceShown, place_text}
-use Rattle.ill_list.specs.Report.{page_head_with}
+use Rattle.ill_report.specs.Link.{PlaceShown, place_text}
+use Rattle.ill_report.specs.Report.{page_head_with}
 use Rattle.ill_page.specs.declared.page.LoanShown.{LoanShown}
 use Rattle.ill_page.specs.declared.parts.TheConstants.{ALL, ALERT, ALERT_END, COUNTED, COUNTED_END, END, KNOWN, KNOWN_END, LOAN}
 use Rattle.ill_page.specs.declared.parts.TheConstants.{POSSIBLE, SLIP, SLIP_END, STYLE}

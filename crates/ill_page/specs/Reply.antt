@@ -1,7 +1,7 @@
 -- The reply to a request, as a web server wants it (RFC 3875, section 6): a status, headers and a page.
 use Rattle.std.specs.Prelude.{ℕ, List, [], ◌++◌, length, codes}
 use Rattle.std.specs.Fmt.{decimal}
-use Rattle.ill_list.specs.Link.{PlaceShown, place_text}
+use Rattle.ill_report.specs.Link.{PlaceShown, place_text}
 use Rattle.ill_page.specs.declared.headers.TheConstants.{HEADERS}
 use Rattle.ill_page.specs.declared.reply.Status.{Status}
 use Rattle.ill_page.specs.declared.reply.TheConstants.{LINE_END, SEEN}

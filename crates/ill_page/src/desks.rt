@@ -11,7 +11,7 @@ use crate::parts::{
     SEARCH_END, STYLE,
 };
 use ill_core::Verb;
-use ill_list::report::{PageView, push_desk, push_head_with};
+use ill_report::report::{PageView, push_desk, push_head_with};
 use ill_saved::{Role, Sides};
 use ill_show::annex::Annex;
 use ill_text::html::{push_html, push_text};

@@ -1,7 +1,7 @@
 //! The forms of what may be done with a loan.
 
 ghost use Rattle.std.specs.Prelude.{◌≡◌, ◌++◌, OnOk};
-ghost use Rattle.ill_list.specs.Link.{place_shown};
+ghost use Rattle.ill_report.specs.Link.{place_shown};
 ghost use Rattle.ill_page.specs.Forms.{act_fields, day_proposed, form_text, form_shown, forms_text, hidden_text, inputs_text, loan_fields, note_text, shown_text, verb_text};
 
 use crate::parts::{
@@ -9,7 +9,7 @@ use crate::parts::{
     meaning,
 };
 use ill_core::Verb;
-use ill_list::link::Place;
+use ill_report::link::Place;
 use ill_text::html::push_html;
 use ill_text::json::push_plain;
 use ill_values::{Day, OutOfMemory};

@@ -2,7 +2,7 @@
 
 ghost use Rattle.std.specs.Prelude.{◌≡◌, true, false};
 ghost use Rattle.std.specs.List.{list_all};
-ghost use Rattle.ill_list.specs.Link.{PlaceShown, place_text};
+ghost use Rattle.ill_report.specs.Link.{PlaceShown, place_text};
 ghost use Rattle.ill_page.specs.Urls.{is_of_url};
 
 /// The URL of a loan ends no header and no attribute. It has letters, digits and `*-._+%?&=` alone: no control character, no

@@ -3,7 +3,7 @@
 ghost use Rattle.std.specs.Prelude.{◌≡◌, ◌++◌, IfOk, OnOk};
 ghost use Rattle.ill_text.specs.Html.{html_escaped};
 ghost use Rattle.ill_words.specs.Possible.{item_asked, request_of};
-ghost use Rattle.ill_list.specs.Link.{place_shown, place_text};
+ghost use Rattle.ill_report.specs.Link.{place_shown, place_text};
 ghost use Rattle.ill_page.specs.Page.{begun_text, figures_page, known_text, lines_text, loan_page, loan_seen, notice_page, notice_text, place_of, possible_text, slip_text, title_text, ways_text};
 
 use crate::forms::{FormView, push_forms, push_note};
@@ -11,8 +11,8 @@ use crate::parts::{
     ALERT, ALERT_END, ALL, COUNTED, COUNTED_END, END, KNOWN, KNOWN_END, LOAN, POSSIBLE, SLIP,
     SLIP_END, STYLE,
 };
-use ill_list::link::{Place, push_place};
-use ill_list::report::push_head_with;
+use ill_report::link::{Place, push_place};
+use ill_report::report::push_head_with;
 use ill_saved::Side;
 use ill_text::html::{push_html, push_text};
 use ill_text::json::push_plain;

@@ -1,11 +1,11 @@
 //! The reply to a request, as a web server wants it (RFC 3875, section 6): a status, headers and a page.
 
 ghost use Rattle.std.specs.Prelude.{◌≡◌, ◌++◌, IfOk, OnOk};
-ghost use Rattle.ill_list.specs.Link.{place_shown};
+ghost use Rattle.ill_report.specs.Link.{place_shown};
 ghost use Rattle.ill_page.specs.Reply.{location_lines, page_reply, seen_reply, size_line, status_line};
 
 use crate::headers::HEADERS;
-use ill_list::link::{Place, push_place};
+use ill_report::link::{Place, push_place};
 use ill_text::json::push_plain;
 use ill_values::OutOfMemory;
 use itoa::Buffer;

@@ -17,7 +17,7 @@ use Rattle.ill_mail.specs.Nights.{ExchangesAtFile, InboxAtFile, OutboxAtFile, as
 use Rattle.ill_text.specs.Input.{ReadsInput}
 use Rattle.ill_desk.specs.Take.{answer_of}
 use Rattle.ill_desk.specs.declared.take.TakeForm.{TakeForm}
-use Rattle.ill_list.specs.Listing.{heading}
+use Rattle.ill_rows.specs.Heading.{heading}
 use Rattle.ill_text.specs.Output.{WritesText}
 use Rattle.ill_text.specs.Visits.{Stop, VisitsEach, graver}
 use Rattle.ill_text.specs.Fault.{IsFileFault}

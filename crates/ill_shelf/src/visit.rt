@@ -2,7 +2,7 @@
 //! still visited.
 
 ghost use Rattle.std.specs.Prelude.{◌≡◌, map, string_bytes};
-ghost use Rattle.ill_list.specs.Listing.{heading};
+ghost use Rattle.ill_rows.specs.Heading.{heading};
 ghost use Rattle.ill_text.specs.Output.{WritesText};
 ghost use Rattle.ill_shelf.specs.Shelf.{Headed, RunsVisit, VisitsAll, is_headed, is_lines};
 ghost use Rattle.ill_text.specs.Visits.{graver};
@@ -10,11 +10,11 @@ ghost use Rattle.ill_text.specs.Visits.{graver};
 use ill_commands::commands::status;
 use ill_files::machine::Machine;
 use ill_key::Key;
-use ill_list::listed::{Listed, heading};
 use ill_mail::exchange::{exchange, inbox, outbox};
 use ill_mail::outlet::Outlet;
 use ill_mailbox::mail::Incoming;
 use ill_night::night::Night;
+use ill_rows::listed::{Listed, heading};
 use ill_saved::LockFiles;
 use ill_text::fault::{ToolFault, graver};
 use ill_text::form::Form;

@@ -13,7 +13,7 @@ use Rattle.ill_text.specs.declared.fault.ToolFault.{ToolFault}
 use Rattle.ill_show.specs.Notes.{is_note}
 use Rattle.ill_commands.specs.Note.{NotesAtFile}
 use Rattle.ill_browser.specs.Wanted.{LoanAsked}
-use Rattle.ill_list.specs.Link.{PlaceShown}
+use Rattle.ill_report.specs.Link.{PlaceShown}
 use Rattle.ill_post.specs.declared.answer.Posted.{Posted}
 use Rattle.ill_post.specs.declared.answer.Posted.TheVariants as posteds
 use Rattle.ill_post.specs.Post.{AnswersPost, DeskState, FormShown}

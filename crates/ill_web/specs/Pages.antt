@@ -16,9 +16,9 @@ use Rattle.ill_text.specs.Fault.{IsOpenFault}
 use Rattle.ill_show.specs.Loan.{FilesBeside, RunsLoan}
 use Rattle.ill_show.specs.declared.loan.LoanForm.TheVariants.{Lines}
 use Rattle.ill_show.specs.Since.{AnnexRead}
-use Rattle.ill_list.specs.declared.link.Place.{Place}
-use Rattle.ill_list.specs.Told.{news_since}
-use Rattle.ill_list.specs.Report.{unread_text}
+use Rattle.ill_report.specs.declared.link.Place.{Place}
+use Rattle.ill_news.specs.Told.{news_since}
+use Rattle.ill_report.specs.Report.{unread_text}
 use Rattle.ill_commands.specs.AtFile.{CountsPaths, SlipAtFile}
 use Rattle.ill_figures.specs.Days.{span_between}
 use Rattle.ill_figures.specs.declared.days.Span.{Span}

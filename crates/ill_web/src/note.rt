@@ -10,8 +10,8 @@ use crate::serve::House;
 use crate::trouble::Trouble;
 use ill_browser::LoanName;
 use ill_commands::note::{NoteView, note};
-use ill_list::link::Place;
 use ill_page::seen_reply;
+use ill_report::link::Place;
 use ill_saved::LockFiles;
 use ill_show::notes::is_note;
 

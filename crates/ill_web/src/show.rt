@@ -20,14 +20,14 @@ use ill_files::diary::diary_bytes;
 use ill_files::machine::Machine;
 use ill_files::notes::notes_bytes;
 use ill_files::open::open;
-use ill_list::link::Place;
-use ill_list::news::news_since;
-use ill_list::report::push_fault;
+use ill_news::news::news_since;
 use ill_page::{
     DeskShown, LoanShown, Status, begin_desks, end_desks, figures_page, loan_page, notice_page,
     page_reply, push_desk_part,
 };
 use ill_post::stamp_of;
+use ill_report::link::Place;
+use ill_report::report::push_fault;
 use ill_saved::{Desk, DeskFault, Sides, Store};
 use ill_show::annex::Annex;
 use ill_show::file_lines::FileLines;

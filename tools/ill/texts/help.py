@@ -20,10 +20,11 @@ from ill.texts import words as command_line
 from ill.texts.words import HELP, LINE, MAN, body, find, named
 
 EXPLAIN = "crates/ill_explain/src"
-WORLD, WORDS, TEXT, SHOW, LIST, SLIP, COUNTED, DESK, NIGHT, INBOX, FILES, KEY, COMMANDS, MAIL, MAILBOX, SHELF, ROOM = (
+(WORLD, WORDS, TEXT, SHOW, ROWS, LIST, NEWS, REPORT, SLIP, COUNTED, DESK, NIGHT, INBOX, FILES, KEY, COMMANDS, MAIL,
+ MAILBOX, SHELF, ROOM) = (
     f"crates/ill_{room}/src"
-    for room in ("world", "words", "text", "show", "list", "slip", "figures", "desk", "night", "inbox", "files", "key",
-                 "commands", "mail", "mailbox", "shelf", "room"))
+    for room in ("world", "words", "text", "show", "rows", "list", "news", "report", "slip", "figures", "desk", "night", "inbox",
+                 "files", "key", "commands", "mail", "mailbox", "shelf", "room"))
 FILE_KINDS = {"File", "NewFile", "Paths", "Folder"}
 KEY_KINDS = {"KeyFile", "Key", "NightKey"}
 FLAGS = {"Long", "Keep", "Picture", "Open", "Mine", "Actions", "Json", "Csv"}
@@ -164,7 +165,7 @@ def numbers_of():
         "zero": 0, "first": least, "second": least + 1, "third": least + 2, "last": 2 ** int(number) - 1,
         "loans": constant("SIDES_LIMIT", f"{record}/sides.rt"), "messages": constant("MAX_APDUS", f"{TEXT}/input.rt"),
         "many": constant("MANY", f"{COMMANDS}/commands.rt"), "few": constant("FEW", f"{SHOW}/numbers.rt"),
-        "soon": constant("SOON", f"{LIST}/soon.rt"),
+        "soon": constant("SOON", f"{ROWS}/soon.rt"),
         "mails": constant("MAILS", f"{MAILBOX}/mail.rt"),
         "longer": constant("APDU_LIMIT", f"{der}/header.rt") + constant("LINE_END", f"{MAILBOX}/mail.rt") + 1,
         "longest": constant("APDU_LIMIT", f"{der}/header.rt"), "shortest": shortest,
@@ -177,7 +178,7 @@ def numbers_of():
         "first_year": int(years[1]), "last_year": int(years[2]),
         "first_day": int(years[1] + "0101"), "last_day": int(years[2] + "1231"),
         "days_digits": constant("DAYS_DIGITS", f"{WORDS}/words.rt"),
-        "ahead": constant("SOON", f"{LIST}/soon.rt"),
+        "ahead": constant("SOON", f"{ROWS}/soon.rt"),
         "number_digits": constant("NUMBER_DIGITS", f"{WORDS}/words.rt"),
         "status_lines": len(status_labels()), "side_fields": len(re.findall(r"\n    pub \w+:", shown)),
         "roles": len(roles), "desk_words": len(variants("DeskOutcome", f"{WORDS}/outcome.rt")) - 1,
@@ -264,7 +265,8 @@ def statuses():
 
 def source_of(command):
     """Returns the path of the source of a command: it stands in one of the crates of the program."""
-    crates = (TEXT, SHOW, LIST, SLIP, COUNTED, DESK, NIGHT, INBOX, FILES, KEY, COMMANDS, MAIL, SHELF, "crates/ill_tool/src")
+    crates = (TEXT, SHOW, ROWS, LIST, NEWS, REPORT, SLIP, COUNTED, DESK, NIGHT, INBOX, FILES, KEY, COMMANDS, MAIL,
+              SHELF, "crates/ill_tool/src")
     found = [path for path in (f"{crate}/{command}.rt" for crate in crates) if os.path.exists(repository.full(path))]
     if len(found) != 1:
         raise Unread(f"{command}.rt: it stands {len(found)} times in {', '.join(crates)}")
@@ -596,8 +598,8 @@ def compare_words(named_texts, words, arguments):
     verbs_known = {form.split()[0] for forms in actions().values() for form in forms}
     files = re.findall(r"^  \$ ill new (\w+)", read(HELP), re.M)
     objects = "".join(map(read, (f"{TEXT}/apdu_object.rt", f"{SHOW}/objects.rt", f"{LIST}/list_objects.rt",
-                                 f"{SHOW}/diary.rt", f"{SHOW}/since.rt", f"{LIST}/news.rt", f"{LIST}/listed_news.rt",
-                                 f"{SHOW}/verify.rt", f"{INBOX}/objects.rt")))
+                                 f"{SHOW}/diary.rt", f"{SHOW}/since.rt", f"{NEWS}/news.rt", f"{LIST}/listed_news.rt",
+                                 f"{ROWS}/listed.rt", f"{SHOW}/verify.rt", f"{INBOX}/objects.rt")))
     labels = set(re.findall(r'(?:\(|\(text, )"([\w-]+)"(?:, |\)\?;)', objects))
     counted = set(re.findall(r"(\w+) \{\1\}", read(f"{INBOX}/tally.rt")))
     staying = {f"NAME {word} REASON" for word in re.findall(r'b" (\w+) "', read(f"{NIGHT}/verdict.rt"))}

@@ -3,7 +3,7 @@ use Rattle.std.proofs.Common.{◌≡◌, List, Option, option_map, inr, subst}
 use Rattle.ill_values.specs.declared.apdu.Apdu.{Apdu}
 use Rattle.ill_saved.specs.ManySides.{sides_held}
 use Rattle.ill_record.specs.Sides.{SidesOf}
-use Rattle.ill_list.specs.Told.{news_since}
+use Rattle.ill_news.specs.Told.{news_since}
 use Rattle.ill_show.specs.Since.{annex_of}
 use Rattle.ill_commands.proofs.commands.list_file.Goals as goal
 

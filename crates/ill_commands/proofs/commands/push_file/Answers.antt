@@ -1,7 +1,7 @@
 -- Answers the contract of `push_file` (`src/commands.rt`).
 use Rattle.std.proofs.Common.{◌++◌, List, Option, option_map, Ok, Err, refl, ap, ◌∙◌}
 use Rattle.ill_values.specs.declared.apdu.Apdu.{Apdu}
-use Rattle.ill_list.specs.Report.{desk_text, report_of}
+use Rattle.ill_report.specs.Report.{desk_text, report_of}
 use Rattle.ill_show.specs.Since.{AnnexRead, annex_of}
 use Rattle.ill_commands.proofs.commands.push_file.Goals as goal
 

@@ -2,7 +2,7 @@
 use Rattle.std.proofs.Common.{◌≡◌, ◌+◌, ◌<◌, ℕ, List, map, take, get_or, ap, sym, subst, refl, ◌∙◌}
 use Rattle.std.specs.Prelude.{IfErr, string_bytes}
 use Rattle.std.proofs.lemmas.List.{length-map, get_or-map}
-use Rattle.ill_list.specs.Report.{AddsParts}
+use Rattle.ill_commands.specs.Parts.{AddsParts}
 use Rattle.ill_commands.proofs.PageLemmas.{no_parts, one_more_part, open_graver}
 use Rattle.ill_commands.proofs.commands.push_files.Goals as goal
 use Rattle.ill_text.specs.Fault.{IsOpenFault}

@@ -1,7 +1,7 @@
 -- States the loop invariant of `push_files` (`src/commands.rt`).
 use Rattle.std.proofs.Common.{◌≡◌, map, take}
 use Rattle.std.specs.Prelude.{IfErr, string_bytes}
-use Rattle.ill_list.specs.Report.{AddsParts}
+use Rattle.ill_commands.specs.Parts.{AddsParts}
 use Rattle.ill_commands.proofs.commands.push_files.Given as goal
 use Rattle.ill_text.specs.Fault.{IsOpenFault}
 

@@ -4,7 +4,8 @@ use Rattle.std.specs.Prelude.{IfErr, Option, string_bytes, ◌==◌, length}
 use Rattle.ill_commands.specs.AtFile.{after_writing}
 use Rattle.ill_files.specs.Opening.{names_answer}
 use Rattle.ill_text.specs.Output.{WritesText}
-use Rattle.ill_list.specs.Report.{AddsParts, page_end, page_head}
+use Rattle.ill_commands.specs.Parts.{AddsParts}
+use Rattle.ill_report.specs.Report.{page_end, page_head}
 use Rattle.ill_text.specs.Visits.{graver}
 use Rattle.ill_commands.proofs.commands.report.Goals as goal
 use Rattle.ill_text.specs.Fault.{IsOpenFault}

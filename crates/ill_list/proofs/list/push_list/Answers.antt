@@ -1,7 +1,7 @@
 -- Answers the contract of `push_list` (`src/list.rt`).
 use Rattle.std.proofs.Common.{◌≡◌, ◌++◌, List, Bor, OnOk, map, ap, subst, ◌∙◌}
 use Rattle.ill_record.specs.declared.side.Side.{Side}
-use Rattle.ill_list.specs.Finding.{seeking_of}
+use Rattle.ill_list.specs.Seeking.{seeking_of}
 use Rattle.ill_list.specs.Listing.{ordered_lines}
 use Rattle.ill_list.proofs.list.push_list.Goals as goal
 

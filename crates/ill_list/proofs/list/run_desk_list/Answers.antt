@@ -4,8 +4,9 @@ use Rattle.ill_record.specs.Sides.{SidesOf}
 use Rattle.ill_saved.specs.ManySides.{sides_held}
 use Rattle.ill_text.specs.Output.{WritesText}
 use Rattle.ill_text.specs.declared.form.Form.{Form}
-use Rattle.ill_list.specs.Finding.{seeking_of}
-use Rattle.ill_list.specs.Listing.{between, gap, heading, list_lines, list_objects, listed_desk, file_told}
+use Rattle.ill_list.specs.Seeking.{seeking_of}
+use Rattle.ill_rows.specs.Heading.{between, gap, heading, file_told}
+use Rattle.ill_list.specs.Listing.{list_lines, list_objects, listed_desk}
 use Rattle.ill_list.proofs.list.run_desk_list.Goals as goal
 
 -- Proves the contract of `run_desk_list` in lines. `write_lines` lists the sides of the desk.

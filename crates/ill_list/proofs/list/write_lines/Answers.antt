@@ -1,8 +1,9 @@
 -- Answers the contract of `write_lines` (`src/list.rt`).
 use Rattle.std.proofs.Common.{◌++◌, ap, subst, ◌∙◌, append_assoc}
 use Rattle.ill_text.specs.Output.{WritesText}
-use Rattle.ill_list.specs.Finding.{seeking_of}
-use Rattle.ill_list.specs.Listing.{gap, heading, list_lines}
+use Rattle.ill_list.specs.Seeking.{seeking_of}
+use Rattle.ill_rows.specs.Heading.{gap, heading}
+use Rattle.ill_list.specs.Listing.{list_lines}
 use Rattle.ill_list.proofs.ListLemmas.{text_written}
 use Rattle.ill_list.proofs.list.write_lines.Goals as goal
 

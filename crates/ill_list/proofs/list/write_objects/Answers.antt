@@ -1,7 +1,7 @@
 -- Answers the contract of `write_objects` (`src/list.rt`).
 use Rattle.std.proofs.Common.{ℕ, ◌++◌, List, Option, option_map, ap, subst, ◌∙◌}
 use Rattle.ill_text.specs.Output.{WritesText}
-use Rattle.ill_list.specs.Finding.{seeking_of}
+use Rattle.ill_list.specs.Seeking.{seeking_of}
 use Rattle.ill_list.specs.Listing.{list_objects}
 use Rattle.ill_list.proofs.ListLemmas.{text_written}
 use Rattle.ill_list.proofs.list.write_objects.Goals as goal

@@ -1,6 +1,0 @@
--- Answers the contract of `push_fault` (`src/report.rt`).
-use Rattle.ill_list.proofs.report.push_fault.Goals as goal
-
--- Proves the contract of `push_fault`. `push_unread` appends a part with the text of the fault.
-pub returns : goal.returns
-returns c = (c.as_str.result.now, c.in_ok-push_unread.ensures)

@@ -1,0 +1,230 @@
+-- Proves which messages came since a day.
+use Rattle.std.proofs.Common.{◌≡◌, ℕ, suc, ◌+◌, ◌-◌, Bool, true, false, cond, not, List, [], ◌∷◌, ◌++◌, ap, refl, sym, ◌∙◌}
+use Rattle.std.proofs.Common.{length}
+use Rattle.std.proofs.Common.{drop, take}
+use Rattle.std.proofs.Common.{append_assoc, arith, reverse, ◌&&◌, ◌≤◌, Option, None, Some, subst, true≢false}
+use Rattle.std.specs.Prelude.{bytes_eq, filter}
+use Rattle.std.specs.List.{after_last, list_any, prefix_len, suffix_len}
+use Rattle.std.proofs.Math.Seq.{drop-append_seam}
+use Rattle.std.proofs.lemmas.Bool.{or_parts}
+use Rattle.std.proofs.lemmas.Slice.Eq.{bytes_eq-Decides}
+use Rattle.std.proofs.lemmas.List.Elements.{filter-append}
+use Rattle.std.proofs.lemmas.List.{drop-append-le, length-append, length-drop, length-reverse, reverse-append, take_all}
+use Rattle.std.proofs.lemmas.List.Folds.{list_any-append}
+use Rattle.ill_core.specs.Dates.{is_before}
+use Rattle.ill_values.specs.Day.{Date}
+use Rattle.ill_values.specs.declared.apdu.Apdu.{Apdu}
+use Rattle.ill_news.specs.CameSince.{came_before, came_key, came_since, is_named_before, is_named_since, is_new}
+use Rattle.ill_news.specs.CameSince.{says_before}
+use Rattle.ill_record.specs.Ranges.{Each}
+use Rattle.ill_show.specs.Diary.{Said, has_key, is_named, said_by}
+
+-- The last items that pass a test go on before the last item, if it passes. Else there are none.
+pub suffix_last : {X : Type 0} (p : X → Bool) (before : List X) (x : X)
+    → suffix_len p (before ++ x ∷ []) ≡ cond (p x) (1 + suffix_len p before) 0
+suffix_last p before x = ap (prefix_len p) (reverse-append before (x ∷ []))
+
+-- If the last item of `rest` passes, as many items are left to look at as before it.
+pub goes_on : {X : Type 0} (p : X → Bool) (all rest before : List X) (x : X) → rest ≡ before ++ x ∷ [] → p x ≡ true
+    → length rest + suffix_len p all ≡ length all + suffix_len p rest
+    → length before + suffix_len p all ≡ length all + suffix_len p before
+goes_on p all rest before x is passes left =
+    let many : suffix_len p rest ≡ 1 + suffix_len p before =
+    ap (suffix_len p) is ∙ suffix_last p before x ∙ ap (λ b. cond b (1 + suffix_len p before) 0) passes in
+    let long : length rest ≡ length before + 1 = ap length is ∙ length-append before (x ∷ []) in
+    omega (arith, many, long, left)
+
+-- If the last item of `rest` fails, the items behind it are the last ones that pass.
+pub ends_here : {X : Type 0} (p : X → Bool) (all rest before : List X) (x : X) → rest ≡ before ++ x ∷ [] → p x ≡ false
+    → length rest + suffix_len p all ≡ length all + suffix_len p rest → length rest + suffix_len p all ≡ length all
+ends_here p all rest before x is fails left =
+    let none : suffix_len p rest ≡ 0 =
+    ap (suffix_len p) is ∙ suffix_last p before x ∙ ap (λ b. cond b (1 + suffix_len p before) 0) fails in
+    omega (arith, none, left)
+
+-- If no item fails, all items are the last ones that pass.
+pub ends_nowhere : {X : Type 0} (p : X → Bool) (all rest : List X) → rest ≡ []
+    → length rest + suffix_len p all ≡ length all + suffix_len p rest → suffix_len p all ≡ length all
+ends_nowhere p all rest none left =
+    let empty : suffix_len p rest ≡ 0 = ap (suffix_len p) none in
+    let long : length rest ≡ 0 = ap length none in
+    omega (arith, empty, long, left)
+
+-- If no item passes a test, all of them fail it.
+none_pass : {X : Type 0} (f : X → Bool) (xs : List X) → list_any f xs ≡ false → prefix_len (λ x. not (f x)) xs ≡ length xs
+none_pass f [] none = refl
+none_pass f (x ∷ xs) none =
+    let both = or_parts (f x) (list_any f xs) none in
+    rw (both.0, none_pass f xs both.1) (omega arith)
+
+-- The items before the first one that passes a test fail it.
+none_before : {X : Type 0} (f : X → Bool) (before : List X) (x : X) (after : List X) → f x ≡ true → list_any f before ≡ false
+    → prefix_len (λ x. not (f x)) (before ++ x ∷ after) ≡ length before
+none_before f [] x after passes none = rw passes refl
+none_before f (y ∷ before) x after passes none =
+    let both = or_parts (f y) (list_any f before) none in
+    rw (both.0, none_before f before x after passes both.1) (omega arith)
+
+-- If no item passes a test, none does in the other order.
+none_reversed : {X : Type 0} (f : X → Bool) (xs : List X) → list_any f xs ≡ false → list_any f (reverse xs) ≡ false
+none_reversed f [] none = refl
+none_reversed f (x ∷ xs) none =
+    let both = or_parts (f x) (list_any f xs) none in
+    ap (list_any f) (reverse-append (x ∷ []) xs) ∙ list_any-append f (reverse xs) (x ∷ [])
+    ∙ rw (none_reversed f xs both.1, both.0) refl
+
+-- If no item passes a test, all stand after the last one that does.
+pub all_after : {X : Type 0} (f : X → Bool) (xs : List X) → list_any f xs ≡ false → after_last f xs ≡ xs
+all_after f xs none =
+    let all : suffix_len (λ x. not (f x)) xs ≡ length xs =
+    none_pass f (reverse xs) (none_reversed f xs none) ∙ length-reverse xs in
+    let cut : length xs - suffix_len (λ x. not (f x)) xs ≡ 0 = omega (arith, all) in
+    ap (λ n. drop n xs) cut
+
+-- After the last item that passes a test stand those behind it, if none of these does.
+pub after_it : {X : Type 0} (f : X → Bool) (before : List X) (x : X) (after : List X) → f x ≡ true → list_any f after ≡ false
+    → after_last f (before ++ x ∷ after) ≡ after
+after_it f before x after passes none =
+    let xs = before ++ x ∷ [] in
+    let joined : before ++ x ∷ after ≡ xs ++ after = sym (append_assoc before (x ∷ []) after) in
+    let turned : reverse (xs ++ after) ≡ reverse after ++ x ∷ reverse before =
+    reverse-append xs after ∙ ap (λ ys. reverse after ++ ys) (reverse-append before (x ∷ [])) in
+    let many : suffix_len (λ x. not (f x)) (xs ++ after) ≡ length after =
+    ap (prefix_len (λ x. not (f x))) turned
+    ∙ none_before f (reverse after) x (reverse before) passes (none_reversed f after none)
+    ∙ length-reverse after in
+    let cut : length (xs ++ after) - suffix_len (λ x. not (f x)) (xs ++ after) ≡ length xs =
+    omega (arith, many, length-append xs after) in
+    ap (after_last f) joined
+    ∙ ap (λ n. drop n (xs ++ after)) cut
+    ∙ drop-append_seam xs after
+
+-- Items that fail a test, and those behind them that do, are the first ones of all.
+fail_over : {X : Type 0} (f : X → Bool) (before after : List X) → list_any f before ≡ false
+    → prefix_len (λ x. not (f x)) (before ++ after) ≡ length before + prefix_len (λ x. not (f x)) after
+fail_over f [] after none = omega arith
+fail_over f (x ∷ before) after none =
+    let both = or_parts (f x) (list_any f before) none in
+    rw (both.0, fail_over f before after both.1) (omega arith)
+
+-- At most all items are the first ones that pass a test.
+few_first : {X : Type 0} (p : X → Bool) (xs : List X) → prefix_len p xs ≤ length xs
+few_first p [] = omega arith
+few_first p (x ∷ xs) = go (p x) (few_first p xs)
+  where
+    go : (passes : Bool) → prefix_len p xs ≤ length xs → cond passes (1 + prefix_len p xs) 0 ≤ suc (length xs)
+    go true few = omega (arith, few)
+    go false few = omega arith
+
+-- Items behind others that pass no test stay behind the last one that does.
+pub after_more : {X : Type 0} (f : X → Bool) (xs later : List X) → list_any f later ≡ false
+    → after_last f (xs ++ later) ≡ after_last f xs ++ later
+after_more {X} f xs later none =
+    let fails : X → Bool = λ (x : X). not (f x) in
+    let many : suffix_len fails (xs ++ later) ≡ length later + suffix_len fails xs =
+    ap (prefix_len fails) (reverse-append xs later)
+    ∙ fail_over f (reverse later) (reverse xs) (none_reversed f later none)
+    ∙ ap (λ n. n + suffix_len fails xs) (length-reverse later) in
+    let few : suffix_len fails xs ≤ length xs =
+    subst (λ n. suffix_len fails xs ≤ n) (length-reverse xs) (few_first fails (reverse xs)) in
+    let cut : length (xs ++ later) - suffix_len fails (xs ++ later) ≡ length xs - suffix_len fails xs =
+    omega (arith, many, few, length-append xs later) in
+    ap (λ n. drop n (xs ++ later)) cut ∙ drop-append-le (length xs - suffix_len fails xs) xs later (omega arith)
+
+-- The messages from `past` on are those after the last one that came before the day, if so many did not.
+pub told_from : (day : Date) (lines : List (List ℕ)) (came : List Apdu) (past : ℕ)
+    → past + suffix_len (λ a. not (came_before day lines a)) came ≡ length came
+    → take (length came - past) (drop past came) ≡ after_last (came_before day lines) came
+told_from day lines came past is =
+    let cut : past ≡ length came - suffix_len (λ a. not (came_before day lines a)) came = omega (arith, is) in
+    take_all (length came - past) (drop past came) (omega (arith, length-drop past came)) ∙ ap (λ n. drop n came) cut
+
+-- If no message came before the day, all that are no repeats are told.
+pub all_told : (day : Date) (lines : List (List ℕ)) (came : List Apdu) → list_any (came_before day lines) came ≡ false
+    → came_since (Some day) lines came ≡ filter (is_new day lines) came
+all_told day lines came none = ap (filter (is_new day lines)) (all_after (came_before day lines) came none)
+
+-- Told is what came after the last message that came before the day, but for repeats.
+pub later_told : (day : Date) (lines : List (List ℕ)) (came later : List Apdu) (a : Apdu) → came_before day lines a ≡ true
+    → list_any (came_before day lines) later ≡ false
+    → came_since (Some day) lines (came ++ a ∷ later) ≡ filter (is_new day lines) later
+later_told day lines came later a before none =
+    ap (filter (is_new day lines)) (after_it (came_before day lines) came a later before none)
+
+-- A message that no line names did not come before the day.
+pub unnamed_told : (day : Date) (lines : List (List ℕ)) (a : Apdu) → is_named (came_key a) lines ≡ false
+    → came_before day lines a ≡ false
+unnamed_told day lines a none = rw none refl
+
+-- A message that a line of the day or later names did not come before the day.
+pub named_told : (day : Date) (lines : List (List ℕ)) (a : Apdu) → is_named_since day (came_key a) lines ≡ true
+    → came_before day lines a ≡ false
+named_told day lines a named = go (is_named (came_key a) lines)
+  where
+    go : (is : Bool) → (is && not (is_named_since day (came_key a) lines)) ≡ false
+    go true = rw named refl
+    go false = refl
+
+-- ---- repeats
+
+-- If the second of two fails, not both hold.
+second_off : (one other : Bool) → other ≡ false → (one && other) ≡ false
+second_off true other off = off
+second_off false other off = refl
+
+-- What says nothing of a key says nothing of it before a day.
+not_before : (day : Date) (key : List ℕ) (said : Option Said) → has_key key said ≡ false → says_before day key said ≡ false
+not_before day key None none = refl
+not_before day key (Some said) none = second_off (is_before said.day day) (bytes_eq said.message key) none
+
+-- A text that no line names, no line of an earlier day names.
+unnamed_before : (day : Date) (key : List ℕ) (lines : List (List ℕ)) → is_named key lines ≡ false
+    → is_named_before day key lines ≡ false
+unnamed_before day key [] none = refl
+unnamed_before day key (line ∷ lines) none =
+    let both = or_parts (has_key key (said_by line)) (is_named key lines) none in
+    rw (not_before day key (said_by line) both.0, unnamed_before day key lines both.1) refl
+
+-- No item that passes one test is among those that pass another, if none passes both.
+none_kept : {X : Type 0} (f p : X → Bool) (xs : List X) → ((x : X) → f x ≡ true → p x ≡ false)
+    → list_any f (filter p xs) ≡ false
+none_kept f p [] apart = refl
+none_kept f p (x ∷ xs) apart = go (p x) (f x) refl refl (none_kept f p xs apart)
+  where
+    go : (keeps is : Bool) → p x ≡ keeps → f x ≡ is → list_any f (filter p xs) ≡ false
+        → list_any f (cond keeps (x ∷ filter p xs) (filter p xs)) ≡ false
+    go false is kept one rest = rest
+    go true true kept one rest = absurd (true≢false (sym kept ∙ apart x one))
+    go true false kept one rest = rw (one, rest) refl
+
+-- What a line of an earlier day names is not told.
+pub no_repeat : (day : Date) (lines : List (List ℕ)) (came : List Apdu) (a : Apdu)
+    → is_named_before day (came_key a) lines ≡ true
+    → list_any (λ b. bytes_eq (came_key b) (came_key a)) (came_since (Some day) lines came) ≡ false
+no_repeat day lines came a named =
+    none_kept (λ b. bytes_eq (came_key b) (came_key a)) (is_new day lines) (after_last (came_before day lines) came)
+    (λ b same. ap not (ap (λ key. is_named_before day key lines) ((bytes_eq-Decides (came_key b) (came_key a)).0 same) ∙ named))
+
+-- If each of the messages is named by a line of the day or later, none came before.
+none_before_day : (day : Date) (lines : List (List ℕ)) (later : List Apdu)
+    → Each (λ b. is_named_since day (came_key b) lines ≡ true) later → list_any (came_before day lines) later ≡ false
+unfolding Each
+none_before_day day lines [] each = refl
+none_before_day day lines (b ∷ later) each =
+    rw (named_told day lines b each.0, none_before_day day lines later each.1) refl
+
+-- A message that no line names is told, whatever came again after it.
+pub not_hidden : (day : Date) (lines : List (List ℕ)) (came repeats : List Apdu) (a : Apdu) → is_named (came_key a) lines ≡ false
+    → Each (λ b. is_named_since day (came_key b) lines ≡ true) repeats
+    → (before after : List Apdu) × (came_since (Some day) lines (came ++ a ∷ repeats) ≡ before ++ a ∷ after)
+not_hidden day lines came repeats a unnamed each =
+    let none : list_any (came_before day lines) (a ∷ repeats) ≡ false =
+    rw (unnamed_told day lines a unnamed, none_before_day day lines repeats each) refl in
+    let kept : is_new day lines a ≡ true = ap not (unnamed_before day (came_key a) lines unnamed) in
+    let before = after_last (came_before day lines) came in (
+      filter (is_new day lines) before,
+      filter (is_new day lines) repeats,
+      ap (filter (is_new day lines)) (after_more (came_before day lines) came (a ∷ repeats) none)
+          ∙ filter-append (is_new day lines) before (a ∷ repeats)
+          ∙ ap (λ rest. filter (is_new day lines) before ++ rest) (rw kept refl),
+    )

@@ -1,0 +1,3 @@
+pub mod CameSinceLemmas
+pub mod DeedLemmas
+pub mod NewsLemmas

@@ -1,0 +1,12 @@
+-- States the loop invariant of `push_all` (`src/deeds.rt`).
+use Rattle.std.proofs.Common.{◌≡◌, ◌++◌, map, take, Bor, Some}
+use Rattle.ill_record.specs.declared.side.Side.{Side}
+use Rattle.ill_news.specs.Deeds.{deeds_since}
+use Rattle.ill_news.proofs.deeds.push_all.Given as goal
+
+-- What dates have made due at the sides so far is appended.
+abbrev pub invariant-loop-side : goal.invariant-loop-side
+invariant-loop-side l = record {
+  told : l.news.items ≡ l.initial.news.items ++ deeds_since (Some l.day) (map (λ line. line.items) l.lines)
+      (map (λ (side : Bor Side). side.now) (take l.side-index l.sides));
+}

@@ -1,0 +1,4 @@
+pub mod CameSince
+pub mod Deeds
+pub mod News
+pub mod Told

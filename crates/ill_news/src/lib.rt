@@ -1,0 +1,7 @@
+//! What came to the loans of a desk, over a desk that is read. No file and no lock is known here.
+#![tactic(auto)]
+
+pub mod came_since;
+mod deeds;
+pub mod laws;
+pub mod news;

@@ -1,0 +1,4 @@
+pub mod Cells
+pub mod Finding
+pub mod Heading
+pub mod Messages

@@ -1,3 +1,1 @@
 pub mod LetterLemmas
-pub mod PageLemmas
-pub mod VisitLemmas

@@ -2,9 +2,6 @@
 #![tactic(auto)]
 
 pub mod commands;
-pub mod counting;
 pub mod late_diary;
 pub mod letters;
 pub mod note;
-pub mod telling;
-mod visit;

@@ -12,6 +12,11 @@ abbrev pub all_well : {A : Type 0} → Result A ToolFault → Result Bool ToolFa
 all_well (Ok answer) = Ok true
 all_well (Err fault) = Err fault
 
+-- Returns `answer` if the output was written, else the fault.
+abbrev pub after_writing : Result (Unit {0}) ToolFault → Result Bool ToolFault → Result Bool ToolFault
+after_writing (Ok done) answer = answer
+after_writing (Err fault) answer = Err fault
+
 -- An answer satisfies `Answers`, and the result is true in its place, or its fault.
 abbrev pub GoesWell : {A : Type 0} → (Result A ToolFault → Type 0) → Result Bool ToolFault → Type 0
 GoesWell {A} Answers result = (answer : Result A ToolFault) × Answers answer × (result ≡ all_well answer)

@@ -2,7 +2,7 @@
 
 ghost use Rattle.std.specs.Prelude.{◌≡◌, Ok, true, IfErr};
 ghost use Rattle.ill_saved.specs.Desk.{answer_of};
-ghost use Rattle.ill_files.specs.Opening.{all_well};
+ghost use Rattle.ill_files.specs.Opening.{after_writing, all_well};
 ghost use Rattle.ill_text.specs.Fault.{IsOpenFault};
 
 use ill_saved::{Desk, DeskFault, FileLock, FileStore, LockFiles, LockedDesk, RECORD_LIMIT};
@@ -16,6 +16,19 @@ pub fn all_well<A: Drop>(answer: Result<A, ToolFault>) -> Result<bool, ToolFault
 {
     match answer {
         Ok(_) => Ok(true),
+        Err(fault) => Err(fault),
+    }
+}
+
+/// Returns `answer` if the output was written, else the fault.
+pub fn after_writing(
+    written: Result<(), ToolFault>,
+    answer: Result<bool, ToolFault>,
+) -> Result<bool, ToolFault>
+    ensures { result ≡ after_writing written answer }
+{
+    match written {
+        Ok(()) => answer,
         Err(fault) => Err(fault),
     }
 }

@@ -14,15 +14,18 @@ use Rattle.ill_line.specs.declared.request.Call.TheVariants as calls
 use Rattle.ill_line.specs.declared.request.Refusal.{Refusal}
 use Rattle.ill_line.specs.declared.request.Refusal.TheVariants.{Usage, Fault}
 use Rattle.ill_tool.specs.ExitStatus.{IsFlushed, TellsKind, exit_status, status_of}
-use Rattle.ill_commands.specs.AtFile.{NewAtFile, ActsAtFile, ShowsFile, ListsPaths, LoanAtFile}
-use Rattle.ill_commands.specs.AtFile.{CountsPaths, SlipAtFile, TakesAtFile, TellsPaths}
+use Rattle.ill_commands.specs.AtFile.{NewAtFile, ActsAtFile, ShowsFile, LoanAtFile}
+use Rattle.ill_visits.specs.Visits.{ListsPaths}
+use Rattle.ill_visits.specs.Visits.{CountsPaths, TellsPaths}
+use Rattle.ill_commands.specs.AtFile.{SlipAtFile, TakesAtFile}
 use Rattle.ill_commands.specs.Letters.{SendsWith, TakesWith}
 use Rattle.ill_commands.specs.Note.{NotesAtFile}
 use Rattle.ill_commands.specs.Streams.{streams_of}
 use Rattle.ill_key.specs.KeyCommand.{RunsKey}
 use Rattle.ill_files.specs.Opening.{GoesWell}
 use Rattle.ill_show.specs.Notes.{note_text}
-use Rattle.ill_commands.specs.AtFile.{VerifiesFile, ReportsPaths}
+use Rattle.ill_commands.specs.AtFile.{VerifiesFile}
+use Rattle.ill_visits.specs.Visits.{ReportsPaths}
 use Rattle.ill_mail.specs.Keyed.{WithKey}
 use Rattle.ill_mail.specs.Nights.{InboxAtFile, OutboxAtFile, ExchangesAtFile}
 use Rattle.ill_line.specs.Guard.{IsGuarded}

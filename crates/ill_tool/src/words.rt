@@ -10,11 +10,9 @@ ghost use Rattle.ill_tool.specs.ExitStatus.{IsFlushed, TellsKind, desk_status, e
 use crate::simulate::{run_simulate, run_simulate_desks};
 use clap::Error;
 use clap::error::ErrorKind;
-use ill_commands::commands::{TakeView, act, list, loan, new, report, slip, status, verify};
-use ill_commands::counting::figures;
+use ill_commands::commands::{TakeView, act, loan, new, slip, status, verify};
 use ill_commands::letters::{send_with, take_with};
 use ill_commands::note::{NoteView, note};
-use ill_commands::telling::news;
 use ill_desk::act_as::ActionView;
 use ill_desk::take::TakeForm;
 use ill_explain::{Passed, Watched, explain, is_asked};
@@ -38,6 +36,7 @@ use ill_text::check::run_check;
 use ill_text::diary::Stamp;
 use ill_text::fault::ToolFault;
 use ill_text::show::run_show_as;
+use ill_visits::visits::{figures, list, news, report};
 use std::alloc::Global;
 use std::io::{BufWriter, Cursor, Read, Write};
 

@@ -19,7 +19,8 @@ use Rattle.ill_show.specs.Since.{AnnexRead}
 use Rattle.ill_report.specs.declared.link.Place.{Place}
 use Rattle.ill_news.specs.Told.{news_since}
 use Rattle.ill_report.specs.Report.{unread_text}
-use Rattle.ill_commands.specs.AtFile.{CountsPaths, SlipAtFile}
+use Rattle.ill_visits.specs.Visits.{CountsPaths}
+use Rattle.ill_commands.specs.AtFile.{SlipAtFile}
 use Rattle.ill_figures.specs.Days.{span_between}
 use Rattle.ill_figures.specs.declared.days.Span.{Span}
 use Rattle.ill_browser.specs.Wanted.{LoanAsked}

@@ -20,17 +20,16 @@ from ill.texts import words as command_line
 from ill.texts.words import HELP, LINE, MAN, body, find, named
 
 EXPLAIN = "crates/ill_explain/src"
-(WORLD, WORDS, TEXT, SHOW, ROWS, LIST, NEWS, REPORT, SLIP, COUNTED, DESK, NIGHT, INBOX, FILES, KEY, COMMANDS, MAIL,
- MAILBOX, SHELF, ROOM) = (
+(WORLD, WORDS, TEXT, SHOW, ROWS, LIST, NEWS, REPORT, SLIP, COUNTED, DESK, NIGHT, INBOX, FILES, KEY, COMMANDS, VISITS,
+ MAIL, MAILBOX, SHELF, ROOM) = (
     f"crates/ill_{room}/src"
     for room in ("world", "words", "text", "show", "rows", "list", "news", "report", "slip", "figures", "desk", "night", "inbox",
-                 "files", "key", "commands", "mail", "mailbox", "shelf", "room"))
+                 "files", "key", "commands", "visits", "mail", "mailbox", "shelf", "room"))
 FILE_KINDS = {"File", "NewFile", "Paths", "Folder"}
 KEY_KINDS = {"KeyFile", "Key", "NightKey"}
 FLAGS = {"Long", "Keep", "Picture", "Open", "Mine", "Actions", "Json", "Csv"}
 # The sources of the commands on a file: what locks it is told by their bodies.
-FILED = (f"{COMMANDS}/commands.rt", f"{COMMANDS}/telling.rt", f"{COMMANDS}/counting.rt", f"{COMMANDS}/note.rt", f"{MAIL}/exchange.rt",
-         f"{MAIL}/rooms.rt")
+FILED = (f"{COMMANDS}/commands.rt", f"{VISITS}/visits.rt", f"{COMMANDS}/note.rt", f"{MAIL}/exchange.rt", f"{MAIL}/rooms.rt")
 # The source of what a command does after it has opened what it works on.
 ENGINES = {"exchange": (f"{MAIL}/rooms.rt",)}
 FIGURES = ("one two three four five six seven eight nine ten eleven twelve thirteen fourteen fifteen sixteen "
@@ -164,7 +163,7 @@ def numbers_of():
     return {
         "zero": 0, "first": least, "second": least + 1, "third": least + 2, "last": 2 ** int(number) - 1,
         "loans": constant("SIDES_LIMIT", f"{record}/sides.rt"), "messages": constant("MAX_APDUS", f"{TEXT}/input.rt"),
-        "many": constant("MANY", f"{COMMANDS}/commands.rt"), "few": constant("FEW", f"{SHOW}/numbers.rt"),
+        "many": constant("MANY", f"{VISITS}/listing.rt"), "few": constant("FEW", f"{SHOW}/numbers.rt"),
         "soon": constant("SOON", f"{ROWS}/soon.rt"),
         "mails": constant("MAILS", f"{MAILBOX}/mail.rt"),
         "longer": constant("APDU_LIMIT", f"{der}/header.rt") + constant("LINE_END", f"{MAILBOX}/mail.rt") + 1,

@@ -1,0 +1,73 @@
+//! What lies beside a desk in a file, as it is shown: its notes, its diary, and the messages that came.
+#![tactic(auto)]
+
+ghost use Rattle.std.specs.Prelude.{IfErr};
+ghost use Rattle.ill_text.specs.Fault.{IsOpenFault};
+
+use ill_files::came::came_bytes;
+use ill_files::diary::diary_bytes;
+use ill_files::notes::notes_bytes;
+use ill_files::open::open;
+use ill_saved::{Desk, FileStore};
+use ill_show::annex::Annex;
+use ill_show::file_lines::FileLines;
+use ill_show::notes::Notes;
+use ill_text::fault::ToolFault;
+use ill_text::input::apdus_in;
+use std::alloc::Global;
+use std::io::Write;
+use std::rt::Files;
+
+/// Opens the desk in `file`, and reads the annex beside it.
+pub fn open_with_annex<'a, T: Files, E: Write>(
+    rt: &'a T,
+    alloc: Global,
+    file: &str,
+    errors: &mut E,
+) -> Result<(Desk<FileStore<'a, T>>, Annex), ToolFault>
+    ensures { IfErr result IsOpenFault }
+{
+    let annex = read_annex(rt, alloc, file, errors)?;
+    let desk = open(rt, alloc, file)?;
+    Ok((desk, annex))
+}
+
+/// Reads the annex of the desk in `file`.
+pub fn read_annex<T: Files, E: Write>(
+    rt: &T,
+    alloc: Global,
+    file: &str,
+    errors: &mut E,
+) -> Result<Annex, ToolFault>
+    ensures { IfErr result IsOpenFault }
+{
+    let diary = read_diary(rt, alloc, file, errors)?;
+    let came = came_bytes(rt, alloc, file)?;
+    Ok(Annex {
+        notes: read_notes(rt, alloc, file)?,
+        diary,
+        came: apdus_in(alloc, &came)?,
+        news: None,
+    })
+}
+
+/// Reads the notes beside the desk in `file`.
+pub fn read_notes<T: Files>(rt: &T, alloc: Global, file: &str) -> Result<Notes, ToolFault>
+    ensures { IfErr result IsOpenFault }
+{
+    let bytes = notes_bytes(rt, alloc, file)?;
+    Ok(Notes::read(alloc, &bytes)?)
+}
+
+/// Reads the diary of the desk in `file`.
+pub fn read_diary<T: Files, E: Write>(
+    rt: &T,
+    alloc: Global,
+    file: &str,
+    errors: &mut E,
+) -> Result<FileLines, ToolFault>
+    ensures { IfErr result IsOpenFault }
+{
+    let bytes = diary_bytes(rt, alloc, file, errors)?;
+    Ok(FileLines::read(alloc, &bytes)?)
+}

@@ -1,0 +1,33 @@
+-- Proves that a visit may write nothing if the writer has failed (`src/visit.rt`).
+use Rattle.std.proofs.Common.{◌≡◌, ℕ, Bool, List, [], Option, Some, option_map, Result, Ok, Err, refl, inr}
+use Rattle.std.proofs.KnownBytes.{Appends-nil}
+use Rattle.ill_der.specs.ShortForm.{header_at, outer_at, apdu_at}
+use Rattle.ill_text.specs.Input.{AreIn}
+use Rattle.ill_news.specs.CameSince.{came_since}
+use Rattle.ill_news.specs.News.{news_of}
+use Rattle.ill_show.specs.Since.{AnnexRead}
+use Rattle.ill_text.specs.declared.fault.ToolFault.{ToolFault}
+use Rattle.ill_text.specs.declared.fault.ToolFault.TheVariants.{Write}
+use Rattle.ill_text.specs.declared.form.Form.{Form}
+use Rattle.ill_visits.specs.declared.visit.Visit.{Visit}
+use Rattle.ill_visits.specs.declared.visit.Visit.TheVariants as visits
+use Rattle.ill_visits.specs.Visits.{RunsVisit}
+
+-- No bytes have no messages.
+nothing_in : AreIn [] []
+unfolding apdu_at outer_at header_at
+nothing_in = (Ok [], ([], record { encoded = tt; parts = refl }, (refl, refl)))
+
+-- If the answer is that the writer failed, a visit may have written a prefix of no bytes.
+pub nothing_written : (visit : Visit) (form : Form) (is_headed is_first : Bool) (path : List ℕ) (written : Option (List ℕ))
+    (answer : Result Bool ToolFault) → answer ≡ Err Write
+    → RunsVisit visit form is_headed is_first
+    (record { path = path; before = written; after = written; answer = answer })
+nothing_written (visits.List wanted find) form is_headed is_first path written answer failed =
+    let news = option_map (λ day. news_of [] (came_since (Some day) [] [])) wanted.now.since in
+    let annex : AnnexRead = record { notes = []; diary = []; came = []; news = news } in
+    inr ([], annex, refl, (Err Write, (0, Appends-nil written), failed))
+nothing_written (visits.News last since) form is_headed is_first path written answer failed =
+    inr ([], [], [], (Err Write, ([], nothing_in, (0, Appends-nil written)), failed))
+nothing_written (visits.Figures view) form is_headed is_first path written answer failed =
+    inr ([], [], [], (Err Write, ([], nothing_in, (0, Appends-nil written)), failed))

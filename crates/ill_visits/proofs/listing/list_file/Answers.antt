@@ -1,0 +1,22 @@
+-- Answers the contract of `list_file` (`src/listing.rt`).
+use Rattle.std.proofs.Common.{◌≡◌, List, Option, option_map, inr, subst}
+use Rattle.ill_values.specs.declared.apdu.Apdu.{Apdu}
+use Rattle.ill_saved.specs.ManySides.{sides_held}
+use Rattle.ill_record.specs.Sides.{SidesOf}
+use Rattle.ill_news.specs.Told.{news_since}
+use Rattle.ill_show.specs.Since.{annex_of}
+use Rattle.ill_visits.proofs.listing.list_file.Goals as goal
+
+-- Proves the contract of `list_file` if the desk is opened. `run_desk_list` lists its sides, with the news of the annex.
+pub returns : goal.returns
+returns g c =
+    let annex = annex_of c.in_ok-annex.annex in
+    let news : Option (List Apdu) = option_map (λ apdus. apdus.items) c.in_ok-news.news in
+    let told = subst (λ (held : SidesOf). news ≡ news_since c.args.wanted.now.since annex held.sides) c.sides.ensures.value
+    c.in_ok-news.ensures in
+    inr (
+      (sides_held c.in_ok-desk.desk.live).sides,
+      record { notes = annex.notes; diary = annex.diary; came = annex.came; news = news },
+      told,
+      (c.run_desk_list-answer.result, c.run_desk_list-answer.ensures, c.all_well.ensures),
+    )

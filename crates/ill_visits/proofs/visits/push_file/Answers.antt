@@ -1,0 +1,27 @@
+-- Answers the contract of `push_file` (`src/visits.rt`).
+use Rattle.std.proofs.Common.{◌++◌, List, Option, option_map, Ok, Err, refl, ap, ◌∙◌}
+use Rattle.ill_values.specs.declared.apdu.Apdu.{Apdu}
+use Rattle.ill_report.specs.Report.{desk_text, report_of}
+use Rattle.ill_show.specs.Since.{AnnexRead, annex_of}
+use Rattle.ill_visits.proofs.visits.push_file.Goals as goal
+
+-- Proves the contract of `push_file` if the desk is opened. The part has its loans, with the news of the annex.
+pub returns-in_ok-told-in-Ok-clause-told : goal.returns-in_ok-told-in-Ok-clause-told
+returns-in_ok-told-in-Ok-clause-told g c =
+    let sides = c.sides-sides.result.now.sides in
+    let annex = annex_of c.in-Ok.annex in
+    let news : Option (List Apdu) = option_map (λ apdus. apdus.items) c.in_ok-news-in-Ok.news in
+    let with : Option (List Apdu) → AnnexRead =
+    λ (told : Option (List Apdu)). record { notes = annex.notes; diary = annex.diary; came = annex.came; news = told } in
+    let told = c.in_ok-told-in-Ok.ensures
+    ∙ ap (λ page. c.args.page.now.items ++ desk_text page c.args.file.now sides (with news)) c.of_report-view.ensures
+    ∙ ap (λ (told : Option (List Apdu)).
+    c.args.page.now.items ++ desk_text (report_of c.args.days.now.today) c.args.file.now sides (with told))
+    c.in_ok-news-in-Ok.ensures in
+    ((c.args.file.now, Ok (sides, annex)), refl, told, refl)
+
+-- Proves the contract of `push_file` if the desk is not opened. The part has the fault, in the words of `push_fault`.
+pub returns-in_ok-push_fault-in-Err-clause-told : goal.returns-in_ok-push_fault-in-Err-clause-told
+returns-in_ok-push_fault-in-Err-clause-told g c =
+    let told = c.in_ok-push_fault-in-Err.ensures in
+    ((c.args.file.now, Err (c.in-Err.fault, told.0)), refl, told.1, refl)

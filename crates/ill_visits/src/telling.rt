@@ -1,0 +1,70 @@
+//! What came to one desk in a file. It takes no lock, since it only reads.
+
+ghost use Rattle.std.specs.Prelude.{IfErr};
+ghost use Rattle.ill_text.specs.Fault.{IsOpenFault};
+ghost use Rattle.ill_visits.specs.Visits.{TellsDesk};
+
+use ill_annex::read_diary;
+use ill_files::came::came_bytes;
+use ill_files::machine::Machine;
+use ill_files::open::{all_well, open};
+use ill_news::came_since::Came;
+use ill_news::news::run_desk_news;
+use ill_rows::listed::Listed;
+use ill_show::file_lines::FileLines;
+use ill_text::fault::ToolFault;
+use ill_values::{Day, Number};
+use std::alloc::Global;
+use std::io::Write;
+use std::rt::Files;
+
+/// Tells what came to the desk in a file.
+pub(crate) fn tell_file<T: Files, W: Write, E: Write>(
+    machine: &mut Machine<'_, T, W, E>,
+    listed: &Listed<'_>,
+    last: Option<Number>,
+    since: Option<Day>,
+) -> Result<bool, ToolFault>
+    ensures { TellsDesk listed.now.form last since listed.now.is_headed listed.now.is_first (record {
+      path = listed.now.path.now;
+      before = W.contents machine.old.writer;
+      after = W.contents machine.new.writer;
+      answer = result;
+    }) }
+{
+    let diary = diary_if(
+        machine.rt,
+        machine.alloc,
+        listed.path,
+        since.is_some(),
+        &mut machine.errors,
+    )?;
+    let desk = open(machine.rt, machine.alloc, listed.path)?;
+    let bytes = came_bytes(machine.rt, machine.alloc, listed.path)?;
+    let came = Came {
+        bytes: &bytes,
+        diary: &diary,
+        since,
+        last,
+    };
+    let told = run_desk_news(machine.alloc, &desk, listed, &came, &mut machine.writer);
+    drop(desk);
+    all_well(told)
+}
+
+/// Reads the diary of the desk in `file` if it is `wanted`. Else no line is read.
+fn diary_if<T: Files, E: Write>(
+    rt: &T,
+    alloc: Global,
+    file: &str,
+    wanted: bool,
+    errors: &mut E,
+) -> Result<FileLines, ToolFault>
+    ensures { IfErr result IsOpenFault }
+{
+    if wanted {
+        read_diary(rt, alloc, file, errors)
+    } else {
+        Ok(FileLines::none(alloc))
+    }
+}

@@ -13,7 +13,7 @@ use Rattle.ill_post.specs.Post.{AnswersPost}
 use Rattle.ill_saved.specs.declared.fault.DeskFault.{DeskFault}
 use Rattle.ill_page.specs.declared.reply.Status.TheVariants.{Good}
 use Rattle.ill_web.specs.declared.operator.Operator.{Operator}
-use Rattle.ill_web.specs.declared.serve.House.{House}
+use Rattle.ill_web.specs.declared.house.House.{House}
 use Rattle.ill_web.specs.declared.serve.TheConstants.{NO_MEMORY}
 use Rattle.ill_web.specs.declared.trouble.Trouble.{Trouble}
 use Rattle.ill_web.specs.declared.trouble.Trouble.TheVariants as troubles

@@ -15,7 +15,7 @@ ghost use Rattle.ill_web.specs.Replies.{ActsHere, house_shown};
 ghost use Rattle.ill_web.specs.Sent.{sent_form};
 ghost use Rattle.ill_web.specs.Troubles.{no_memory};
 
-use crate::serve::House;
+use crate::house::House;
 use crate::show::loan_reply;
 use crate::told::Told;
 use crate::trouble::Trouble;

@@ -6,7 +6,7 @@ ghost use Rattle.ill_web.specs.Acts.{KeepsNote, Notes};
 ghost use Rattle.ill_web.specs.Pages.{AtDesk, asked_at, said};
 ghost use Rattle.ill_web.specs.Replies.{house_shown};
 
-use crate::serve::House;
+use crate::house::House;
 use crate::trouble::Trouble;
 use ill_browser::LoanName;
 use ill_commands::note::{NoteView, note};

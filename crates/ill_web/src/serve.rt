@@ -1,44 +1,28 @@
 //! One request, from its texts to the reply.
 
-ghost use Rattle.std.specs.Prelude.{◌≡◌, Option, Some, None, bytes_eq, find, map, option_copied, option_map, string_bytes, IfOk, MatchResult};
+ghost use Rattle.std.specs.Prelude.{◌≡◌, Option, find, map, IfOk};
 ghost use Rattle.ill_browser.specs.Visit.{visit_shown};
-ghost use Rattle.ill_browser.specs.Wanted.{asked_of, loan_asked};
+ghost use Rattle.ill_browser.specs.Wanted.{asked_of};
 ghost use Rattle.ill_commands.specs.Streams.{streams_of};
-ghost use Rattle.ill_web.specs.declared.trouble.Trouble.TheVariants.{NoDesk};
 ghost use Rattle.ill_web.specs.Acts.{Turn};
-ghost use Rattle.ill_web.specs.Pages.{asked_at, file_named, said};
+ghost use Rattle.ill_web.specs.Pages.{said};
 ghost use Rattle.ill_web.specs.Replies.{AnswersAt, AnswersRequest, Sends, Serves, house_shown, reply_of, sent_of};
 ghost use Rattle.ill_web.specs.Troubles.{trouble_reply};
 
 use crate::act::act;
+use crate::house::House;
 use crate::note::note_loan;
 use crate::operator::Operator;
 use crate::show::{show_desks, show_figures, show_loan, show_slip};
 use crate::trouble::Trouble;
-use ill_browser::{LoanName, Rules, Visit, Wanted, read_wanted};
+use ill_browser::{Rules, Visit, Wanted, read_wanted};
 use ill_files::folder::desk_paths;
 use ill_page::{notice_page, page_reply};
-use ill_report::link::Place;
 use ill_saved::LockFiles;
 use ill_text::output::write_and_flush;
 use ill_values::OutOfMemory;
 use std::alloc::Global;
 use std::io::{Read, Write};
-
-/// What a request is answered with: files and memory, and what the operator says.
-#[derive(Clone, Copy)]
-pub struct House<'a, T> {
-    /// The runtime, which has the files.
-    pub rt: &'a T,
-    /// The memory.
-    pub alloc: Global,
-    /// What the operator says.
-    pub operator: &'a Operator<'a>,
-    /// The paths of the desks.
-    pub files: &'a [String],
-    /// The name of the user. None is empty.
-    pub user: &'a str,
-}
 
 /// A request, and what says who may make it.
 #[derive(Clone, Copy)]
@@ -155,38 +139,4 @@ fn reply_to<T: LockFiles>(house: &House<'_, T>, wanted: &Wanted) -> Result<Vec<u
         Wanted::Act { loan, stamp, words } => act(house, loan, stamp, words),
         Wanted::Note { loan, note } => note_loan(house, loan, note),
     }
-}
-
-impl<'a, T> House<'a, T> {
-    /// Returns the loan at the path of its desk. The text for the desk is compared with the operator's paths, and opens no
-    /// file.
-    pub fn place<'b>(&'b self, loan: &'b LoanName) -> Result<Place<'b>, Trouble>
-        ensures { MatchResult result
-            (λ place. (file_named (house_shown self.now).files loan.now.desk.items ≡ Some loan.now.desk.items)
-            × (asked_at place ≡ loan_asked loan.now))
-            (λ trouble. (file_named (house_shown self.now).files loan.now.desk.items ≡ None) × (trouble ≡ NoDesk)) }
-    {
-        match file_named(self.files, &loan.desk) {
-            Some(file) => Ok(Place {
-                desk: file.as_str(),
-                txn: &loan.txn,
-            }),
-            None => Err(Trouble::NoDesk),
-        }
-    }
-}
-
-/// Returns the first of `files` with the text `desk`.
-fn file_named<'a>(files: &'a [String], desk: &[u8]) -> Option<&'a String>
-    ensures { option_map (λ file. string_bytes file) (option_copied result)
-        ≡ file_named (map (λ file. string_bytes file) files.now) desk.now }
-{
-    file_with(files, desk)
-}
-
-/// Returns the first of `files` with these bytes.
-fn file_with<'a>(files: &'a [String], bytes: &[u8]) -> Option<&'a String>
-    ensures { option_copied result ≡ find (λ file. bytes_eq (string_bytes file) bytes.now) files.now }
-{
-    files.iter().find(|file| file.as_bytes() == bytes)
 }

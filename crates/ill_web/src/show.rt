@@ -8,7 +8,7 @@ ghost use Rattle.ill_web.specs.Pages.{AddsDesk, AddsDesks, AreLines, AtDesk, IsU
 ghost use Rattle.ill_web.specs.Replies.{house_shown};
 ghost use Rattle.ill_web.specs.Troubles.{telling, tells};
 
-use crate::serve::House;
+use crate::house::House;
 use crate::told::Told;
 use crate::trouble::Trouble;
 use ill_annex::open_with_annex;
@@ -17,7 +17,6 @@ use ill_commands::commands::slip;
 use ill_figures::figures::{FiguresView, Span};
 use ill_files::came::came_bytes;
 use ill_files::diary::diary_bytes;
-use ill_files::machine::Machine;
 use ill_files::notes::notes_bytes;
 use ill_files::open::open;
 use ill_news::news::news_since;
@@ -36,22 +35,8 @@ use ill_text::fault::ToolFault;
 use ill_values::{Day, OutOfMemory};
 use ill_visits::visits::figures;
 use std::alloc::Global;
-use std::io::{Sink, sink};
+use std::io::sink;
 use std::rt::Files;
-
-impl<'a, T> House<'a, T> {
-    /// Returns a machine that writes into memory, and no line about what could not be done.
-    pub fn machine(&self) -> Machine<'a, T, Vec<u8>, Sink>
-        ensures { result.writer.items ≡ [] }
-    {
-        Machine {
-            rt: self.rt,
-            alloc: self.alloc,
-            writer: Vec::new(self.alloc),
-            errors: sink(),
-        }
-    }
-}
 
 /// Returns the reply with the page of all desks, or of their loans that have the words `find`.
 pub fn show_desks<T: Files>(house: &House<'_, T>, find: Option<&str>) -> Result<Vec<u8>, Trouble>

@@ -1,9 +1,9 @@
--- Proves the contract of `House::place` (`src/serve.rt`).
+-- Proves the contract of `House::place` (`src/house.rt`).
 use Rattle.std.proofs.Common.{◌≡◌, ◌∙◌, List, ℕ, map, Some, ap, subst, sym, option_copied, option_map, string_bytes}
 use Rattle.ill_browser.specs.Wanted.{LoanAsked}
 use Rattle.ill_web.specs.Pages.{file_named}
 use Rattle.ill_web.proofs.PlaceLemmas.{named_is}
-use Rattle.ill_web.proofs.serve.House.place.Goals as goal
+use Rattle.ill_web.proofs.house.House.place.Goals as goal
 
 pub returns-in-Some : goal.returns-in-Some
 returns-in-Some g c =

@@ -1,8 +1,8 @@
--- Proves the contract of `file_named` (`src/serve.rt`).
+-- Proves the contract of `file_named` (`src/house.rt`).
 use Rattle.std.proofs.Common.{◌∙◌, ap, sym, option_map, string_bytes}
 use Rattle.std.specs.Prelude.{bytes_eq}
 use Rattle.ill_browser.proofs.FieldLemmas.{find_mapped}
-use Rattle.ill_web.proofs.serve.file_named.Goals as goal
+use Rattle.ill_web.proofs.house.file_named.Goals as goal
 
 pub returns : goal.returns
 returns c =

@@ -4,9 +4,9 @@ use Rattle.std.specs.Prelude.{IsErrAnd}
 use Rattle.std.proofs.KnownBytes.{Consumes-nil, Appends-nil}
 use Rattle.ill_values.specs.declared.fault.TextFault.{TextFault}
 use Rattle.ill_values.specs.TxnId.{Qualifiers}
-use Rattle.ill_world.specs.declared.fault.SimFault.{SimFault}
-use Rattle.ill_world.specs.declared.fault.SimFault.TheVariants as simulation
-use Rattle.ill_world.specs.Play.{trace_from}
+use Rattle.ill_script.specs.declared.fault.SimFault.{SimFault}
+use Rattle.ill_script.specs.declared.fault.SimFault.TheVariants as simulation
+use Rattle.ill_script.specs.Play.{trace_from}
 use Rattle.ill_world.specs.Simulation.{Simulates, script}
 use Rattle.ill_text.specs.declared.fault.ToolFault.{ToolFault}
 use Rattle.ill_line.specs.Asked.{GivesId}

@@ -2,9 +2,9 @@
 use Rattle.std.proofs.Common.{arith, rules, ◌≡◌, ℕ, List, [], ◌∷◌, ◌++◌, length, Option, Some, None, Result, Err, refl, sym}
 use Rattle.std.proofs.Common.{ap, ◌∙◌, subst, append_assoc, append-nil, length-append}
 use Rattle.ill_record.specs.Side.{IsPrefix}
-use Rattle.ill_world.specs.declared.fault.SimFault.{SimFault}
-use Rattle.ill_world.specs.declared.fault.SimFault.TheVariants.{Write, OutOfMemory}
-use Rattle.ill_world.specs.Play.{Play, Progress, Streams, reading_on, broken_on, trace_on, Plays}
+use Rattle.ill_script.specs.declared.fault.SimFault.{SimFault}
+use Rattle.ill_script.specs.declared.fault.SimFault.TheVariants.{Write, OutOfMemory}
+use Rattle.ill_script.specs.Play.{Play, Progress, Streams, reading_on, broken_on, trace_on, Plays}
 use Rattle.ill_world.specs.BadTraces.{Leaves, IsOfNoPrefix, goes_on, differs, Misreports, stops_early, passes_over, miscounts}
 use Rattle.ill_world.specs.BadTraces.{miswrites, misnames, miswrites_before, misreads}
 

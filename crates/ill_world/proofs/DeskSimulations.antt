@@ -6,7 +6,7 @@ use Rattle.ill_world.specs.Desks.{DeskParties, first_desks, desks_happen, desks_
 use Rattle.ill_world.specs.DeskScript.{EventIn}
 use Rattle.ill_world.specs.DeskSimulation.{two_desks, desk_events, desk_trace_of, desk_line_after}
 use Rattle.ill_world.specs.DeskTrace.{desk_line}
-use Rattle.ill_world.proofs.Simulations.{run_more, trace_line, trace_prefix}
+use Rattle.ill_script.proofs.Simulations.{run_more, trace_line, trace_prefix}
 
 -- Returns the desks after `events`, each of which has its transaction in use.
 abbrev run_in : DeskParties → List EventIn → DeskParties

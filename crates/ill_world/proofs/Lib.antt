@@ -33,14 +33,11 @@ pub mod Projections
 pub mod Reaching
 pub mod Rounds
 pub mod Runs
-pub mod Scripts
 pub mod Sendings
 pub mod ShelfNights
 pub mod Shelves
-pub mod Simulations
+pub mod SideTraces
 pub mod Standings
-pub mod Steps
-pub mod Texts
 pub mod Turns
 pub mod Uniqueness
 pub mod Worlds

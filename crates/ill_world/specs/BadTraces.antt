@@ -1,8 +1,8 @@
 -- These texts no simulation may have written, and these results none may have. Each case has its own fault.
 use Rattle.std.specs.Prelude.{◌≡◌, ℕ, List, [], ◌∷◌, ◌++◌, length, Some, None, Result, Ok, Err}
-use Rattle.ill_world.specs.declared.fault.SimFault.{SimFault}
-use Rattle.ill_world.specs.declared.fault.SimFault.TheVariants.{Script, Read}
-use Rattle.ill_world.specs.Play.{Said}
+use Rattle.ill_script.specs.declared.fault.SimFault.{SimFault}
+use Rattle.ill_script.specs.declared.fault.SimFault.TheVariants.{Script, Read}
+use Rattle.ill_script.specs.Play.{Said}
 
 -- The bytes written are no prefix of `trace`. They go on after its end, or differ from it in some byte.
 pub data Leaves (written trace : List ℕ) : Type 0 where

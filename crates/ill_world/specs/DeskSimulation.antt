@@ -2,11 +2,11 @@
 use Rattle.std.specs.Prelude.{ℕ, ◌+◌, List, [], ◌∷◌, ◌++◌, length, map, Option, None, Result}
 use Rattle.ill_values.specs.TxnId.{Qualifiers}
 use Rattle.ill_world.specs.declared.event.DeskEvent.{DeskEvent}
-use Rattle.ill_world.specs.declared.fault.SimFault.{SimFault}
+use Rattle.ill_script.specs.declared.fault.SimFault.{SimFault}
 use Rattle.ill_world.specs.Desks.{DeskParties, first_desks, desks_happen, desks_run}
 use Rattle.ill_world.specs.DeskScript.{EventIn, desk_meaning, says_in}
 use Rattle.ill_world.specs.DeskTrace.{desk_line}
-use Rattle.ill_world.specs.Play.{Play, before_first, Said, end_reading, broken_reading, reading_from, trace_from, Plays}
+use Rattle.ill_script.specs.Play.{Play, before_first, Said, end_reading, broken_reading, reading_from, trace_from, Plays}
 
 -- In the play of two desks each line has its meaning in the transaction in use. This transaction is carried from line
 -- to line.

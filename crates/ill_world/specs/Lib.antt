@@ -20,12 +20,10 @@ pub mod Desks
 pub mod Invariant
 pub mod Night
 pub mod PartyRefinement
-pub mod Play
 pub mod Round
 pub mod Safety
 pub mod Script
 pub mod Shelves
-pub mod Simulating
 pub mod Simulation
 pub mod Trace
 pub mod World

@@ -5,8 +5,8 @@ use Rattle.std.specs.List.{slice_split, filter}
 use Rattle.ill_record.specs.declared.role.Role.{Role}
 use Rattle.ill_world.specs.declared.event.Event.{Event}
 use Rattle.ill_world.specs.declared.event.Event.TheVariants.{Wish, Deed, Save, SaveFault, Send, Deliver, Noise, Restart}
-use Rattle.ill_world.specs.declared.script.ScriptLine.{ScriptLine}
-use Rattle.ill_world.specs.declared.script.ScriptLine.TheVariants as lines
+use Rattle.ill_script.specs.declared.script_line.ScriptLine.{ScriptLine}
+use Rattle.ill_script.specs.declared.script_line.ScriptLine.TheVariants as lines
 use Rattle.ill_words.specs.Words.{◌>>=◌, named, who_named, landed_named, day_of, number_of, bytes_of, wish_of, deed_of}
 
 -- Returns the words of a line: its nonempty parts between spaces.

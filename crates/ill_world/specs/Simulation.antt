@@ -2,11 +2,11 @@
 use Rattle.std.specs.Prelude.{ℕ, ◌+◌, List, [], ◌∷◌, ◌++◌, length, Option, Result}
 use Rattle.ill_values.specs.TxnId.{Qualifiers}
 use Rattle.ill_world.specs.declared.event.Event.{Event}
-use Rattle.ill_world.specs.declared.fault.SimFault.{SimFault}
+use Rattle.ill_script.specs.declared.fault.SimFault.{SimFault}
 use Rattle.ill_world.specs.World.{Parties, first_world, happens, run_of}
 use Rattle.ill_world.specs.Script.{meaning}
 use Rattle.ill_world.specs.Trace.{line}
-use Rattle.ill_world.specs.Play.{Play, before_first, Said, end_reading, broken_reading, reading_from, trace_from, Plays}
+use Rattle.ill_script.specs.Play.{Play, before_first, Said, end_reading, broken_reading, reading_from, trace_from, Plays}
 
 -- In the play of two sides each line has its own meaning. No value is carried from line to line.
 abbrev pub two_sides : Play Parties Event (Unit {0})

@@ -4,7 +4,8 @@ ghost use Rattle.std.specs.Prelude.{◌≡◌, map, IfOk};
 ghost use Rattle.ill_world.specs.DeskScript.{desk_meaning, desk_line_of, use_line};
 
 use crate::event::Event;
-use crate::script::{ScriptLine, read_words, split_words};
+use crate::script::{read_words, split_words};
+use ill_script::script_line::ScriptLine;
 use ill_values::{OutOfMemory, TextFault, TxnId};
 use ill_words::words::is;
 use std::alloc::Global;

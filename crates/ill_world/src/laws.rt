@@ -24,8 +24,8 @@ ghost use Rattle.ill_record.specs.declared.role.Role.TheVariants.{Requester, Res
 ghost use Rattle.ill_record.specs.declared.side.Side.{Side};
 ghost use Rattle.ill_world.specs.declared.event.Event.{Event};
 ghost use Rattle.ill_world.specs.declared.event.Event.TheVariants.{Save};
-ghost use Rattle.ill_world.specs.declared.fault.SimFault.{SimFault};
-ghost use Rattle.ill_world.specs.declared.fault.SimFault.TheVariants.{Write, OutOfMemory};
+ghost use Rattle.ill_script.specs.declared.fault.SimFault.{SimFault};
+ghost use Rattle.ill_script.specs.declared.fault.SimFault.TheVariants.{Write, OutOfMemory};
 ghost use Rattle.ill_words.specs.declared.outcome.Outcome.{Outcome};
 ghost use Rattle.ill_world.specs.World.{Parties, party, first_world, happens, run_of};
 ghost use Rattle.ill_world.specs.Simulation.{script, script_read, trace_of, line_after, Simulates};

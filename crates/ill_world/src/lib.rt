@@ -2,7 +2,6 @@
 //! or a script.
 #![tactic(auto)]
 
-mod ahead;
 pub mod desk_laws;
 mod desk_party;
 mod desk_script;
@@ -10,12 +9,9 @@ mod desk_sent;
 mod desk_simulation;
 mod desk_world;
 mod event;
-mod fault;
 pub mod laws;
-mod lines;
 mod message;
 mod party;
-mod performer;
 mod script;
 mod sent;
 pub mod shelf_laws;
@@ -26,9 +22,9 @@ mod world;
 pub use desk_simulation::simulate_desks;
 pub use desk_world::{DeskWorld, run_desks};
 pub use event::{DeskEvent, Event};
-pub use fault::SimFault;
 /// The role of the side to which an event happens. `Who` is another name of it.
 pub use ill_saved::{Role, Role as Who};
+pub use ill_script::SimFault;
 pub use ill_words::{
     Bytes, DeskOutcome, Outcome, is_over, push_shown, push_side, wants_sending, words,
 };

@@ -7,19 +7,9 @@ ghost use Rattle.ill_world.specs.Script.{meaning, line_of, words_of};
 
 use crate::event::Event;
 use crate::script::events::event;
+use ill_script::script_line::ScriptLine;
 use ill_values::OutOfMemory;
 use std::alloc::Global;
-
-/// A line of a script has one of these meanings.
-#[derive(Drop)]
-pub(crate) enum ScriptLine<E> {
-    /// The line says no event.
-    Skipped,
-    /// The line says this event.
-    Event(E),
-    /// The line says something that no script may say.
-    Bad,
-}
 
 /// Reads a line of a script, which ends before its LF.
 ///

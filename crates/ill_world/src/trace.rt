@@ -7,15 +7,6 @@ use ill_saved::Shown;
 use ill_values::OutOfMemory;
 use ill_words::{push_number, push_shown};
 
-/// A line of a trace shows an event. It is made by appending to `text`.
-#[derive(Drop)]
-pub(crate) struct TraceLine {
-    /// The number of the event, counted from 1.
-    pub(crate) number: u32,
-    /// The text so far.
-    pub(crate) text: Vec<u8>,
-}
-
 /// Appends the line of event `number`, counted from 1, with an LF after it. It has the number and `word`. For each side
 /// it has the state, the due date, and the counts of its released and its issued messages, as in `3 saved requester
 /// PENDING - 1/1 responder IDLE - 0/0`.

@@ -20,11 +20,11 @@ from ill.texts import words as command_line
 from ill.texts.words import HELP, LINE, MAN, body, find, named
 
 EXPLAIN = "crates/ill_explain/src"
-(WORLD, WORDS, TEXT, SHOW, ROWS, LIST, NEWS, REPORT, SLIP, COUNTED, DESK, NIGHT, INBOX, FILES, KEY, COMMANDS, VISITS,
- MAIL, MAILBOX, SHELF, ROOM) = (
+(SCRIPT, WORLD, WORDS, TEXT, SHOW, ROWS, LIST, NEWS, REPORT, SLIP, COUNTED, DESK, NIGHT, INBOX, FILES, KEY, COMMANDS,
+ VISITS, MAIL, MAILBOX, SHELF, ROOM) = (
     f"crates/ill_{room}/src"
-    for room in ("world", "words", "text", "show", "rows", "list", "news", "report", "slip", "figures", "desk", "night", "inbox",
-                 "files", "key", "commands", "visits", "mail", "mailbox", "shelf", "room"))
+    for room in ("script", "world", "words", "text", "show", "rows", "list", "news", "report", "slip", "figures", "desk",
+                 "night", "inbox", "files", "key", "commands", "visits", "mail", "mailbox", "shelf", "room"))
 FILE_KINDS = {"File", "NewFile", "Paths", "Folder"}
 KEY_KINDS = {"KeyFile", "Key", "NightKey"}
 FLAGS = {"Long", "Keep", "Picture", "Open", "Mine", "Actions", "Json", "Csv"}
@@ -168,7 +168,7 @@ def numbers_of():
         "mails": constant("MAILS", f"{MAILBOX}/mail.rt"),
         "longer": constant("APDU_LIMIT", f"{der}/header.rt") + constant("LINE_END", f"{MAILBOX}/mail.rt") + 1,
         "longest": constant("APDU_LIMIT", f"{der}/header.rt"), "shortest": shortest,
-        "lines": constant("MAX_LINES", f"{WORLD}/simulation.rt"), "line": constant("MAX_LINE", f"{WORLD}/lines.rt"),
+        "lines": constant("MAX_LINES", f"{SCRIPT}/simulation.rt"), "line": constant("MAX_LINE", f"{SCRIPT}/lines.rt"),
         "qualifier": constant("QUALIFIER_LIMIT", f"{values}/text.rt"),
         "item": constant("ITEM_LIMIT", f"{values}/text.rt"),
         "record": constant("RECORD_LIMIT", f"{record}/sides.rt"),

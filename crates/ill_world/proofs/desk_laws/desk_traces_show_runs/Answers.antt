@@ -2,7 +2,7 @@
 -- line at the end of the trace.
 use Rattle.ill_world.specs.Desks.{first_desks}
 use Rattle.ill_world.specs.DeskSimulation.{two_desks}
-use Rattle.ill_world.proofs.Simulations.{trace_of_none}
+use Rattle.ill_script.proofs.Simulations.{trace_of_none}
 use Rattle.ill_world.proofs.DeskSimulations.{desks_line, desks_prefix}
 use Rattle.ill_world.proofs.desk_laws.desk_traces_show_runs.Goals as goal
 

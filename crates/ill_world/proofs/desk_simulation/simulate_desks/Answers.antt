@@ -1,9 +1,9 @@
 -- Answers the contract of `simulate_desks` (`src/desk_simulation.rt`).
 use Rattle.std.proofs.Common.{None}
 use Rattle.ill_world.specs.Desks.{first_desks}
-use Rattle.ill_world.specs.Play.{before_first}
+use Rattle.ill_script.specs.Play.{before_first}
 use Rattle.ill_world.specs.DeskSimulation.{two_desks}
-use Rattle.ill_world.proofs.Steps.{not_begun}
+use Rattle.ill_script.proofs.Steps.{not_begun}
 use Rattle.ill_world.proofs.desk_simulation.simulate_desks.Goals as goal
 
 pub returns-in_err-new-clause-simulates : goal.returns-in_err-new-clause-simulates

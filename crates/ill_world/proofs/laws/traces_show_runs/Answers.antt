@@ -2,7 +2,8 @@
 -- the end of the trace.
 use Rattle.ill_world.specs.World.{first_world}
 use Rattle.ill_world.specs.Simulation.{two_sides}
-use Rattle.ill_world.proofs.Simulations.{trace_of_none, sides_line, sides_prefix}
+use Rattle.ill_script.proofs.Simulations.{trace_of_none}
+use Rattle.ill_world.proofs.SideTraces.{sides_line, sides_prefix}
 use Rattle.ill_world.proofs.laws.traces_show_runs.Goals as goal
 
 pub returns-clause-first : goal.returns-clause-first

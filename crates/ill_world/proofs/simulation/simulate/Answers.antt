@@ -1,8 +1,8 @@
 -- Answers the contract of `simulate` (`src/simulation.rt`).
 use Rattle.ill_world.specs.World.{first_world}
-use Rattle.ill_world.specs.Play.{before_first}
+use Rattle.ill_script.specs.Play.{before_first}
 use Rattle.ill_world.specs.Simulation.{two_sides}
-use Rattle.ill_world.proofs.Steps.{not_begun}
+use Rattle.ill_script.proofs.Steps.{not_begun}
 use Rattle.ill_world.proofs.simulation.simulate.Goals as goal
 
 pub returns-in_err-new-clause-simulates : goal.returns-in_err-new-clause-simulates

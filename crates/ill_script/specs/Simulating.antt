@@ -4,15 +4,15 @@ use Rattle.std.specs.Prelude.{Result, Ok, Err}
 use Rattle.std.specs.List.{list_any, position_from}
 use Rattle.std.specs.Io.KnownBytes.{Consumes, Appends, IsAtEnd, prepend_known}
 use Rattle.std.specs.declared.alloc.AllocError.{AllocError}
-use Rattle.ill_world.specs.declared.script.ScriptLine.{ScriptLine}
-use Rattle.ill_world.specs.declared.script.ScriptLine.TheVariants as lines
-use Rattle.ill_world.specs.declared.performer.LineEffect.{LineEffect}
-use Rattle.ill_world.specs.declared.performer.LineEffect.TheVariants as effects
-use Rattle.ill_world.specs.declared.lines.Found.{Found}
-use Rattle.ill_world.specs.declared.lines.Found.TheVariants as found
-use Rattle.ill_world.specs.declared.fault.SimFault.{SimFault}
-use Rattle.ill_world.specs.declared.fault.SimFault.TheVariants.{Script, Read, Write, OutOfMemory}
-use Rattle.ill_world.specs.Play.{Play, Progress, Streams, line_at, Plays}
+use Rattle.ill_script.specs.declared.script_line.ScriptLine.{ScriptLine}
+use Rattle.ill_script.specs.declared.script_line.ScriptLine.TheVariants as lines
+use Rattle.ill_script.specs.declared.performer.LineEffect.{LineEffect}
+use Rattle.ill_script.specs.declared.performer.LineEffect.TheVariants as effects
+use Rattle.ill_script.specs.declared.lines.Found.{Found}
+use Rattle.ill_script.specs.declared.lines.Found.TheVariants as found
+use Rattle.ill_script.specs.declared.fault.SimFault.{SimFault}
+use Rattle.ill_script.specs.declared.fault.SimFault.TheVariants.{Script, Read, Write, OutOfMemory}
+use Rattle.ill_script.specs.Play.{Play, Progress, Streams, line_at, Plays}
 
 -- ---- reading ahead
 

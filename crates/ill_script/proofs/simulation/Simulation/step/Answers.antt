@@ -2,11 +2,11 @@
 -- faults of reading and performing it.
 use Rattle.std.proofs.Common.{arith, ◌≡◌, ◌≤◌, length, Ok, sym, subst}
 use Rattle.std.specs.Io.KnownBytes.{prepend_known}
-use Rattle.ill_world.specs.declared.lines.Found.TheVariants as found
-use Rattle.ill_world.specs.Simulating.{ReadsLine}
-use Rattle.ill_world.proofs.Steps.{fault_ends_step, not_read, line_stops, nothing_follows, ended_with_line, too_long_stops}
-use Rattle.ill_world.proofs.Steps.{begins_closed, begins_last}
-use Rattle.ill_world.proofs.simulation.Simulation.step.Goals as goal
+use Rattle.ill_script.specs.declared.lines.Found.TheVariants as found
+use Rattle.ill_script.specs.Simulating.{ReadsLine}
+use Rattle.ill_script.proofs.Steps.{fault_ends_step, not_read, line_stops, nothing_follows, ended_with_line, too_long_stops}
+use Rattle.ill_script.proofs.Steps.{begins_closed, begins_last}
+use Rattle.ill_script.proofs.simulation.Simulation.step.Goals as goal
 
 pub returns-in_err-next_line-clause-steps : goal.returns-in_err-next_line-clause-steps
 returns-in_err-next_line-clause-steps g c =

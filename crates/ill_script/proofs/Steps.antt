@@ -6,18 +6,18 @@ use Rattle.std.specs.Io.KnownBytes.{Consumes, Appends, IsAtEnd, prepend_known}
 use Rattle.std.proofs.KnownBytes.{Appends-nil, Consumes-nil}
 use Rattle.std.proofs.Math.ListN.{take-append-drop}
 use Rattle.ill_record.specs.Side.{IsPrefix}
-use Rattle.ill_world.specs.declared.lines.Found.TheVariants as found
-use Rattle.ill_world.specs.declared.script.ScriptLine.{ScriptLine}
-use Rattle.ill_world.specs.declared.script.ScriptLine.TheVariants as lines
-use Rattle.ill_world.specs.declared.fault.SimFault.{SimFault}
-use Rattle.ill_world.specs.declared.fault.SimFault.TheVariants.{Script, Read, Write, OutOfMemory}
-use Rattle.ill_world.specs.Play.{Play, Progress, Streams, Said, empty_reading, line_at, then_says, end_reading, broken_reading}
-use Rattle.ill_world.specs.Play.{says_from, reading_from, trace_from, reading_on, broken_on, trace_on, OfAll, Answers, Plays}
-use Rattle.ill_world.specs.Simulating.{IsLine, ReadsLine, History, PerformsLine, history_at, StepsLine, IsBeforeEnd, FindsEnd}
-use Rattle.ill_world.specs.Simulating.{IsUsedUp}
-use Rattle.ill_world.proofs.Scripts.{within, line_within, says_line, says_rest, ends_line, breaks_nothing, says_too_long}
-use Rattle.ill_world.proofs.Scripts.{says_too_many, only_bad}
-use Rattle.ill_world.proofs.Simulations.{trace_of_none, trace_next, trace_of_one}
+use Rattle.ill_script.specs.declared.lines.Found.TheVariants as found
+use Rattle.ill_script.specs.declared.script_line.ScriptLine.{ScriptLine}
+use Rattle.ill_script.specs.declared.script_line.ScriptLine.TheVariants as lines
+use Rattle.ill_script.specs.declared.fault.SimFault.{SimFault}
+use Rattle.ill_script.specs.declared.fault.SimFault.TheVariants.{Script, Read, Write, OutOfMemory}
+use Rattle.ill_script.specs.Play.{Play, Progress, Streams, Said, empty_reading, line_at, then_says, end_reading, broken_reading}
+use Rattle.ill_script.specs.Play.{says_from, reading_from, trace_from, reading_on, broken_on, trace_on, OfAll, Answers, Plays}
+use Rattle.ill_script.specs.Simulating.{IsLine, ReadsLine, History, PerformsLine, history_at, StepsLine, IsBeforeEnd, FindsEnd}
+use Rattle.ill_script.specs.Simulating.{IsUsedUp}
+use Rattle.ill_script.proofs.Scripts.{within, line_within, says_line, says_rest, ends_line, breaks_nothing, says_too_long}
+use Rattle.ill_script.proofs.Scripts.{says_too_many, only_bad}
+use Rattle.ill_script.proofs.Simulations.{trace_of_none, trace_next, trace_of_one}
 
 -- If a reader is at the end and has `more` left, `more` is empty.
 nothing_left : (left : Option (List ℕ)) (more : List ℕ) → IsAtEnd left → left ≡ Some more → more ≡ []

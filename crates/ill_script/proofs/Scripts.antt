@@ -3,12 +3,13 @@ use Rattle.std.proofs.Common.{arith, ◌≡◌, ℕ, ◌+◌, ◌<◌, ◌≤◌
 use Rattle.std.proofs.Common.{◌∷◌, ◌++◌, length, Some, refl, sym, ap, ◌∙◌, length-append}
 use Rattle.std.specs.List.{onto_first}
 use Rattle.std.proofs.lemmas.Bool.{le-leb, lt-leb}
-use Rattle.ill_world.specs.declared.script.ScriptLine.{ScriptLine}
-use Rattle.ill_world.specs.declared.script.ScriptLine.TheVariants as lines
-use Rattle.ill_world.specs.Play.{Play, Said, empty_reading, is_within, line_at, then_says, end_reading, broken_reading, says_from}
-use Rattle.ill_world.specs.Play.{lines_in, reading_from}
-use Rattle.ill_world.specs.Simulating.{has_lf}
-use Rattle.ill_world.proofs.Texts.{line_first, line_alone, some_line, line_begins}
+use Rattle.ill_script.specs.declared.script_line.ScriptLine.{ScriptLine}
+use Rattle.ill_script.specs.declared.script_line.ScriptLine.TheVariants as lines
+use Rattle.ill_script.specs.Play.{Play, Said, empty_reading, is_within, line_at, then_says, end_reading, broken_reading}
+use Rattle.ill_script.specs.Play.{says_from}
+use Rattle.ill_script.specs.Play.{lines_in, reading_from}
+use Rattle.ill_script.specs.Simulating.{has_lf}
+use Rattle.ill_script.proofs.Texts.{line_first, line_alone, some_line, line_begins}
 
 -- Returns a reading without events, in which line n is bad.
 abbrev pub only_bad : {E : Type 0} → ℕ → Said E

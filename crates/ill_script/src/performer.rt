@@ -1,15 +1,15 @@
 //! A performer performs the lines of a script.
 
-ghost use Rattle.ill_world.specs.Play.{Play};
-ghost use Rattle.ill_world.specs.Simulating.{TellsLine};
+ghost use Rattle.ill_script.specs.Play.{Play};
+ghost use Rattle.ill_script.specs.Simulating.{TellsLine};
 
-use crate::trace::TraceLine;
+use crate::trace_line::TraceLine;
 use ill_values::OutOfMemory;
 use std::alloc::Global;
 
 /// A line of a script has one of these effects.
 #[derive(Clone, Copy)]
-pub(crate) enum LineEffect {
+pub enum LineEffect {
     /// Nothing has happened.
     Nothing,
     /// The event of the line has happened.
@@ -19,7 +19,7 @@ pub(crate) enum LineEffect {
 }
 
 /// A performer performs the lines of a script, one after another.
-pub(crate) trait Performer: Drop {
+pub trait Performer: Drop {
     /// The value that is carried from line to line.
     type Carried: Drop;
 

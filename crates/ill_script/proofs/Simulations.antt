@@ -3,20 +3,15 @@ use Rattle.std.proofs.Common.{arith, ◌≡◌, ℕ, ◌+◌, Bool, true, false,
 use Rattle.std.proofs.Common.{refl, sym, ap, ◌∙◌, subst, append_assoc, append-nil, length-append, true≢false}
 use Rattle.std.specs.Io.KnownBytes.{Consumes, Appends}
 use Rattle.std.proofs.KnownBytes.{Consumes-trans, Appends-trans}
-use Rattle.ill_values.specs.TxnId.{Qualifiers}
 use Rattle.ill_record.specs.Side.{IsPrefix}
-use Rattle.ill_world.specs.declared.event.Event.{Event}
-use Rattle.ill_world.specs.declared.script.ScriptLine.{ScriptLine}
-use Rattle.ill_world.specs.declared.script.ScriptLine.TheVariants as lines
-use Rattle.ill_world.specs.declared.fault.SimFault.{SimFault}
-use Rattle.ill_world.specs.declared.fault.SimFault.TheVariants.{Script, Read, Write, OutOfMemory}
-use Rattle.ill_world.specs.World.{Parties, first_world, happens, run_by, run_of}
-use Rattle.ill_world.specs.Trace.{line}
-use Rattle.ill_world.specs.Play.{Play, Progress, Streams, Said, line_at, then_says, end_reading, broken_reading, reading_from}
-use Rattle.ill_world.specs.Play.{trace_from, reading_on, broken_on, trace_on, Answers, Plays}
-use Rattle.ill_world.specs.Simulation.{two_sides, trace_of, line_after}
-use Rattle.ill_world.specs.Simulating.{IsLine, PerformsLine, history_at, StepsLine}
-use Rattle.ill_world.proofs.Scripts.{says_line}
+use Rattle.ill_script.specs.declared.script_line.ScriptLine.{ScriptLine}
+use Rattle.ill_script.specs.declared.script_line.ScriptLine.TheVariants as lines
+use Rattle.ill_script.specs.declared.fault.SimFault.{SimFault}
+use Rattle.ill_script.specs.declared.fault.SimFault.TheVariants.{Script, Read, Write, OutOfMemory}
+use Rattle.ill_script.specs.Play.{Play, Progress, Streams, Said, line_at, then_says, end_reading, broken_reading, reading_from}
+use Rattle.ill_script.specs.Play.{trace_from, reading_on, broken_on, trace_on, Answers, Plays}
+use Rattle.ill_script.specs.Simulating.{IsLine, PerformsLine, history_at, StepsLine}
+use Rattle.ill_script.proofs.Scripts.{says_line}
 
 -- ---- the trace of a play
 
@@ -81,35 +76,6 @@ module _ {W E C : Type 0} (play : Play W E C) (run : W → List E → W) (none :
   pub trace_prefix : (n : ℕ) (w : W) (events more : List E)
       → IsPrefix (trace_from play n w events) (trace_from play n w (events ++ more))
   trace_prefix n w events more = (trace_from play (n + length events) (run w events) more, trace_more n w events more)
-
--- ---- the trace of two sides
-
--- The run of events is the first event, and then the run of the others.
-run_of_next : (w : Parties) (event : Event) (events : List Event) → run_of w (event ∷ events) ≡ run_of (happens w event).1 events
-unfolding run_by
-run_of_next w event events = refl
-
--- The run of no events leaves the world unchanged.
-run_of_none : (w : Parties) → run_of w [] ≡ w
-unfolding run_by
-run_of_none w = refl
-
--- One more event adds its line to the trace.
-pub sides_line : (txn : Qualifiers) (events : List Event) (event : Event)
-    → trace_of txn (events ++ event ∷ []) ≡ trace_of txn events ++ line_after txn events event
-sides_line txn events event =
-    let first = first_world txn in
-    let after = run_of first events in
-    let number : 1 + length events ≡ length events + 1 = omega arith in
-    let text : two_sides.text (1 + length events) after event ≡ line_after txn events event =
-    ap (λ m. line m (happens after event).0 (happens after event).1) number
-    ∙ ap (line (length events + 1) (happens after event).0)
-    (sym (run_more two_sides run_of run_of_none run_of_next first events event)) in
-    trace_line two_sides run_of run_of_none run_of_next 1 first events event ∙ ap (λ t. trace_of txn events ++ t) text
-
--- The trace of `events` is a prefix of the trace of `events ++ more`.
-pub sides_prefix : (txn : Qualifiers) (events more : List Event) → IsPrefix (trace_of txn events) (trace_of txn (events ++ more))
-sides_prefix txn events more = trace_prefix two_sides run_of run_of_none run_of_next 1 (first_world txn) events more
 
 -- ---- events, and the rest after them
 

@@ -1,7 +1,7 @@
 //! A simulation may stop for several reasons.
 
 ghost use Rattle.std.specs.Prelude.{◌≡◌};
-ghost use Rattle.ill_world.specs.declared.fault.SimFault.TheVariants.{OutOfMemory};
+ghost use Rattle.ill_script.specs.declared.fault.SimFault.TheVariants.{OutOfMemory};
 
 use std::alloc::{AllocError, AllocFailed};
 use thiserror::Error;

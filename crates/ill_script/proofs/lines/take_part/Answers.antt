@@ -1,8 +1,8 @@
 -- Proves the contract of `take_part` (`src/lines.rt`). The bytes ahead have an LF within the limit, go beyond it, or
 -- all belong to the line.
 use Rattle.std.proofs.Common.{arith, rules}
-use Rattle.ill_world.proofs.Texts.{takes_line, takes_too_long, takes_all}
-use Rattle.ill_world.proofs.lines.take_part.Goals as goal
+use Rattle.ill_script.proofs.Texts.{takes_line, takes_too_long, takes_all}
+use Rattle.ill_script.proofs.lines.take_part.Goals as goal
 
 pub returns-in_ok-extend_from_slice-in-Some : goal.returns-in_ok-extend_from_slice-in-Some
 returns-in_ok-extend_from_slice-in-Some c =

@@ -1,7 +1,7 @@
 //! Bytes are read ahead, in pieces.
 
 ghost use Rattle.std.specs.Prelude.{◌≡◌, ◌≤◌, ℕ, List, [], length, drop, slice_range};
-ghost use Rattle.ill_world.specs.Simulating.{ReadsAhead};
+ghost use Rattle.ill_script.specs.Simulating.{ReadsAhead};
 
 use crate::fault::SimFault;
 use std::io::Read;

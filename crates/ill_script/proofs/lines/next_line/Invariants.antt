@@ -1,8 +1,8 @@
 -- The loop of `next_line` (`src/lines.rt`) keeps this invariant, and comes to an end.
 use Rattle.std.proofs.Common.{◌-◌, length}
 use Rattle.std.specs.Io.KnownBytes.{Consumes, prepend_known}
-use Rattle.ill_world.specs.Simulating.{IsLine}
-use Rattle.ill_world.proofs.lines.next_line.Given as goal
+use Rattle.ill_script.specs.Simulating.{IsLine}
+use Rattle.ill_script.proofs.lines.next_line.Given as goal
 
 -- The bytes that were read are the first part of a line.
 abbrev pub invariant-loop-ahead : goal.invariant-loop-ahead

@@ -2,7 +2,7 @@
 
 ghost use Rattle.std.specs.Prelude.{◌≡◌, ◌<◌, ◌≤◌, length, IfSome};
 ghost use Rattle.std.specs.Io.KnownBytes.{prepend_known};
-ghost use Rattle.ill_world.specs.Simulating.{IsUsedUp, lf_place, TakesPart, ReadsLine};
+ghost use Rattle.ill_script.specs.Simulating.{IsUsedUp, lf_place, TakesPart, ReadsLine};
 
 use crate::ahead::Ahead;
 use crate::fault::SimFault;

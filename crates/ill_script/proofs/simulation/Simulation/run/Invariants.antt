@@ -1,9 +1,9 @@
 -- The loop of `Simulation::run` (`src/simulation.rt`) keeps this invariant.
 use Rattle.std.proofs.Common.{◌+◌, ◌≤◌, ℕ, Result}
 use Rattle.std.specs.Io.KnownBytes.{prepend_known}
-use Rattle.ill_world.specs.declared.fault.SimFault.{SimFault}
-use Rattle.ill_world.specs.Play.{before_first, Streams, Plays}
-use Rattle.ill_world.proofs.simulation.Simulation.run.Given as goal
+use Rattle.ill_script.specs.declared.fault.SimFault.{SimFault}
+use Rattle.ill_script.specs.Play.{before_first, Streams, Plays}
+use Rattle.ill_script.proofs.simulation.Simulation.run.Given as goal
 
 -- If the rest of the script ends with a result, the whole script ends with it.
 abbrev pub invariant-loop-before : goal.invariant-loop-before

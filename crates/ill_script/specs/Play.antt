@@ -4,10 +4,10 @@ use Rattle.std.specs.Prelude.{Err, if◌then◌else◌}
 use Rattle.std.specs.List.{slice_split}
 use Rattle.std.specs.Io.KnownBytes.{Consumes, Appends, IsAtEnd}
 use Rattle.ill_record.specs.Side.{IsPrefix}
-use Rattle.ill_world.specs.declared.script.ScriptLine.{ScriptLine}
-use Rattle.ill_world.specs.declared.script.ScriptLine.TheVariants as lines
-use Rattle.ill_world.specs.declared.fault.SimFault.{SimFault}
-use Rattle.ill_world.specs.declared.fault.SimFault.TheVariants.{Script, Read, Write, OutOfMemory}
+use Rattle.ill_script.specs.declared.script_line.ScriptLine.{ScriptLine}
+use Rattle.ill_script.specs.declared.script_line.ScriptLine.TheVariants as lines
+use Rattle.ill_script.specs.declared.fault.SimFault.{SimFault}
+use Rattle.ill_script.specs.declared.fault.SimFault.TheVariants.{Script, Read, Write, OutOfMemory}
 
 -- In a play `says` gives the meaning of a line, and carries a value from line to line. `next` gives the world after an
 -- event. `text` shows an event, with its number and the world before it.

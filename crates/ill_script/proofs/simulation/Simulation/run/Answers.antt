@@ -2,10 +2,10 @@
 -- line, or ends the script.
 use Rattle.std.proofs.Common.{arith, ℕ, Ok, Err, subst}
 use Rattle.std.specs.Io.KnownBytes.{prepend_known}
-use Rattle.ill_world.specs.Play.{before_first, Plays}
-use Rattle.ill_world.proofs.Simulations.{goes_on, ends_here}
-use Rattle.ill_world.proofs.Steps.{finds_end, counts_as_read}
-use Rattle.ill_world.proofs.simulation.Simulation.run.Goals as goal
+use Rattle.ill_script.specs.Play.{before_first, Plays}
+use Rattle.ill_script.proofs.Simulations.{goes_on, ends_here}
+use Rattle.ill_script.proofs.Steps.{finds_end, counts_as_read}
+use Rattle.ill_script.proofs.simulation.Simulation.run.Goals as goal
 
 pub loop-before-init : goal.loop-before-init
 loop-before-init g c =

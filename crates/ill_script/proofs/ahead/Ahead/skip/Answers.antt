@@ -3,7 +3,7 @@
 use Rattle.std.proofs.Common.{arith, ◌≡◌, ◌≤◌, ◌+◌, ◌-◌, ℕ, List, length, take, drop, slice_range, sym, ap, ◌∙◌, subst}
 use Rattle.std.proofs.Common.{length-take, drop-drop}
 use Rattle.std.proofs.lemmas.List.{drop-take}
-use Rattle.ill_world.proofs.ahead.Ahead.skip.Goals as goal
+use Rattle.ill_script.proofs.ahead.Ahead.skip.Goals as goal
 
 -- If a range begins `count` later, it lacks its first `count` items.
 fewer : (xs : List ℕ) (start end count : ℕ) → count ≤ length (slice_range xs start end)

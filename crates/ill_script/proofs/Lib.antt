@@ -1,0 +1,4 @@
+pub mod Scripts
+pub mod Simulations
+pub mod Steps
+pub mod Texts

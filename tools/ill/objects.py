@@ -144,6 +144,11 @@ def message_lines(apdu, item=str):
     return [f"{label} {values.get(label, str)(value)}" for label, value in apdu.items()]
 
 
+def shown_lines(value):
+    """The lines of an object of `show`."""
+    return message_lines({label: value[label] for label in value if label != "kind"})
+
+
 def status_lines(loan):
     """The seven lines of a loan."""
     values = {**loan, "due": day(loan["due"]), "messages": f"{loan['released']}/{loan['issued']}",
@@ -156,9 +161,9 @@ def loan_lines(loan):
     lines = status_lines(loan) + [f"next {loan['next']}", f"now {' '.join(loan['now']) or '-'}"]
     if loan["item"] is not None:
         lines += [f"item {shown(loan['item'])}", f"expiry {day(loan['expiry'])}"]
-    for label in "held", "accepted", "last-cancel", "last-renew":
+    for label in "held", "accepted", "last_cancel", "last_renew":
         if label in loan:
-            lines.append(f"{label} {or_dash(loan[label])}")
+            lines.append(f"{label.replace('_', '-')} {or_dash(loan[label])}")
     lines += note_lines("note", loan)
     for apdu in loan["messages"]:
         lines += ["", *message_lines(apdu, shown)]
@@ -385,7 +390,7 @@ def compare_messages():
     folder = f"{TOP}/examples/messages"
     given = b"".join(read(f"{folder}/{name}") for name in sorted(os.listdir(folder)) if name.endswith(".apdu"))
     requests = b"".join(run(["send", "here", '"\\{}[],:', name, "1"]) for name in TITLES)
-    compare("show", ["show"], each(message_lines), given + requests)
+    compare("show", ["show"], each(shown_lines), given + requests)
 
 
 def compare_words():

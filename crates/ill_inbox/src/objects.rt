@@ -13,7 +13,7 @@ use ill_der::ApduView;
 use ill_desk::side_line::push_long;
 use ill_night::verdict::{Unfit, Verdict, delay_word, push_unfit, push_verdict};
 use ill_saved::Shown;
-use ill_text::apdu_object::push_apdu;
+use ill_text::apdu_object::push_apdu_after;
 use ill_text::form::Form;
 use ill_text::json::{Value, push_members, push_plain};
 use ill_values::OutOfMemory;
@@ -127,21 +127,6 @@ fn push_message(
 {
     push_outcome(text, outcome, now)?;
     push_apdu_after(text, apdu)
-}
-
-/// Appends the fields of `apdu`, each after a comma.
-#[tactic(auto, unfolding(ill_text::specs::Json::joined))]
-fn push_apdu_after(text: &mut Vec<u8>, apdu: &ApduView<'_>) -> Result<(), OutOfMemory>
-    ensures { OnOk result (text.new.items ≡ text.old.items ++ joined member (codes ",") (apdu_fields apdu.now)) }
-{
-    push_plain(text, ",")?;
-    push_apdu(
-        text,
-        apdu.body(),
-        apdu.group(),
-        apdu.transaction(),
-        apdu.number(),
-    )
 }
 
 /// Appends the fields of an outcome, and of the side after it.

@@ -34,6 +34,10 @@ apart_distinct (text ∷ texts) apart =
     let both = and_parts (not (list_any (bytes_eq text) texts)) (are_apart texts) apart in
     AllPairs-cons (λ a b. a ≢ b) text texts (differs text texts (not-true _ both.0)) (apart_distinct texts both.1)
 
+-- Texts that are apart are so without the first.
+pub apart_after : (text : List ℕ) (texts : List (List ℕ)) → are_apart (text ∷ texts) ≡ true → are_apart texts ≡ true
+apart_after text texts apart = (and_parts (not (list_any (bytes_eq text) texts)) (are_apart texts) apart).1
+
 -- If a text is equal to none of two lists together, it is equal to none of the first.
 none_before : (text : List ℕ) (texts more : List (List ℕ)) → list_any (bytes_eq text) (texts ++ more) ≡ false
     → list_any (bytes_eq text) texts ≡ false

@@ -16,7 +16,7 @@ use Rattle.ill_record.specs.RecordsV2.{AreSides}
 use Rattle.ill_record.specs.Side.{txn_of}
 use Rattle.ill_record.specs.Sides.{SidesOf, most_sides}
 use Rattle.ill_text.specs.declared.form.Form.TheVariants as forms
-use Rattle.ill_text.specs.ApduObject.{object_line, apdu_fields, apdu_text}
+use Rattle.ill_text.specs.ApduObject.{object_line, line_fields, apdu_text}
 use Rattle.ill_text.specs.Json as texts
 use Rattle.ill_text.specs.Json.{Field, flag, quoted}
 use Rattle.ill_words.specs.Waiting.{placed, ordered, is_more_urgent, most_urgent_first}
@@ -50,7 +50,7 @@ use Rattle.ill_json.proofs.Values.{FieldReads, HasValue, object_reads, are_membe
 use Rattle.ill_json.proofs.Values.{members_read}
 use Rattle.ill_json.proofs.Values.{string_reads, number_reads, flag_reads, null_reads}
 use Rattle.ill_json.proofs.Fields.{day_utf8}
-use Rattle.ill_json.proofs.Sides.{each_append, apdu_apart, apdu_reads, counts_apart, loan_apart, message_apart, message_reads}
+use Rattle.ill_json.proofs.Sides.{each_append, counts_apart, line_apart, line_reads, loan_apart, message_apart, message_reads}
 use Rattle.ill_json.proofs.Sides.{messages_values, row_apart, status_reads, loan_reads, came_reads, file_reads, row_reads}
 use Rattle.ill_json.proofs.Sides.{counts_reads, note_reads, since_reads}
 use Rattle.ill_json.proofs.NoteLemmas.{note_utf8}
@@ -262,14 +262,14 @@ parts_are side kept diary is each = go (history_of (messages_of side kept) diary
 
 -- The texts of APDUs are object lines.
 pub apdus_are : (apdus : List Apdu) → Each IsApdu apdus
-    → AreObjectLines (flat_map (apdu_text forms.Json) apdus) (map apdu_fields apdus)
+    → AreObjectLines (flat_map (apdu_text forms.Json) apdus) (map line_fields apdus)
 unfolding Each
-apdus_are apdus each = lines_each apdu_fields apdus (each_line apdus each)
+apdus_are apdus each = lines_each line_fields apdus (each_line apdus each)
   where
     each_line : (apdus : List Apdu) → Each IsApdu apdus
-        → Each (λ a. IsObjectLine (object_line (apdu_fields a)) (apdu_fields a)) apdus
+        → Each (λ a. IsObjectLine (object_line (line_fields a)) (line_fields a)) apdus
     each_line [] each = tt
-    each_line (a ∷ apdus) each = (line_is (apdu_fields a) (apdu_reads 2 a each.0) (apdu_apart a), each_line apdus each.1)
+    each_line (a ∷ apdus) each = (line_is (line_fields a) (line_reads 2 a each.0) (line_apart a), each_line apdus each.1)
 
 -- ---- values
 

@@ -27,7 +27,7 @@ use Rattle.ill_record.specs.Side.{role_of, issued_of, txn_of, state_of, due_date
 use Rattle.ill_record.specs.SideVerbs.{turn_of}
 use Rattle.ill_record.specs.Sides.{most_sides}
 use Rattle.ill_words.specs.Possible.{possible_on, request_of, item_in, item_asked}
-use Rattle.ill_text.specs.ApduObject.{head_fields, optional_date_fields, body_fields, apdu_fields}
+use Rattle.ill_text.specs.ApduObject.{head_fields, optional_date_fields, body_fields, apdu_fields, line_fields}
 use Rattle.ill_text.specs.Json.{flag, optional, quoted}
 use Rattle.ill_list.specs.declared.wanted.Wanted.{Wanted}
 use Rattle.ill_list.specs.List.{counts_of, is_to_do}
@@ -43,7 +43,7 @@ use Rattle.ill_news.specs.News.{told_fields}
 use Rattle.ill_show.specs.ItemLine.{item_of}
 use Rattle.ill_show.specs.Since.{AnnexRead, since_fields}
 use Rattle.ill_json.specs.Lines.{fields_of_counts, fields_of_loan, fields_of_message, fields_of_news, fields_of_row}
-use Rattle.ill_json.proofs.Labels.{labels, are_apart, apart_before}
+use Rattle.ill_json.proofs.Labels.{labels, are_apart, apart_after, apart_before}
 use Rattle.ill_json.proofs.Names.{type_printable, result_printable, state_printable, turn_printable, verb_printable}
 use Rattle.ill_json.proofs.Names.{work_printable}
 use Rattle.ill_json.proofs.Names.{role_printable}
@@ -78,9 +78,9 @@ optional_number most (Some n) is = message_number most n is
 
 -- ---- APDUs
 
--- The labels of an APDU and of `leaves` differ, for each of its bodies.
+-- The label `kind`, the labels of an APDU and that of `leaves` differ, for each of its bodies.
 body_apart : (released : ℕ) (a : Apdu) (body : Body)
-    → are_apart (labels ((head_fields a ++ body_fields body) ++ leaves_fields (Some released) a)) ≡ true
+    → are_apart (codes "kind" ∷ labels ((head_fields a ++ body_fields body) ++ leaves_fields (Some released) a)) ≡ true
 body_apart released a (IllRequest None item) = refl
 body_apart released a (IllRequest (Some d) item) = refl
 body_apart released a (IllAnswer answer) = refl
@@ -99,17 +99,22 @@ body_apart released a (RenewAnswer answers None) = refl
 body_apart released a (RenewAnswer answers (Some d)) = refl
 body_apart released a Expired = refl
 
--- The labels of an APDU differ.
-pub apdu_apart : (a : Apdu) → are_apart (labels (apdu_fields a)) ≡ true
-apdu_apart a =
-    apart_before (labels (apdu_fields a)) (labels (leaves_fields (Some 0) a))
-    (subst (λ texts. are_apart texts ≡ true) (map-append (λ field. field.0) (apdu_fields a) (leaves_fields (Some 0) a))
+-- The labels in the line of an APDU differ.
+pub line_apart : (a : Apdu) → are_apart (labels (line_fields a)) ≡ true
+line_apart a =
+    apart_before (labels (line_fields a)) (labels (leaves_fields (Some 0) a))
+    (subst (λ texts. are_apart texts ≡ true) (map-append (λ field. field.0) (line_fields a) (leaves_fields (Some 0) a))
     (body_apart 0 a a.body))
+
+-- The labels of an APDU differ.
+apdu_apart : (a : Apdu) → are_apart (labels (apdu_fields a)) ≡ true
+apdu_apart a = apart_after (codes "kind") (labels (apdu_fields a)) (line_apart a)
 
 -- The labels of a message differ.
 pub message_apart : (released : Option ℕ) (a : Apdu) → are_apart (labels (fields_of_message released a)) ≡ true
 message_apart None a = subst (λ fields. are_apart (labels fields) ≡ true) (sym (append-nil (apdu_fields a))) (apdu_apart a)
-message_apart (Some released) a = body_apart released a a.body
+message_apart (Some released) a =
+    apart_after (codes "kind") (labels (fields_of_message (Some released) a)) (body_apart released a a.body)
 
 module _ (most : ℕ) where
   -- The fields of a day that may be missing are read.
@@ -158,6 +163,11 @@ module _ (most : ℕ) where
       ),
     ),
   )
+
+  -- The fields in the line of an APDU are read.
+  pub line_reads : (a : Apdu) → IsApdu a → Each (FieldReads most) (line_fields a)
+  unfolding Each
+  line_reads a is = (field_reads most _ _ refl (name_value most (codes "message") refl), apdu_reads a is)
 
   -- The field `leaves` is read.
   leaves_reads : (released : Option ℕ) (a : Apdu) → Each (FieldReads most) (leaves_fields released a)
@@ -260,20 +270,23 @@ pub status_reads : (side : Side) (released : ℕ) → IsInRange side → release
     → Each (FieldReads 2) (status_fields side released)
 unfolding Each
 status_reads side released is few = (
-  field_reads 2 _ _ refl (name_value 2 _ (role_printable (role_of side))),
+  field_reads 2 _ _ refl (name_value 2 (codes "loan") refl),
   (
-    field_reads 2 _ _ refl (text_value 2 (txn_of side).group (qualifier_utf8 _ (txn_is side is).group)),
+    field_reads 2 _ _ refl (name_value 2 _ (role_printable (role_of side))),
     (
-      field_reads 2 _ _ refl (text_value 2 (txn_of side).transaction (qualifier_utf8 _ (txn_is side is).transaction)),
+      field_reads 2 _ _ refl (text_value 2 (txn_of side).group (qualifier_utf8 _ (txn_is side is).group)),
       (
-        field_reads 2 _ _ refl (name_value 2 _ (state_printable (state_of side))),
+        field_reads 2 _ _ refl (text_value 2 (txn_of side).transaction (qualifier_utf8 _ (txn_is side is).transaction)),
         (
-          field_reads 2 _ _ refl (optional_day_value 2 (due_date_of side)),
+          field_reads 2 _ _ refl (name_value 2 _ (state_printable (state_of side))),
           (
-            field_reads 2 _ _ refl (number_value 2 released (omega arith)),
+            field_reads 2 _ _ refl (optional_day_value 2 (due_date_of side)),
             (
-              field_reads 2 _ _ refl (number_value 2 (length (issued_of side)) (omega (arith, is.few))),
-              (field_reads 2 _ _ refl (words_value 1 (marks_of side) (marks_utf8 side)), tt),
+              field_reads 2 _ _ refl (number_value 2 released (omega arith)),
+              (
+                field_reads 2 _ _ refl (number_value 2 (length (issued_of side)) (omega (arith, is.few))),
+                (field_reads 2 _ _ refl (words_value 1 (marks_of side) (marks_utf8 side)), tt),
+              ),
             ),
           ),
         ),

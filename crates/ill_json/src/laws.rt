@@ -15,7 +15,7 @@ ghost use Rattle.ill_record.specs.Faults.{place_of};
 ghost use Rattle.ill_record.specs.declared.fault.RecordFault.{RecordFault};
 ghost use Rattle.ill_record.specs.Sides.{SidesOf};
 ghost use Rattle.ill_text.specs.declared.form.Form.TheVariants as forms;
-ghost use Rattle.ill_text.specs.ApduObject.{apdu_fields, apdu_text, object_line};
+ghost use Rattle.ill_text.specs.ApduObject.{apdu_text, line_fields, object_line};
 ghost use Rattle.ill_text.specs.Json as texts;
 ghost use Rattle.ill_text.specs.Json.{Field, flag, quoted};
 ghost use Rattle.ill_show.specs.declared.loan.LoanForm.TheVariants.{Object};
@@ -122,7 +122,7 @@ pub fn a_night_is_json()
 #[tactic(auto, using(crate::proofs::LineLemmas::apdus_are))]
 pub fn show_is_json()
     ensures { (apdus : List Apdu) → Each IsApdu apdus →
-        AreObjectLines (flat_map (apdu_text forms.Json) apdus) (map apdu_fields apdus) }
+        AreObjectLines (flat_map (apdu_text forms.Json) apdus) (map line_fields apdus) }
 {}
 
 /// The text of a value is read as this value. It may be a text of UTF-8, a day, a number of 64 bits, a Bool, none, or a

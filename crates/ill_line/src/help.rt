@@ -49,8 +49,8 @@ one, in a line of `list` or `news`. Only `show` without --json writes each
 character as it is.
 
 With --json each loan or message is an object of JSON on a line, in the order of
-the text and with its labels. Of several desks each object has its PATH in
-`file`.
+the text and with its labels, which have `_` for a hyphen. Its `kind` comes
+first. Of several desks each object has its PATH in `file`.
 
 With --explain, lines after that of a fault tell which word, file or message is
 wrong, and what would be right. It stands before the command, or after it before
@@ -791,7 +791,8 @@ the loans were begun; none, if the desk has no loan:
   marks                  those that are set of `received` (a Received was
                          issued, or taken), `checked-in` and `declined`, or `-`
 
-With --json a loan has `released` and `issued` in place of `messages`.";
+With --json a loan has `kind`, which is loan, and `released` and `issued` in
+place of `messages`.";
 
 pub const STATUS_EXAMPLE: &str = "Example:
   $ ill new box requester
@@ -1015,6 +1016,8 @@ Show each APDU on standard input.
 
 Of each its type, its transaction, its number and its further fields are written
 to standard output, a line for each: `ill show < FILE`.
+
+With --json an APDU has `kind`, which is message, before the labels of its lines.
 
 The exit status is 0 if all of them are shown. It is 2 if one has a fault or
 there are too many, and 3 with `read`. The APDUs before a fault are shown.";

@@ -23,11 +23,11 @@ use Rattle.ill_text.specs.ApduObject.{object_line, apdu_fields}
 
 -- ---- sides
 
--- Returns the fields of `status` for a side, with the marks `marks`.
+-- Returns the fields of `status` for a side, with the marks `marks`. The first says that its line is of a loan.
 abbrev pub standing_fields : Side → ℕ → List (List ℕ) → List Field
 standing_fields side released marks =
-    (codes "role", quoted (role_name (role_of side))) ∷ (codes "group", quoted (txn_of side).group)
-    ∷ (codes "transaction", quoted (txn_of side).transaction)
+    (codes "kind", quoted (codes "loan")) ∷ (codes "role", quoted (role_name (role_of side)))
+    ∷ (codes "group", quoted (txn_of side).group) ∷ (codes "transaction", quoted (txn_of side).transaction)
     ∷ (codes "state", quoted (state_name (state_of side))) ∷ (codes "due", optional day (due_date_of side))
     ∷ (codes "released", decimal released) ∷ (codes "issued", decimal (length (issued_of side)))
     ∷ (codes "marks", array quoted marks) ∷ []
@@ -71,8 +71,8 @@ turn_fields side names =
 abbrev pub taken_fields : Side → List Field
 taken_fields (Requester x) = (codes "held", optional decimal x.held) ∷ []
 taken_fields (Responder y) =
-    (codes "accepted", optional decimal y.accepted) ∷ (codes "last-cancel", optional decimal y.last_cancel)
-    ∷ (codes "last-renew", optional decimal y.last_renew) ∷ []
+    (codes "accepted", optional decimal y.accepted) ∷ (codes "last_cancel", optional decimal y.last_cancel)
+    ∷ (codes "last_renew", optional decimal y.last_renew) ∷ []
 
 -- Returns the field `leaves`, which is true if the message may be sent. Without a number of released messages
 -- there is no such field.

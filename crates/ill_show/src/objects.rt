@@ -54,6 +54,7 @@ fn push_standing<'a>(
         text,
         b"",
         &[
+            ("kind", Value::Text(b"loan")),
             ("role", Value::Text(side.role().name().as_bytes())),
             ("group", Value::Text(side.txn().group())),
             ("transaction", Value::Text(side.txn().transaction())),
@@ -150,8 +151,8 @@ fn push_taken(text: &mut Vec<u8>, side: &Side) -> Result<(), OutOfMemory>
             b",",
             &[
                 ("accepted", Value::number(responder.accepted())),
-                ("last-cancel", Value::number(responder.last_cancel())),
-                ("last-renew", Value::number(responder.last_renew())),
+                ("last_cancel", Value::number(responder.last_cancel())),
+                ("last_renew", Value::number(responder.last_renew())),
             ],
         ),
     }

@@ -58,7 +58,11 @@ body_fields Expired = []
 abbrev pub apdu_fields : Apdu → List Field
 apdu_fields a = head_fields a ++ body_fields a.body
 
+-- Returns the fields in the line of an APDU: that it is a message, and all its fields.
+abbrev pub line_fields : Apdu → List Field
+line_fields a = (codes "kind", quoted (codes "message")) ∷ apdu_fields a
+
 -- Returns an APDU in the lines of `show`, or as an object.
 abbrev pub apdu_text : Form → Apdu → List ℕ
 apdu_text Lines a = lines_of a
-apdu_text Json a = object_line (apdu_fields a)
+apdu_text Json a = object_line (line_fields a)

@@ -5,7 +5,7 @@ ghost use Rattle.ill_values.specs.declared.apdu.BodyWith.TheVariants.{IllRequest
 ghost use Rattle.ill_values.specs.Body.{body_in};
 ghost use Rattle.ill_der.specs.View.{apdu_of};
 ghost use Rattle.ill_text.specs.Json.{joined, member};
-ghost use Rattle.ill_text.specs.ApduObject.{apdu_fields, body_fields, head_fields, object_line, optional_date_fields, reply_fields};
+ghost use Rattle.ill_text.specs.ApduObject.{apdu_fields, body_fields, head_fields, line_fields, object_line, optional_date_fields, reply_fields};
 
 use crate::json::{Value, push_members, push_plain};
 use ill_der::{ApduView, BodyView};
@@ -14,17 +14,35 @@ use ill_words::possible::expiry;
 
 /// Appends the object of `apdu` on a line.
 pub(crate) fn push_apdu_object(text: &mut Vec<u8>, apdu: &ApduView<'_>) -> Result<(), OutOfMemory>
-    ensures { OnOk result (text.new.items ≡ text.old.items ++ object_line (apdu_fields apdu.now)) }
+    ensures { OnOk result (text.new.items ≡ text.old.items ++ object_line (line_fields apdu.now)) }
 {
     push_plain(text, "{")?;
+    push_line_fields(text, apdu)?;
+    push_plain(text, "}\n")
+}
+
+/// Appends the fields of `apdu` in a line of its own. Its kind is message.
+#[tactic(auto, unfolding(crate::specs::Json::joined))]
+fn push_line_fields(text: &mut Vec<u8>, apdu: &ApduView<'_>) -> Result<(), OutOfMemory>
+    ensures { OnOk result (text.new.items ≡ text.old.items ++ joined member [] (line_fields apdu.now)) }
+{
+    push_members(text, b"", &[("kind", Value::Text(b"message"))])?;
+    push_apdu_after(text, apdu)
+}
+
+/// Appends the fields of `apdu`, each after a comma.
+#[tactic(auto, unfolding(crate::specs::Json::joined))]
+pub fn push_apdu_after(text: &mut Vec<u8>, apdu: &ApduView<'_>) -> Result<(), OutOfMemory>
+    ensures { OnOk result (text.new.items ≡ text.old.items ++ joined member (codes ",") (apdu_fields apdu.now)) }
+{
+    push_plain(text, ",")?;
     push_apdu(
         text,
         apdu.body(),
         apdu.group(),
         apdu.transaction(),
         apdu.number(),
-    )?;
-    push_plain(text, "}\n")
+    )
 }
 
 /// Appends the fields of an APDU.

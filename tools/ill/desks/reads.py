@@ -99,22 +99,22 @@ def status_lines(side):
 def taken(side):
     """Returns what a record tells of messages taken."""
     return {"held": side.held} if side.role == REQUESTER else {
-        "accepted": side.accepted, "last-cancel": side.cancelled, "last-renew": side.renewed}
+        "accepted": side.accepted, "last_cancel": side.cancelled, "last_renew": side.renewed}
 
 
 def loan_lines(side, note=None):
     """Returns all lines of a loan, with its note."""
     return [*status_lines(side), f"next {side.turn()}", f"now {' '.join(side.possible()) or '-'}",
             f"item {shown(side.asked()['item'])}", f"expiry {side.expiry() or '-'}",
-            *(f"{label} {number or '-'}" for label, number in taken(side).items()), *([f"note {note}"] if note else []),
+            *(f"{label.replace('_', '-')} {number or '-'}" for label, number in taken(side).items()), *([f"note {note}"] if note else []),
             *(line for apdu in side.issued for line in message_lines(side.txn, apdu))]
 
 
 def status_object(side):
     """Returns the object of a loan."""
     count = len(side.issued)
-    return {"role": ROLES[side.role], "group": side.txn[0], "transaction": side.txn[1], "state": side.state,
-            "due": iso(side.due), "released": count, "issued": count, "marks": side.marks()}
+    return {"kind": "loan", "role": ROLES[side.role], "group": side.txn[0], "transaction": side.txn[1],
+            "state": side.state, "due": iso(side.due), "released": count, "issued": count, "marks": side.marks()}
 
 
 def message_object(side, apdu):

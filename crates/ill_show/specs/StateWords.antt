@@ -31,7 +31,7 @@ requester_words Recall declined received checked_in =
     if received then codes "The responder wants the item back."
     else codes "The responder wants the item back. We have not said that it came."
 requester_words Returned declined received checked_in =
-    if checked_in then codes "The item has arrived." else codes "We have sent the item back."
+    if checked_in then codes "The responder has the item back." else codes "We have sent the item back."
 requester_words other declined received checked_in = state_name other
 
 -- Returns the words for a responder's state. A state that no responder has keeps its name.

@@ -40,7 +40,7 @@ fn requester_words(requester: &Requester) -> &'static str
         }
         State::Recall if requester.is_received() => "The responder wants the item back.",
         State::Recall => "The responder wants the item back. We have not said that it came.",
-        State::Returned if requester.is_checked_in() => "The item has arrived.",
+        State::Returned if requester.is_checked_in() => "The responder has the item back.",
         State::Returned => "We have sent the item back.",
         other => other.name(),
     }

@@ -588,8 +588,7 @@ message, after `news`. The words are those of `ill news`, whose help says what
 is told.
 
 With --mine and --since DAY the list is one of a morning: a line for each loan
-that wants a hand or has news, without headings. It begins with the words of the
-work. Then come the columns up to the title. Before the title stand the news,
+that wants a hand or has news. It has no state. Before the title stand the news,
 with semicolons between them, or `-`.
 
 The last line counts all loans of the desk, whichever are listed. It says how

@@ -116,12 +116,15 @@ widened today columns side = record {
 abbrev pub columns_of : Wanted → List Side → Columns
 columns_of wanted listed = fold (widened wanted.today) (no_columns wanted.has_actions) listed
 
--- Returns the columns of a loan before its title, with its actions on the day `today` if the list has them.
+-- Returns the columns of the due date of a loan, of its name, and of its actions on the day `today` if the list has them.
+unfoldable pub due_and_name : Columns → Option Date → Side → List ℕ
+due_and_name columns today side =
+    cell 8 (due_text (due_date_of side)) ++ cell columns.group (column (txn_of side).group)
+    ++ cell columns.transaction (column (txn_of side).transaction) ++ actions_cell columns today side
+
+-- Returns the columns of a loan before its title: its state, and then those that `due_and_name` returns.
 unfoldable pub standing : Columns → Option Date → Side → List ℕ
-standing columns today side =
-    cell columns.state (state_name (state_of side)) ++ cell 8 (due_text (due_date_of side))
-    ++ cell columns.group (column (txn_of side).group) ++ cell columns.transaction (column (txn_of side).transaction)
-    ++ actions_cell columns today side
+standing columns today side = cell columns.state (state_name (state_of side)) ++ due_and_name columns today side
 
 -- Returns the line of a loan: its columns and its title.
 unfoldable pub row : Columns → Option Date → Side → List ℕ

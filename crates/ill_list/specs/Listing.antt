@@ -57,13 +57,16 @@ work_lines columns annex wanted work (first ∷ others) =
     work_heading work (length (first ∷ others)) ++ flat_map (told_row columns annex wanted) (first ∷ others)
 
 -- Returns the line of a loan in a morning's list, and those of its note and its day below it.
-abbrev pub told_morning : MorningColumns → AnnexRead → Wanted → Work → Side → List ℕ
-told_morning columns annex wanted work side =
-    morning_row columns annex.news wanted work side ++ (note_shown annex.notes wanted side ++ since_shown annex wanted side)
+abbrev pub told_morning : MorningColumns → AnnexRead → Wanted → Side → List ℕ
+told_morning columns annex wanted side =
+    morning_row columns annex.news wanted side ++ (note_shown annex.notes wanted side ++ since_shown annex wanted side)
 
--- Returns the lines of the loans with this work in a morning's list. No heading stands over them.
+-- Returns the lines of the loans with this work in a morning's list: a heading, and those of each. Without a loan there
+-- is no line.
 abbrev pub morning_lines : MorningColumns → AnnexRead → Wanted → Work → List Side → List ℕ
-morning_lines columns annex wanted work sides = flat_map (told_morning columns annex wanted work) sides
+morning_lines columns annex wanted work [] = []
+morning_lines columns annex wanted work (first ∷ others) =
+    work_heading work (length (first ∷ others)) ++ flat_map (told_morning columns annex wanted) (first ∷ others)
 
 -- Returns the objects of the loans with this work.
 abbrev pub work_objects : Option (List ℕ) → AnnexRead → Wanted → Work → List Side → List ℕ

@@ -4,12 +4,10 @@ use Rattle.ill_values.specs.declared.apdu.Apdu.{Apdu}
 use Rattle.ill_record.specs.declared.side.Side.{Side}
 use Rattle.ill_record.specs.Side.{txn_of}
 use Rattle.ill_words.specs.Possible.{request_of, item_asked}
-use Rattle.ill_work.specs.declared.work.Work.{Work}
-use Rattle.ill_work.specs.Work.{work_words}
 use Rattle.ill_list.specs.declared.morning.MorningColumns.{MorningColumns}
 use Rattle.ill_list.specs.declared.wanted.Wanted.{Wanted}
 use Rattle.ill_rows.specs.Cells.{cell, title_text}
-use Rattle.ill_list.specs.List.{columns_of, is_mine, standing, work_of}
+use Rattle.ill_list.specs.List.{columns_of, is_mine, due_and_name}
 use Rattle.ill_show.specs.Kept.{kept_of}
 use Rattle.ill_show.specs.NewsWords.{told_words}
 
@@ -52,12 +50,11 @@ widest text sides = fold (λ width side. max width (length (text side))) 0 sides
 abbrev pub morning_columns : Wanted → (news : Option (List Apdu)) → List Side → MorningColumns
 morning_columns wanted news listed = record {
   row = columns_of wanted listed;
-  work = widest (λ side. work_words (work_of wanted side)) listed;
   news = widest (λ side. text_or_dash (news_text news side)) listed;
 }
 
--- Returns the line of a loan: its work, its columns, its news and its title.
-unfoldable pub morning_row : MorningColumns → (news : Option (List Apdu)) → Wanted → Work → Side → List ℕ
-morning_row columns news wanted work side =
-    cell columns.work (work_words work) ++ standing columns.row wanted.today side
+-- Returns the line of a loan: its due date and its name, its news and its title.
+unfoldable pub morning_row : MorningColumns → (news : Option (List Apdu)) → Wanted → Side → List ℕ
+morning_row columns news wanted side =
+    codes "  " ++ due_and_name columns.row wanted.today side
     ++ cell columns.news (text_or_dash (news_text news side)) ++ title_text (item_asked (request_of side)) ++ codes "\n"

@@ -430,7 +430,8 @@ fn push_note_shown(
     Ok(())
 }
 
-/// Appends a line for each loan of `sides`, with this work, in the list of a morning.
+/// Appends a heading of this work, and a line for each loan of `sides` in the list of a morning. Without a loan it
+/// appends nothing.
 fn push_morning_lines(
     lines: &mut Vec<u8>,
     rows: &MorningLines<'_>,
@@ -441,8 +442,25 @@ fn push_morning_lines(
     ensures { OnOk result (lines.new.items ≡ lines.old.items
         ++ morning_lines rows.now.columns (annex_of rows.now.annex.now) wanted.now work (map (λ side. side.now) sides.now)) }
 {
+    if sides.is_empty() {
+        return Ok(());
+    }
+    push_work_heading(lines, work, sides.len())?;
+    push_morning_rows(lines, rows, wanted, sides)
+}
+
+/// Appends a line for each loan of `sides` in the list of a morning, and those of its note and its day if the list has them.
+fn push_morning_rows(
+    lines: &mut Vec<u8>,
+    rows: &MorningLines<'_>,
+    wanted: &Wanted,
+    sides: &[&Side],
+) -> Result<(), OutOfMemory>
+    ensures { OnOk result (lines.new.items ≡ lines.old.items
+        ++ flat_map (told_morning rows.now.columns (annex_of rows.now.annex.now) wanted.now) (map (λ side. side.now) sides.now)) }
+{
     for side in sides {
-        push_told_morning(lines, rows, wanted, work, side)?;
+        push_told_morning(lines, rows, wanted, side)?;
     }
     Ok(())
 }
@@ -452,13 +470,12 @@ fn push_told_morning(
     lines: &mut Vec<u8>,
     rows: &MorningLines<'_>,
     wanted: &Wanted,
-    work: Work,
     side: &Side,
 ) -> Result<(), OutOfMemory>
     ensures { OnOk result (lines.new.items ≡ lines.old.items
-        ++ told_morning rows.now.columns (annex_of rows.now.annex.now) wanted.now work side.now) }
+        ++ told_morning rows.now.columns (annex_of rows.now.annex.now) wanted.now side.now) }
 {
-    push_morning_row(lines, rows, wanted, work, side)?;
+    push_morning_row(lines, rows, wanted, side)?;
     push_note_shown(lines, &rows.annex.notes, wanted, side)?;
     push_since_shown(lines, rows.annex, wanted, side)
 }

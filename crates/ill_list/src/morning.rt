@@ -3,19 +3,16 @@
 ghost use Rattle.std.specs.Prelude.{◌≡◌, ◌++◌, [], map, fold, IfOk, OnOk};
 ghost use Rattle.std.specs.List.{flat_map};
 ghost use Rattle.ill_show.specs.Since.{annex_of};
-ghost use Rattle.ill_work.specs.Work.{work_words};
-ghost use Rattle.ill_list.specs.List.{work_of};
 ghost use Rattle.ill_list.specs.Morning.{break_after, is_morning, morning_columns, morning_row, news_text, text_or_dash, widest, with_words, words_of};
 
-use crate::row::{Columns, push_standing};
-use crate::wanted::{Wanted, work};
+use crate::row::{Columns, push_due_and_name};
+use crate::wanted::Wanted;
 use ill_rows::cells::{push_cell, push_title};
 use ill_saved::Side;
 use ill_show::annex::Annex;
 use ill_show::kept::kept_of;
 use ill_show::news_words::told_words;
 use ill_values::{Apdu, OutOfMemory};
-use ill_work::Work;
 use std::alloc::Global;
 
 /// The columns of a morning's list.
@@ -23,8 +20,6 @@ use std::alloc::Global;
 pub(crate) struct MorningColumns {
     /// The columns of the loan.
     pub row: Columns,
-    /// The width of the work.
-    pub work: usize,
     /// The width of the news.
     pub news: usize,
 }
@@ -49,21 +44,9 @@ impl MorningColumns {
     {
         Ok(MorningColumns {
             row: Columns::of(alloc, listed, wanted)?,
-            work: work_width(listed, wanted),
             news: news_width(alloc, listed, annex)?,
         })
     }
-}
-
-/// Returns the length of the longest words of the work with one of the listed loans.
-fn work_width(listed: &[&Side], wanted: &Wanted) -> usize
-    ensures { result ≡ widest (λ side. work_words (work_of wanted.now side)) (map (λ side. side.now) listed.now) }
-{
-    let mut width = 0;
-    for side in listed {
-        width = width.max(work(wanted, side).words().len());
-    }
-    width
 }
 
 /// Returns the length of the longest news of one of the listed loans.
@@ -131,21 +114,20 @@ fn push_break(text: &mut Vec<u8>) -> Result<(), OutOfMemory>
     text.extend_from_slice(b"; ")
 }
 
-/// Appends the line of the loan of `side`, which has this work: its work, its columns, its news and its title.
+/// Appends the line of the loan of `side`: its due date and its name, its news and its title.
 #[tactic(auto, unfolding(crate::specs::Morning::morning_row))]
 pub(crate) fn push_morning_row(
     lines: &mut Vec<u8>,
     rows: &MorningLines<'_>,
     wanted: &Wanted,
-    work: Work,
     side: &Side,
 ) -> Result<(), OutOfMemory>
     ensures { OnOk result (lines.new.items ≡ lines.old.items
-        ++ morning_row rows.now.columns (annex_of rows.now.annex.now).news wanted.now work side.now) }
+        ++ morning_row rows.now.columns (annex_of rows.now.annex.now).news wanted.now side.now) }
 {
     let news = news_text(*lines.allocator(), rows.annex, side)?;
-    push_cell(lines, rows.columns.work, work.words().as_bytes())?;
-    push_standing(lines, &rows.columns.row, wanted.today, side)?;
+    lines.extend_from_slice(b"  ")?;
+    push_due_and_name(lines, &rows.columns.row, wanted.today, side)?;
     push_cell(lines, rows.columns.news, &news)?;
     push_title(lines, side)?;
     lines.push(b'\n')?;

@@ -5,7 +5,7 @@ ghost use Rattle.ill_core.specs.State.{state_name};
 ghost use Rattle.ill_record.specs.Side.{state_of, due_date_of};
 ghost use Rattle.ill_words.specs.Shown.{due_text};
 ghost use Rattle.ill_rows.specs.Cells.{cell, column};
-ghost use Rattle.ill_list.specs.List.{columns_of, actions_cell, actions_text, no_columns, row, standing, verbs_text, widened};
+ghost use Rattle.ill_list.specs.List.{columns_of, actions_cell, actions_text, due_and_name, no_columns, row, standing, verbs_text, widened};
 
 use crate::wanted::Wanted;
 use ill_rows::cells::{column, push_cell, push_title};
@@ -105,7 +105,7 @@ pub fn push_row(
 
 /// Appends the columns of `side` before its title, with its actions on the day `today` if the list has them.
 #[tactic(auto, unfolding(crate::specs::List::standing))]
-pub(crate) fn push_standing(
+fn push_standing(
     lines: &mut Vec<u8>,
     columns: &Columns,
     today: Option<Day>,
@@ -113,7 +113,22 @@ pub(crate) fn push_standing(
 ) -> Result<(), OutOfMemory>
     ensures { OnOk result (lines.new.items ≡ lines.old.items ++ standing columns.now today side.now) }
 {
-    push_state(lines, columns.state, side)?;
+    push_cell(lines, columns.state, side.state().name().as_bytes())?;
+    push_due_and_name(lines, columns, today, side)
+}
+
+/// Appends the columns of the due date of `side` and of its name, with its actions on the day `today` if the list has
+/// them.
+#[tactic(auto, unfolding(crate::specs::List::due_and_name))]
+pub(crate) fn push_due_and_name(
+    lines: &mut Vec<u8>,
+    columns: &Columns,
+    today: Option<Day>,
+    side: &Side,
+) -> Result<(), OutOfMemory>
+    ensures { OnOk result (lines.new.items ≡ lines.old.items ++ due_and_name columns.now today side.now) }
+{
+    push_due(lines, side)?;
     let alloc = *lines.allocator();
     push_cell(lines, columns.group, &column(alloc, side.txn().group())?)?;
     push_cell(
@@ -124,12 +139,10 @@ pub(crate) fn push_standing(
     push_actions(lines, columns, today, side)
 }
 
-/// Appends the state in a column of this width, and the due date, or a dash for it.
-fn push_state(lines: &mut Vec<u8>, width: usize, side: &Side) -> Result<(), OutOfMemory>
-    ensures { OnOk result (lines.new.items ≡ lines.old.items
-        ++ (cell width (state_name (state_of side.now)) ++ cell 8 (due_text (due_date_of side.now)))) }
+/// Appends the column of the due date, with a dash if there is none.
+fn push_due(lines: &mut Vec<u8>, side: &Side) -> Result<(), OutOfMemory>
+    ensures { OnOk result (lines.new.items ≡ lines.old.items ++ cell 8 (due_text (due_date_of side.now))) }
 {
-    push_cell(lines, width, side.state().name().as_bytes())?;
     match side.due() {
         None => push_cell(lines, DUE, b"-"),
         Some(day) => push_cell(lines, DUE, &day.digits()),

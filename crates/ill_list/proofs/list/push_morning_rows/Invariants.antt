@@ -1,15 +1,15 @@
--- States the loop invariant of `push_morning_lines` (`src/list.rt`).
+-- States the loop invariant of `push_morning_rows` (`src/list.rt`).
 use Rattle.std.proofs.Common.{◌≡◌, ◌++◌, take, Bor}
 use Rattle.std.specs.List.{flat_map}
 use Rattle.ill_record.specs.declared.side.Side.{Side}
 use Rattle.ill_list.specs.Listing.{told_morning}
 use Rattle.ill_show.specs.Since.{annex_of}
-use Rattle.ill_list.proofs.list.push_morning_lines.Given as goal
+use Rattle.ill_list.proofs.list.push_morning_rows.Given as goal
 
 -- The lines of the sides so far are appended.
 abbrev pub invariant-loop-side : goal.invariant-loop-side
 invariant-loop-side l = record {
   listed : l.lines.items ≡ l.initial.lines.items
-      ++ flat_map (λ (side : Bor Side). told_morning l.rows.columns (annex_of l.rows.annex.now) l.wanted l.work side.now)
+      ++ flat_map (λ (side : Bor Side). told_morning l.rows.columns (annex_of l.rows.annex.now) l.wanted side.now)
       (take l.side-index l.sides);
 }

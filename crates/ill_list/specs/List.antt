@@ -18,6 +18,7 @@ use Rattle.ill_list.specs.declared.wanted.Wanted.{Wanted}
 use Rattle.ill_list.specs.declared.counts.Counts.{Counts}
 use Rattle.ill_list.specs.declared.row.Columns.{Columns}
 use Rattle.ill_list.specs.ListedNews.{has_news}
+use Rattle.ill_rows.specs.Cells.{cell, column, title_text}
 use Rattle.ill_words.specs.Possible.{possible_on, request_of, item_asked}
 use Rattle.ill_words.specs.Waiting.{is_sooner, waits_by_date}
 use Rattle.ill_work.specs.declared.work.Work.{Work}

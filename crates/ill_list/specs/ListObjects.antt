@@ -12,6 +12,7 @@ use Rattle.ill_work.specs.Work.{work_words}
 use Rattle.ill_words.specs.Possible.{request_of, item_asked}
 use Rattle.ill_text.specs.ApduObject.{object_line}
 use Rattle.ill_list.specs.ListedNews.{listed_news_fields}
+use Rattle.ill_rows.specs.Heading.{file_fields}
 use Rattle.ill_show.specs.Objects.{names_of}
 use Rattle.ill_show.specs.Notes.{note_fields, note_of}
 use Rattle.ill_show.specs.Since.{AnnexRead, since_fields, since_of}

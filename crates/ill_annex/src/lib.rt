@@ -11,6 +11,7 @@ use ill_files::open::open;
 use ill_saved::{Desk, FileStore};
 use ill_show::annex::Annex;
 use ill_show::file_lines::FileLines;
+use ill_show::keyed_diary::KeyedDiary;
 use ill_show::notes::Notes;
 use ill_text::fault::ToolFault;
 use ill_text::input::apdus_in;
@@ -45,7 +46,7 @@ pub fn read_annex<T: Files, E: Write>(
     let came = came_bytes(rt, alloc, file)?;
     Ok(Annex {
         notes: read_notes(rt, alloc, file)?,
-        diary,
+        diary: KeyedDiary::of(alloc, diary)?,
         came: apdus_in(alloc, &came)?,
         news: None,
     })

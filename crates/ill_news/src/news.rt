@@ -121,7 +121,7 @@ pub fn news_since(
         Some(_) => {
             let came = Came {
                 bytes: b"",
-                diary: &annex.diary,
+                diary: annex.diary.as_lines(),
                 since,
                 last: None,
             };

@@ -1,5 +1,6 @@
 pub mod DiaryLaws
 pub mod DiaryLemmas
+pub mod KeyedDiaryLemmas
 pub mod LoanLemmas
 pub mod NewsWordsLemmas
 pub mod NotesLaws

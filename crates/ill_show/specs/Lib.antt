@@ -4,6 +4,7 @@ pub mod FileLines
 pub mod Heard
 pub mod ItemLine
 pub mod Kept
+pub mod KeyedDiary
 pub mod Loan
 pub mod LoanLines
 pub mod NewsWords

@@ -26,7 +26,7 @@ pub record AnnexRead : Type 0 where
 abbrev pub annex_of : Annex → AnnexRead
 annex_of annex = record {
   notes = lines_of annex.notes;
-  diary = lines_of annex.diary;
+  diary = annex.diary;
   came = annex.came.items;
   news = option_map (λ apdus. apdus.items) annex.news;
 }

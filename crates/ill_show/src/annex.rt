@@ -3,6 +3,7 @@
 ghost use Rattle.std.specs.Prelude.{◌≡◌};
 
 use crate::file_lines::FileLines;
+use crate::keyed_diary::KeyedDiary;
 use ill_values::Apdu;
 use std::alloc::Global;
 
@@ -12,7 +13,7 @@ pub struct Annex {
     /// The notes of staff.
     pub notes: FileLines,
     /// The diary.
-    pub diary: FileLines,
+    pub diary: KeyedDiary,
     /// The messages that came.
     pub came: Vec<Apdu>,
     /// Those of the messages that are told as news, if news are told.
@@ -26,7 +27,7 @@ impl Annex {
     {
         Annex {
             notes,
-            diary: FileLines::none(alloc),
+            diary: KeyedDiary::none(alloc),
             came: Vec::new(alloc),
             news: None,
         }

@@ -74,7 +74,7 @@ pub(crate) struct Message {
     /// Its number.
     number: Number,
     /// Its key.
-    key: Vec<u8>,
+    pub(crate) key: Vec<u8>,
 }
 
 /// Returns the messages that the record of `side` has: those that it issued, and those of `kept` that it shows as taken.

@@ -7,6 +7,7 @@ pub mod file_lines;
 pub mod heard;
 pub mod item_line;
 pub mod kept;
+pub mod keyed_diary;
 pub mod laws;
 pub mod loan;
 mod loan_lines;

@@ -1,12 +1,11 @@
 //! Since when a loan stands as it does: the day of the last line of a diary that names a message of its record.
 
-ghost use Rattle.std.specs.Prelude.{◌≡◌, ◌++◌, codes, map, IfOk, OnOk};
+ghost use Rattle.std.specs.Prelude.{◌≡◌, ◌++◌, codes, IfOk, OnOk};
 ghost use Rattle.ill_text.specs.Json.{joined, member};
-ghost use Rattle.ill_show.specs.Diary.{named, said};
-ghost use Rattle.ill_show.specs.Since.{day_said, day_told, last_day, annex_of, since_fields, since_line, since_of};
+ghost use Rattle.ill_show.specs.Since.{annex_of, since_fields, since_line, since_of};
 
 use crate::annex::Annex;
-use crate::diary::{Entry, Message, message_with, messages_of, said_by};
+use crate::diary::messages_of;
 use crate::kept::kept_of;
 use ill_saved::Side;
 use ill_text::json::{Value, push_members};
@@ -21,38 +20,7 @@ pub fn since_of(alloc: Global, annex: &Annex, side: &Side) -> Result<Option<Day>
 {
     let kept = kept_of(alloc, side.txn(), &annex.came)?;
     let messages = messages_of(alloc, side, &kept)?;
-    Ok(last_day(&messages, annex.diary.lines()))
-}
-
-/// Returns the day of the last of `lines` that names one of `messages`, if one does.
-fn last_day(messages: &[Message], lines: &[Vec<u8>]) -> Option<Day>
-    ensures { result ≡ last_day (map named messages.now) (map (λ line. line.items) lines.now) }
-{
-    let mut found = None;
-    for line in lines {
-        found = day_told(messages, line).or(found);
-    }
-    found
-}
-
-/// Returns the day that `line` tells, if one of `messages` is the one that it names.
-fn day_told(messages: &[Message], line: &[u8]) -> Option<Day>
-    ensures { result ≡ day_told (map named messages.now) line.now }
-{
-    match said_by(line) {
-        Some(entry) => day_said(messages, &entry),
-        None => None,
-    }
-}
-
-/// Returns the day of `entry`, if one of `messages` is the one that it names.
-fn day_said(messages: &[Message], entry: &Entry<'_>) -> Option<Day>
-    ensures { result ≡ day_said (map named messages.now) (said entry.now) }
-{
-    match message_with(messages, entry.message.as_bytes()) {
-        Some(_) => Some(entry.day),
-        None => None,
-    }
+    Ok(annex.diary.last_day(&messages))
 }
 
 /// Appends the line of the day `since` below that of its loan in a list, if it is known.

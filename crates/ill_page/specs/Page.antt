@@ -6,11 +6,12 @@ use Rattle.ill_record.specs.declared.side.Side.{Side}
 use Rattle.ill_record.specs.Side.{txn_of}
 use Rattle.ill_text.specs.Html.{html_escaped, html_text}
 use Rattle.ill_words.specs.Possible.{possible_on, request_of, item_asked}
+use Rattle.ill_show.specs.StateWords.{state_words}
 use Rattle.ill_report.specs.Link.{PlaceShown, place_text}
 use Rattle.ill_report.specs.Report.{page_head_with}
 use Rattle.ill_page.specs.declared.page.LoanShown.{LoanShown}
 use Rattle.ill_page.specs.declared.parts.TheConstants.{ALL, ALERT, ALERT_END, COUNTED, COUNTED_END, END, KNOWN, KNOWN_END, LOAN}
-use Rattle.ill_page.specs.declared.parts.TheConstants.{POSSIBLE, SLIP, SLIP_END, STYLE}
+use Rattle.ill_page.specs.declared.parts.TheConstants.{POSSIBLE, SLIP, SLIP_END, STATE, STYLE}
 use Rattle.ill_page.specs.Forms.{forms_text, note_text}
 
 -- A loan that is shown: the day, the text for its desk, the side of this library, its stamp, and the lines of all that is
@@ -75,11 +76,12 @@ ways_text seen = possible_text seen ++ (note_text (place_of seen) ++ slip_text (
 unfoldable pub lines_text : (lines : List ℕ) → List ℕ
 lines_text lines = KNOWN.now ++ (html_escaped lines ++ KNOWN_END.now)
 
--- Returns what the page of a loan has below its title.
+-- Returns what the page of a loan has below its title: its state in words, the forms, and all that is known of it.
 unfoldable pub known_text : LoanSeen → List ℕ
-known_text seen = POSSIBLE.now ++ (ways_text seen ++ lines_text seen.lines)
+known_text seen =
+    STATE.now ++ (state_words seen.side ++ (POSSIBLE.now ++ (ways_text seen ++ lines_text seen.lines)))
 
--- Returns the page of a loan: its title, the forms, and all that is known of it.
+-- Returns the page of a loan: its title, its state, the forms, and all that is known of it.
 unfoldable pub loan_page : LoanSeen → (notice : List ℕ) → List ℕ
 loan_page seen notice =
     begun_text seen.today notice

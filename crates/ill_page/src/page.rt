@@ -9,11 +9,12 @@ ghost use Rattle.ill_page.specs.Page.{begun_text, figures_page, known_text, line
 use crate::forms::{FormView, push_forms, push_note};
 use crate::parts::{
     ALERT, ALERT_END, ALL, COUNTED, COUNTED_END, END, KNOWN, KNOWN_END, LOAN, POSSIBLE, SLIP,
-    SLIP_END, STYLE,
+    SLIP_END, STATE, STYLE,
 };
 use ill_report::link::{Place, push_place};
 use ill_report::report::push_head_with;
 use ill_saved::Side;
+use ill_show::state_words::words_of;
 use ill_text::html::{push_html, push_text};
 use ill_text::json::push_plain;
 use ill_values::{Day, OutOfMemory};
@@ -70,11 +71,14 @@ impl LoanShown<'_> {
     }
 }
 
-/// Appends what the page of a loan has below its title: the forms, the way to its slip, and all that is known of it.
+/// Appends what the page of a loan has below its title: its state, the forms, the way to its slip, and all that is known of
+/// it.
 #[tactic(auto, unfolding(crate::specs::Page::known_text))]
 fn push_known(page: &mut Vec<u8>, shown: &LoanShown<'_>) -> Result<(), OutOfMemory>
     ensures { OnOk result (page.new.items ≡ page.old.items ++ known_text (loan_seen shown.now)) }
 {
+    push_plain(page, STATE)?;
+    push_plain(page, words_of(shown.side))?;
     push_plain(page, POSSIBLE)?;
     push_ways(page, shown)?;
     push_lines(page, shown.lines)

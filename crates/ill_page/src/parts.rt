@@ -110,8 +110,11 @@ pub(crate) const ALERT_END: &str = "</strong></p>\n";
 /// The text before the title of a loan.
 pub(crate) const LOAN: &str = "<section>\n<h2 dir=\"auto\">";
 
-/// The text after the title of a loan, before the forms of its actions.
-pub(crate) const POSSIBLE: &str = "</h2>\n<div class=\"now\">\n<h3>What may be done now</h3>\n";
+/// The text after the title of a loan, before its state.
+pub(crate) const STATE: &str = "</h2>\n<p>";
+
+/// The text after the state of a loan, before the forms of its actions.
+pub(crate) const POSSIBLE: &str = "</p>\n<div class=\"now\">\n<h3>What may be done now</h3>\n";
 
 /// The text after the forms, before the lines of what is known.
 pub(crate) const KNOWN: &str = "</div>\n<h3>What is known</h3>\n<pre dir=\"auto\">";

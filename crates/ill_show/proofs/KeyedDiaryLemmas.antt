@@ -1,6 +1,8 @@
 -- Proves that the day of the last line that names one of some messages is the day of the latest of their last lines.
-use Rattle.std.proofs.Common.{◌≡◌, ℕ, suc, ◌<◌, ◌≤◌, Bool, true, false, nat_lt, if◌then◌else◌, List, [], ◌∷◌, fold, map, Vec, Global}
-use Rattle.std.proofs.Common.{bytes_eq, Option, Some, None, IfSome, option_map, refl, sym, ap, ◌∙◌, lt_trans, le_of_lt, lt-suc_self}
+use Rattle.std.proofs.Common.{◌≡◌, ℕ, suc, ◌<◌, ◌≤◌, Bool, true, false, nat_lt, if◌then◌else◌, List, [], ◌∷◌, fold, map, Vec}
+use Rattle.std.proofs.Common.{Global}
+use Rattle.std.proofs.Common.{bytes_eq, Option, Some, None, IfSome, option_map, refl, sym, ap, ◌∙◌, lt_trans, le_of_lt}
+use Rattle.std.proofs.Common.{lt-suc_self}
 use Rattle.std.specs.Prelude.{cond, find}
 use Rattle.std.specs.Map.{lookup}
 use Rattle.std.specs.Option.{option_or}
@@ -11,7 +13,8 @@ use Rattle.ill_words.specs.Words.{◌>>=◌}
 use Rattle.ill_show.specs.declared.diary.Message.{Message}
 use Rattle.ill_show.specs.declared.keyed_diary.LastLine.{LastLine}
 use Rattle.ill_show.specs.Diary.{Named, Said, named, said_by}
-use Rattle.ill_show.specs.KeyedDiary.{AreLasts, Lasts, is_same_key, last_after, last_named, later, latest, latest_among, with_line}
+use Rattle.ill_show.specs.KeyedDiary.{AreLasts, Lasts, is_same_key, last_after, last_named, later, latest, latest_among}
+use Rattle.ill_show.specs.KeyedDiary.{with_line}
 use Rattle.ill_show.specs.Since.{day_said, day_told, last_day}
 
 -- ---- keys

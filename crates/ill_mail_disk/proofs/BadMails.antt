@@ -1,19 +1,21 @@
--- The definitions of `Spots` and `Runs` exclude each case of `BadMails`.
+-- The definitions of `Spots`, `Runs` and `Whole` exclude each case of `BadMails`.
 use Rattle.std.proofs.Common.{◌≡◌, ◌⊎◌, inl, inr, ⊎_elim, refl, sym, ◌∙◌, ap, subst, ℕ, zero, suc, Bool, true, false, List, []}
-use Rattle.std.proofs.Common.{◌∷◌, slice_get, Option, Some, option_map, Result, Ok, Err}
+use Rattle.std.proofs.Common.{◌∷◌, slice_get, Option, Some, option_map, Result, Ok, Err, OnOk}
 use Rattle.std.proofs.lemmas.Bool.{true≢false}
 use Rattle.std.proofs.lemmas.Option.{none-some}
-use Rattle.ill_disk.specs.Disk.{File, Disk, AreLeft, Crash, bytes_of, found_at}
+use Rattle.ill_disk.specs.Disk.{File, Disk, AreLeft, Crash, bytes_of, content, found_at}
 use Rattle.ill_disk.specs.Calls.{DiskState}
 use Rattle.ill_disk.proofs.Memory.{value_or}
 use Rattle.ill_disk.proofs.Moments.{each_moment}
+use Rattle.ill_store.specs.DiskStore.{IsOldOrNew}
 use Rattle.ill_mail_disk.specs.MailCalls.{is_file}
 use Rattle.ill_mail_disk.specs.Touches.{TouchesOnly}
 use Rattle.ill_mail_disk.specs.Spots.{SpotOf, Place, Waiting, Claimed, Aside, Gone, GivesMailBack, Outlasts, Survives, moved}
 use Rattle.ill_mail_disk.specs.Spots.{place_by}
 use Rattle.ill_mail_disk.specs.Runs.{RunState, ComesAt, MovesInRun}
 use Rattle.ill_mail_disk.specs.BadMails.{LosesMail, at_no_path, IsBadMove, other_moves, third_place, unclaimed_moves, not_moved}
-use Rattle.ill_mail_disk.specs.BadMails.{other_asks, IsBadGivingBack, over_another}
+use Rattle.ill_mail_disk.specs.BadMails.{other_asks, IsBadGivingBack, over_another, IsBadPut, torn, other_bytes, other_name}
+use Rattle.ill_mail_disk.specs.Whole.{PutsWhole}
 use Rattle.ill_mail_disk.proofs.Staying.{is_this}
 
 -- ---- losses of power
@@ -112,3 +114,19 @@ no_bad_move to mail old new answer moves (other_asks h differ) = differ (moves.e
 -- No mail is given back over another file.
 pub none_over_another : (spot : SpotOf) (old new : DiskState) → GivesMailBack spot old new → IsBadGivingBack spot old new → ⊥
 none_over_another spot old new gives (over_another file h stands lost) = lost (gives.stays h file stands)
+
+-- ---- a put
+
+-- A put that is done has put its bytes.
+done_put : {A E : Type 0} {P : Type 0} (answer : Result A E) (done : A) → answer ≡ Ok done → OnOk answer P → P
+done_put {A = A} {E = E} {P = P} answer done is put = subst (λ (r : Result A E). OnOk r P) is put
+
+-- No put is bad.
+pub no_bad_put : {A E : Type 0} (aside path bytes : List ℕ) (old new : DiskState) (answer : Result A E) →
+    PutsWhole aside path bytes old answer new → IsBadPut aside path bytes old answer new → ⊥
+no_bad_put aside path bytes old new answer puts (torn moment found h at left not_old not_new) = ⊎_elim not_old not_new
+    ((each_moment (IsOldOrNew path bytes old.now) old new moment (puts.moments h) at).1 found left)
+no_bad_put aside path bytes old new answer puts (other_bytes done h is differ) =
+    differ (done_put {P = content path new.now ≡ Some bytes} answer done is (puts.put h))
+no_bad_put aside path bytes old new answer puts (other_name other h none differ) =
+    differ ((puts.touches.moments h).last.now other none)

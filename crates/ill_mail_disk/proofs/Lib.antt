@@ -13,3 +13,4 @@ pub mod Kept
 pub mod Running
 pub mod Adding
 pub mod BadMails
+pub mod Wholly

@@ -1,8 +1,9 @@
 -- These are calls on the mails of a run that no honest disk may show. Each case has its own fault. By the laws the
 -- definitions of `Spots` and `Runs` exclude them all.
-use Rattle.std.specs.Prelude.{◌≡◌, ◌≢◌, ℕ, List, true, slice_get, Some, Result, Ok}
-use Rattle.ill_disk.specs.Disk.{In, Disk, Crash, found_at}
+use Rattle.std.specs.Prelude.{◌≡◌, ◌≢◌, ℕ, List, [], ◌∷◌, true, slice_get, Option, Some, Result, Ok}
+use Rattle.ill_disk.specs.Disk.{In, Disk, Crash, Leaves, content, found_at}
 use Rattle.ill_disk.specs.Calls.{DiskState, IsMoment}
+use Rattle.ill_mail_disk.specs.Touches.{IsNoneOf}
 use Rattle.ill_mail_disk.specs.Spots.{SpotOf, Place, Claimed, Outlasts, paths_of}
 use Rattle.ill_mail_disk.specs.Runs.{RunState}
 
@@ -31,3 +32,14 @@ pub data IsBadMove {A E : Type 0} (to : Place) (mail : ℕ) (old : RunState) (an
 pub data IsBadGivingBack (spot : SpotOf) (old new : DiskState) : Type 0 where
   over_another : (file : ℕ) → old.is_honest ≡ true → found_at spot.waiting old.now.names ≡ Some file →
       found_at spot.waiting new.now.names ≢ Some file → IsBadGivingBack spot old new
+
+-- A put of these bytes at a path cannot do this on an honest disk. A loss of power leaves a third content at the path. A
+-- call that is done has put other bytes there. Or another name has changed than the path and the one aside.
+pub data IsBadPut {A E : Type 0} (aside path bytes : List ℕ) (old : DiskState) (answer : Result A E) (new : DiskState)
+    : Type 0 where
+  torn : (moment : Disk) (found : Option (List ℕ)) → old.is_honest ≡ true → IsMoment old new moment →
+      Leaves moment path found → (Leaves old.now path found → ⊥) → found ≢ Some bytes → IsBadPut aside path bytes old answer new
+  other_bytes : (done : A) → old.is_honest ≡ true → answer ≡ Ok done → content path new.now ≢ Some bytes →
+      IsBadPut aside path bytes old answer new
+  other_name : (other : List ℕ) → old.is_honest ≡ true → IsNoneOf (aside ∷ path ∷ []) other →
+      found_at other new.now.names ≢ found_at other old.now.names → IsBadPut aside path bytes old answer new

@@ -4,3 +4,4 @@ pub mod Spots
 pub mod Keeping
 pub mod Runs
 pub mod BadMails
+pub mod Whole

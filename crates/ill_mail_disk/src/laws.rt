@@ -7,7 +7,8 @@ ghost use Rattle.ill_disk.specs.declared.disk.DiskFault.{DiskFault};
 ghost use Rattle.ill_mail_disk.specs.Touches.{TouchesOnly};
 ghost use Rattle.ill_mail_disk.specs.Spots.{SpotOf, Place, GivesMailBack, Survives};
 ghost use Rattle.ill_mail_disk.specs.Runs.{RunState, MovesInRun};
-ghost use Rattle.ill_mail_disk.specs.BadMails.{IsBadGivingBack, IsBadMove, LosesMail};
+ghost use Rattle.ill_mail_disk.specs.Whole.{PutsWhole};
+ghost use Rattle.ill_mail_disk.specs.BadMails.{IsBadGivingBack, IsBadMove, IsBadPut, LosesMail};
 
 /// No loss of power at any moment of a call leaves the file of a mail that survives the call without a name.
 pub fn no_loss_of_power_loses_a_mail()
@@ -33,4 +34,11 @@ pub fn no_move_is_bad()
 #[tactic(auto, using(crate::proofs::BadMails::none_over_another))]
 pub fn no_mail_is_given_back_over_another()
     ensures { (spot : SpotOf) (old new : DiskState) → GivesMailBack spot old new → IsBadGivingBack spot old new → ⊥ }
+{}
+
+/// No loss of power at any moment of a put leaves a torn file at the path: it leaves what it might have left before, or all
+/// bytes. A put that is done has put them, and no other name is changed.
+pub fn no_put_is_bad()
+    ensures { (aside path bytes : List ℕ) (old new : DiskState) (answer : Result (Unit {0}) DiskFault) →
+        PutsWhole aside path bytes old answer new → IsBadPut aside path bytes old answer new → ⊥ }
 {}

@@ -8,9 +8,11 @@ mod mail_disk;
 mod moves;
 mod run;
 mod spot;
+mod whole;
 
 pub use keeper::Keeper;
 pub use mail_disk::{Found, MailDisk};
-pub use moves::{give_mail_back, put_mail_aside, remove_mail};
+pub use moves::{clear, give_mail_back, put_mail_aside, remove_mail, write_anew};
 pub use run::MailRun;
 pub use spot::{Paths, Spot};
+pub use whole::put_whole;

@@ -22,7 +22,7 @@ fn stands_at<D: MailDisk>(disk: &mut D, path: &[u8], file: u128) -> Result<bool,
 }
 
 /// Removes `path`, if a file stands there.
-pub(crate) fn clear<D: MailDisk>(disk: &mut D, path: &[u8]) -> Result<(), DiskFault>
+pub fn clear<D: MailDisk>(disk: &mut D, path: &[u8]) -> Result<(), DiskFault>
     ensures { Answers (Clears path.now) (D.state disk.old) result (D.state disk.new) }
 {
     match disk.remove(path) {
@@ -116,7 +116,7 @@ fn write_reason<D: MailDisk>(disk: &mut D, path: &[u8], why: &[u8]) -> Result<()
 }
 
 /// Writes `line` to a new file at `path`, in place of what stands there, and flushes it.
-fn write_anew<D: MailDisk>(disk: &mut D, path: &[u8], line: &[u8]) -> Result<(), DiskFault>
+pub fn write_anew<D: MailDisk>(disk: &mut D, path: &[u8], line: &[u8]) -> Result<(), DiskFault>
     ensures { Touches (path.now ∷ []) (D.state disk.old) (D.state disk.new) }
 {
     clear(disk, path)?;

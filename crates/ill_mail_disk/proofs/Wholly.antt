@@ -1,0 +1,83 @@
+-- A new file is put at a path, call by call.
+use Rattle.std.proofs.Common.{◌≡◌, inl, inr, ⊎_elim, refl, ◌∙◌, ℕ, List, [], ◌∷◌, Some, Result, Ok, Err}
+use Rattle.ill_disk.specs.Disk.{Disk, after_remove, content}
+use Rattle.ill_disk.specs.Calls.{DiskState, Answers, Changes}
+use Rattle.ill_disk.proofs.Moments.{begins, holds_too, joins}
+use Rattle.ill_disk.proofs.Saves.{remove_elsewhere}
+use Rattle.ill_store.specs.DiskStore.{DiskPlaces, IsOld, IsOldOrNew}
+use Rattle.ill_store.proofs.DiskSaves.{HasKept, old_left, remove_has_kept, save_fails}
+use Rattle.ill_mail_disk.specs.Keeping.{KeeperOf, LeavesFile, PutsFile}
+use Rattle.ill_mail_disk.specs.Whole.{PutsWhole}
+use Rattle.ill_mail_disk.proofs.Kept.{puts_after, puts_failed}
+use Rattle.ill_mail_disk.proofs.Steps.{change_fits, either_way, one_touches, touches_more}
+use Rattle.ill_mail_disk.proofs.Touching.{remove_touches}
+
+-- A path is kept before the first call.
+kept_first : (path : List ℕ) (old : DiskState) → HasKept path old old
+kept_first path old = record { moments = λ h. begins (refl, old_left path old.now); honest = refl }
+
+-- A disk with what stood at a path is one with that or with new bytes.
+old_is_fine : (path bytes : List ℕ) (old d : Disk) → IsOld path old d → IsOldOrNew path bytes old d
+old_is_fine path bytes old d kept = (inl kept.0, λ found left. inl (kept.1 found left))
+
+-- What is fine beside a disk that has what stood at a path is fine beside the disk before.
+fine_again : (path bytes : List ℕ) (old d : Disk) → IsOld path old d → (x : Disk) → IsOldOrNew path bytes d x →
+    IsOldOrNew path bytes old x
+fine_again path bytes old d kept x fine = (
+  ⊎_elim (λ same. inl (same ∙ kept.0)) inr fine.0,
+  λ found left. ⊎_elim (λ was. inl (kept.1 found was)) inr (fine.1 found left),
+)
+
+module _ {E : Type 0} {aside path : List ℕ} {old cleared : DiskState} {removal : Result (Unit {0}) E}
+    (differ : aside ≡ path → ⊥) (removes : Answers (Changes (after_remove aside)) old removal cleared) where
+  -- What stood aside was removed, or was not, and what stands at the path is left.
+  pub removed_leaves : LeavesFile (record { path = path; aside = aside }) old cleared
+  removed_leaves = record {
+    touches = touches_more (aside ∷ []) (aside ∷ path ∷ []) (λ p none. (none.0, tt)) old cleared
+        (one_touches (Changes (after_remove aside)) (aside ∷ []) old removal cleared removes
+        (change_fits (aside ∷ []) (after_remove aside) (remove_touches aside) removal));
+    same = λ h. either_way (λ (d : Disk). content path d ≡ content path old.now) (after_remove aside) old.now cleared.now
+        removal (removes.done h) refl (remove_elsewhere aside path old.now differ);
+  }
+
+  -- What stood at the path is kept meanwhile.
+  removed_keeps : HasKept path old cleared
+  removed_keeps = remove_has_kept differ (kept_first path old) removes
+
+-- A file that is placed after what stood aside was removed, or was not, is put.
+pub placed_whole : {E F : Type 0} {aside path bytes : List ℕ} {old cleared placed : DiskState}
+    {removal : Result (Unit {0}) E} {one two : Unit {0}} → (aside ≡ path → ⊥) →
+    Answers (Changes (after_remove aside)) old removal cleared →
+    DiskPlaces {E = F} aside path bytes cleared (Ok one) placed →
+    PutsFile {E = F} (record { path = path; aside = aside }) (Some bytes) cleared (Ok one) placed →
+    PutsWhole {E = F} aside path bytes old (Ok two) placed
+placed_whole {F = F} {aside = aside} {path = path} {bytes = bytes} {old = old} {cleared = cleared} {placed = placed}
+    {one = one} differ removes places puts =
+    let kept : HasKept path old cleared = removed_keeps differ removes in
+    let all : PutsFile {E = F} (record { path = path; aside = aside }) (Some bytes) old (Ok one) placed =
+    puts_after (removed_leaves differ removes) puts in record {
+      touches = all.touches;
+      put = all.done;
+      moments = λ h. joins (holds_too (old_is_fine path bytes old.now) (kept.moments h))
+          (holds_too (fine_again path bytes old.now cleared.now (kept.moments h).last)
+          (places.moments (removes.honest ∙ h)));
+    }
+
+-- A file that could not be placed then is not put, or is whole. What stands aside was removed, or was not.
+pub unplaced_whole : {E F G : Type 0} {aside path bytes : List ℕ} {old cleared placed last : DiskState}
+    {removal : Result (Unit {0}) E} {fault other : F} {again : Result (Unit {0}) G} → (aside ≡ path → ⊥) →
+    Answers (Changes (after_remove aside)) old removal cleared →
+    DiskPlaces {E = F} aside path bytes cleared (Err fault) placed →
+    PutsFile {A = Unit {0}} (record { path = path; aside = aside }) (Some bytes) cleared (Err fault) placed →
+    Answers (Changes (after_remove aside)) placed again last →
+    PutsWhole {A = Unit {0}} aside path bytes old (Err other) last
+unplaced_whole {F = F} {aside = aside} {path = path} {bytes = bytes} {old = old} {placed = placed} {last = last}
+    {fault = fault} {other = other} differ removes places puts removes_again =
+    let first : PutsFile {A = Unit {0}} (record { path = path; aside = aside }) (Some bytes) old (Err fault) placed =
+    puts_after (removed_leaves differ removes) puts in
+    let all : PutsFile {A = Unit {0}} (record { path = path; aside = aside }) (Some bytes) old (Err other) last =
+    puts_failed first (removed_leaves differ removes_again) in record {
+      touches = all.touches;
+      put = λ h. tt;
+      moments = (save_fails differ (removed_keeps differ removes) places removes_again).moments;
+    }

@@ -1,0 +1,5 @@
+use Rattle.ill_mail_disk.proofs.BadMails.{no_bad_put}
+use Rattle.ill_mail_disk.proofs.laws.no_put_is_bad.Goals as goal
+
+pub returns : goal.returns
+returns c aside path bytes old new answer puts bad = no_bad_put aside path bytes old new answer puts bad

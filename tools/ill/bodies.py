@@ -11,23 +11,23 @@ BODIES = [
         ("match fs::symlink_metadata(rt, path) {\n        Ok(found) if found.is_file() =>",
          "match fs::metadata(rt, path) {\n        Ok(found) if found.is_file() =>")]),
     ("waits", "another thing in place of a mail", "waits", "ill_mailbox/src/mail.rt", [
-        ("Ok(None) => {\n                return no_failure(give_back(rt, alloc, source.folder, file.as_str(), &name));\n            }",
+        ("Ok(None) => return give_back_other(rt, alloc, source, &name, file.as_str()),",
          "Ok(None) => first_bytes(rt, alloc, file.as_str(), 0),")]),
     ("moves folders", "what is no mail", "it moves", "ill_mailbox/src/mail.rt", [("nlink() != 2)", "nlink() == 0)")]),
     ("keeps what is no mail", "what is no mail", "something in in is gone", "ill_mailbox/src/mail.rt", [
-        ("return no_failure(give_back(rt, alloc, source.folder, file.as_str(), &name));", "return Ok(());")]),
+        ("Ok(None) => return give_back_other(rt, alloc, source, &name, file.as_str()),", "Ok(None) => return Ok(()),")]),
     ("all of it", "mails that are too long", "more than 362 bytes", "ill_mailbox/src/mail.rt", [
         ("file.take(MOST.saturating_sub(count) as u64)\n            .read_to_end", "file.read_to_end")]),
     ("in aside", "a link at in/aside", "carried", "ill_mailbox/src/host_room.rt", [
-        ("self.place\n            .mail_box\n            .put_aside(self.rt, file, digest.as_str(), &why)",
-         'fs::rename(self.rt, file, (format!(in self.alloc; "{}/aside/{}", self.place.folder, digest)?).as_str())')]),
-    ("through", "links in out", "is written", "ill_mailbox/src/mail_folder.rt", [
-        ("        let _ = fs::remove_file(self.rt, new.as_str());\n        let written", "        let written"),
-        ("    options.create_new(true);\n", "    options.create(true);\n    options.truncate(true);\n")]),
-    ("lets others in", "a folder of others", "begins", "ill_mailbox/src/mail_box.rt", [
+        ("self.place\n            .mail_box\n            .put_aside(self.rt, claimed, digest.as_str(), &why)",
+         'fs::rename(self.rt, claimed.file, (format!(in self.alloc; "{}/aside/{}", self.place.folder, digest)?).as_str())')]),
+    ("through", "links in out", "is written", "ill_mailbox/src/host_mails.rt", [
+        ("answer_of(fs::remove_file(self.rt, text_of(path)?))", "answer_of(fs::symlink_metadata(self.rt, text_of(path)?).map(drop))"),
+        ("        options.create_new(true);\n", "        options.create(true);\n        options.truncate(true);\n")]),
+    ("lets others in", "a folder of others", "begins", "ill_mailbox/src/folders.rt", [
         ("if found.permissions().mode() & 0o077 == 0 {", "if found.is_dir() {")]),
-    ("gives back over", "a mail that stays", "what has come there is gone", "ill_mailbox/src/mail_box.rt", [
-        ("match fs::hard_link(rt, file, path.as_str()) {", "match fs::rename(rt, file, path.as_str()) {")]),
+    ("gives back over", "a mail that stays", "what has come there is gone", "ill_mailbox/src/host_mails.rt", [
+        ("fs::hard_link(self.rt, text_of(from)?, text_of(to)?)", "fs::rename(self.rt, text_of(from)?, text_of(to)?)")]),
     ("keeps who asked", "who asks", "is sent without end", "ill_mailbox/src/mail_box.rt", [
         ("return remove_if_there(rt, path.as_str());", "return Ok(());")]),
     ("first copy", "a clerk acts, with a copy", "copy.new is not called", "ill_mail/src/backup.rt", [

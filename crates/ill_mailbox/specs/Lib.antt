@@ -1,1 +1,2 @@
 pub mod HostRoom
+pub mod HostMails

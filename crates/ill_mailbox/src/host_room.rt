@@ -3,7 +3,7 @@
 ghost use Rattle.ill_mailbox.specs.HostRoom.{host_room};
 
 use crate::mail::Mails;
-use crate::mail_box::{MailPaths, give_back, remove_if_there};
+use crate::mail_box::{ClaimedMail, MailPaths, give_back, remove};
 use ill_night::person::tell_person;
 use ill_night::verdict::{Mail, Unfit, Verdict, push_unfit};
 use ill_room::room::Room;
@@ -50,23 +50,30 @@ impl<'r, 'a, T: Files> HostRoom<'r, 'a, T> {
         }
     }
 
-    /// Returns the mail of this number, and the path of its file, if it was claimed.
-    fn claimed(&self, mail: usize) -> Option<(&'a Mail, &'a str)> {
+    /// Returns the mail of this number, and its file, if it was claimed.
+    fn claimed(&self, mail: usize) -> Option<(&'a Mail, ClaimedMail<'a>)> {
         match (self.found.mails.get(mail), self.found.files.get(mail)) {
-            (Some(mail), Some(Some(file))) => Some((mail, file.as_str())),
+            (Some(mail), Some(Some(file))) => Some((
+                mail,
+                ClaimedMail {
+                    file: file.as_str(),
+                    folder: self.place.folder,
+                    name: &mail.name,
+                },
+            )),
             _ => None,
         }
     }
 
     /// Puts a mail aside, under the digest of the bytes that were read of it.
-    fn set_aside(&self, mail: &Mail, file: &str, unfit: Unfit) -> io::Result<()> {
+    fn set_aside(&self, mail: &Mail, claimed: ClaimedMail<'_>, unfit: Unfit) -> io::Result<()> {
         let digest = mail.digest(self.alloc)?;
         let mut why = Vec::new(self.alloc);
         push_unfit(&mut why, unfit)?;
         why.push(b'\n')?;
         self.place
             .mail_box
-            .put_aside(self.rt, file, digest.as_str(), &why)
+            .put_aside(self.rt, claimed, digest.as_str(), &why)
     }
 }
 
@@ -75,23 +82,21 @@ impl<'r, 'a, T: Files> Room for HostRoom<'r, 'a, T> {
 
     fn remove(&mut self, mail: usize) -> Result<(), ToolFault> {
         match self.claimed(mail) {
-            Some((_, file)) => Ok(remove_if_there(self.rt, file)?),
+            Some((_, claimed)) => Ok(remove(self.rt, self.alloc, claimed)?),
             None => Ok(()),
         }
     }
 
     fn put_aside(&mut self, mail: usize, unfit: Unfit) -> Result<(), ToolFault> {
         match self.claimed(mail) {
-            Some((mail, file)) => Ok(self.set_aside(mail, file, unfit)?),
+            Some((mail, claimed)) => Ok(self.set_aside(mail, claimed, unfit)?),
             None => Ok(()),
         }
     }
 
     fn give_back(&mut self, mail: usize) -> Result<(), ToolFault> {
         match self.claimed(mail) {
-            Some((mail, file)) => {
-                Ok(give_back(self.rt, self.alloc, self.place.folder, file, &mail.name)?)
-            }
+            Some((_, claimed)) => Ok(give_back(self.rt, self.alloc, claimed)?),
             None => Ok(()),
         }
     }

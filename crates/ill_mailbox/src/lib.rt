@@ -2,6 +2,8 @@
 #![tactic(auto)]
 
 pub mod fault_lines;
+pub mod folders;
+pub mod host_mails;
 pub mod host_room;
 pub mod mail;
 pub mod mail_box;

@@ -12,7 +12,7 @@ ghost use Rattle.std.specs.Prelude.{◌≡◌, IfErr};
 ghost use Rattle.ill_night.specs.Mails.{is_line_end, without_line_end};
 ghost use Rattle.ill_text.specs.Fault.{IsOpenFault};
 
-use crate::mail_box::{MailBox, MailPaths, give_back};
+use crate::mail_box::{ClaimedMail, MailBox, MailPaths, give_back};
 use ill_der::{APDU_LIMIT, view};
 use ill_files::paths::{joined, path_of, raw_names};
 use ill_files::shelf::is_for_desk;
@@ -208,9 +208,7 @@ impl Mails {
     ) -> io::Result<()> {
         let alloc = *name.allocator();
         let read = match lookup(rt, file.as_str()) {
-            Ok(None) => {
-                return no_failure(give_back(rt, alloc, source.folder, file.as_str(), &name));
-            }
+            Ok(None) => return give_back_other(rt, alloc, source, &name, file.as_str()),
             Ok(Some(found)) if source.opening.is_none() => {
                 first_bytes(rt, alloc, file.as_str(), found.len())
             }
@@ -575,10 +573,21 @@ fn bytes_if_read(read: io::Result<Vec<u8>>) -> io::Result<Option<Vec<u8>>> {
     }
 }
 
-/// Returns the fault of `done` only if memory ran out. After any other fault the file stays among the claimed mails, for
-/// the next run.
-fn no_failure(done: io::Result<()>) -> io::Result<()> {
-    match done {
+/// Gives back what was claimed and is no regular file. Only a lack of memory is a failure. After another one it remains
+/// among the claimed mails, for the next run.
+fn give_back_other<T: Files>(
+    rt: &T,
+    alloc: Global,
+    source: Source<'_>,
+    name: &[u8],
+    file: &str,
+) -> io::Result<()> {
+    let claimed = ClaimedMail {
+        file,
+        folder: source.folder,
+        name,
+    };
+    match give_back(rt, alloc, claimed) {
         Err(error) if error.kind() == ErrorKind::OutOfMemory => Err(error),
         _ => Ok(()),
     }

@@ -4,15 +4,18 @@
 ghost use Rattle.std.specs.Prelude.{Ok, IfErr};
 ghost use Rattle.ill_text.specs.Fault.{IsOpenFault};
 
+use crate::folders::{make_folder, make_new_folder, make_own_folder};
+use crate::host_mails::{HostMails, error_of};
 use crate::reserved::{is_reserved, is_within};
-use ill_files::durable::{Owner, error_of_store, flush};
-use ill_files::paths::{MAIL, is_same, path_of};
+use ill_disk::DiskFault;
+use ill_files::durable::{Owner, error_of_store};
+use ill_files::paths::{MAIL, path_of};
+use ill_mail_disk::{MailDisk, Paths, Spot, clear, give_mail_back, put_mail_aside, write_anew};
 use ill_saved::{FileStore, RECORD_LIMIT, Store};
 use ill_text::fault::ToolFault;
 use std::alloc::Global;
-use std::fs::{DirBuilder, OpenOptions};
-use std::io::{ErrorKind, Write};
-use std::os::unix::fs::{DirBuilderExt, MetadataExt, OpenOptionsExt, PermissionsExt};
+use std::io::ErrorKind;
+use std::os::unix::fs::MetadataExt;
 use std::rt::Files;
 use std::{fs, io};
 
@@ -48,6 +51,57 @@ pub struct MailPaths<'a> {
     pub file: &'a str,
     pub folder: &'a str,
     pub mail_box: &'a MailBox,
+}
+
+/// A mail that was claimed.
+#[derive(Clone, Copy)]
+pub struct ClaimedMail<'a> {
+    /// The path of its file.
+    pub file: &'a str,
+    /// The folder from which it was claimed.
+    pub folder: &'a str,
+    /// Its name there.
+    pub name: &'a [u8],
+}
+
+/// The path of a mail that is put aside, and that of the reason.
+#[derive(Clone, Copy)]
+struct AsidePaths<'a> {
+    mail: &'a [u8],
+    reason: &'a [u8],
+}
+
+impl ClaimedMail<'_> {
+    /// Returns the mail with its paths and its file, if this is there. A name that is no UTF-8 is none of a claimed mail.
+    fn spot<T: Files>(
+        self,
+        alloc: Global,
+        disk: &mut HostMails<'_, T>,
+        aside: AsidePaths<'_>,
+    ) -> io::Result<Option<Spot>> {
+        let Some(waiting) = path_of(alloc, self.folder, self.name)? else {
+            return Ok(None);
+        };
+        let paths = Paths {
+            claimed: self.file.as_bytes(),
+            waiting: waiting.as_bytes(),
+            aside: aside.mail,
+            reason: aside.reason,
+        };
+        match disk.find(paths.claimed) {
+            Ok(Some(found)) => Ok(Spot::at(alloc, paths, found.file)?),
+            Ok(None) => Ok(None),
+            Err(fault) => Err(error_of(fault)),
+        }
+    }
+}
+
+/// Returns the answer of the host for that of a move.
+fn done(moved: Result<(), DiskFault>) -> io::Result<()> {
+    match moved {
+        Ok(()) => Ok(()),
+        Err(fault) => Err(error_of(fault)),
+    }
 }
 
 impl MailBox {
@@ -94,26 +148,28 @@ impl MailBox {
         asked_at(alloc, self.path.as_str())
     }
 
-    /// Puts `file` aside under `name`, with the line `why` in another file beside it. A file of its size beside it has that
-    /// line already, since equal mails have equal names and reasons.
+    /// Puts `mail` aside under the name `digest`, with the line `why` in another file beside it. A file of its size beside it
+    /// has that line already, since equal mails have equal names and reasons.
     pub fn put_aside<T: Files>(
         &self,
         rt: &T,
-        file: &str,
-        name: &str,
+        mail: ClaimedMail<'_>,
+        digest: &str,
         why: &[u8],
     ) -> io::Result<()> {
         let alloc = *self.path.allocator();
-        let aside = format!(in alloc; "{}/aside", self.path)?;
-        make_folder(rt, aside.as_str(), self.owner)?;
-        let place = format!(in alloc; "{aside}/{name}")?;
+        let folder = format!(in alloc; "{}/aside", self.path)?;
+        make_folder(rt, folder.as_str(), self.owner)?;
+        let place = format!(in alloc; "{folder}/{digest}")?;
         let reason = format!(in alloc; "{place}{WHY}")?;
-        if !has_size(rt, reason.as_str(), why.len()) {
-            write_anew(rt, reason.as_str(), why, self.owner)?;
-        }
-        match fs::rename(rt, file, place.as_str()) {
-            Err(error) if error.kind() != ErrorKind::NotFound => Err(error),
-            _ => Ok(()),
+        let mut disk = HostMails::at(rt, alloc, Some(self.owner));
+        let aside = AsidePaths {
+            mail: place.as_bytes(),
+            reason: reason.as_bytes(),
+        };
+        match mail.spot(alloc, &mut disk, aside)? {
+            Some(spot) => done(put_mail_aside(&mut disk, &spot, why)),
+            None => Ok(()),
         }
     }
 
@@ -136,7 +192,8 @@ impl MailBox {
             }
             Err(error) if error.kind() != ErrorKind::NotFound => Err(error),
             _ => {
-                write_anew(rt, path.as_str(), b"", self.owner)?;
+                let mut disk = HostMails::at(rt, alloc, Some(self.owner));
+                done(write_anew(&mut disk, path.as_bytes(), b""))?;
                 Ok(true)
             }
         }
@@ -176,40 +233,6 @@ pub fn asked_bytes<T: Files>(rt: &T, alloc: Global, desk: &str) -> io::Result<Ve
     }
 }
 
-/// Makes the folder at `path`, which only the owner of the file `original` may enter, if it does not exist. A folder that
-/// others may enter is a fault.
-pub fn open_own_folder<T: Files>(rt: &T, path: &str, original: &str) -> io::Result<()> {
-    make_own_folder(rt, path, Owner::of(&fs::symlink_metadata(rt, original)?))
-}
-
-/// Makes a folder that only its owner may enter, if it does not exist. A folder that others may enter is a fault.
-fn make_own_folder<T: Files>(rt: &T, path: &str, owner: Owner) -> io::Result<()> {
-    make_folder(rt, path, owner)?;
-    let found = fs::symlink_metadata(rt, path)?;
-    if found.permissions().mode() & 0o077 == 0 {
-        Ok(())
-    } else {
-        Err(ErrorKind::PermissionDenied.into())
-    }
-}
-
-/// Makes a folder for its owner alone, if it does not exist. A link to a folder is a fault.
-fn make_folder<T: Files>(rt: &T, path: &str, owner: Owner) -> io::Result<()> {
-    match fs::symlink_metadata(rt, path) {
-        Ok(found) if found.is_dir() => Ok(()),
-        Ok(_) => Err(ErrorKind::AlreadyExists.into()),
-        Err(error) if error.kind() == ErrorKind::NotFound => make_new_folder(rt, path, owner),
-        Err(error) => Err(error),
-    }
-}
-
-/// Makes a folder for its owner alone. If something is at `path`, that is a fault.
-fn make_new_folder<T: Files>(rt: &T, path: &str, owner: Owner) -> io::Result<()> {
-    DirBuilder::new().mode(0o700).create(rt, path)?;
-    owner.take(rt, path);
-    Ok(())
-}
-
 /// Removes the file at `path`, if it exists.
 pub fn remove_if_there<T: Files>(rt: &T, path: &str) -> io::Result<()> {
     match fs::remove_file(rt, path) {
@@ -218,61 +241,24 @@ pub fn remove_if_there<T: Files>(rt: &T, path: &str) -> io::Result<()> {
     }
 }
 
-/// Returns true if there is a regular file of `size` bytes at `path`.
-fn has_size<T: Files>(rt: &T, path: &str, size: usize) -> bool {
-    match fs::symlink_metadata(rt, path) {
-        Ok(found) => found.is_file() && found.len() == size as u64,
-        Err(_) => false,
+/// The paths of a mail that is given back, and not put aside: no file has an empty path.
+const NOT_ASIDE: AsidePaths<'static> = AsidePaths {
+    mail: b"",
+    reason: b".why",
+};
+
+/// Gives `mail` back to the folder from which it was claimed. If another mail with its name has come there, it remains
+/// claimed, and the next run takes it first.
+pub fn give_back<T: Files>(rt: &T, alloc: Global, mail: ClaimedMail<'_>) -> io::Result<()> {
+    let mut disk = HostMails::at(rt, alloc, None);
+    match mail.spot(alloc, &mut disk, NOT_ASIDE)? {
+        Some(spot) => done(give_mail_back(&mut disk, &spot)),
+        None => Ok(()),
     }
 }
 
-/// Writes `line` to the file at `path`, which replaces a file there, and makes it durable.
-fn write_anew<T: Files>(rt: &T, path: &str, line: &[u8], owner: Owner) -> io::Result<()> {
-    remove_if_there(rt, path)?;
-    let mut options = OpenOptions::new();
-    options.write(true);
-    options.create_new(true);
-    options.mode(0o600);
-    let mut file = options.open(rt, path)?;
-    file.write_all(line)?;
-    owner.take(rt, path);
-    flush(&file)
-}
-
-/// Gives the mail `name` back to the folder from which it was claimed. If another mail with its name has come there, it
-/// remains claimed, and the next run takes it first.
-pub fn give_back<T: Files>(
-    rt: &T,
-    alloc: Global,
-    folder: &str,
-    file: &str,
-    name: &[u8],
-) -> io::Result<()> {
-    let Some(path) = path_of(alloc, folder, name)? else {
-        return Ok(());
-    };
-    match fs::hard_link(rt, file, path.as_str()) {
-        Ok(()) => remove_if_there(rt, file),
-        Err(_) => {
-            give_back_alone(rt, file, path.as_str());
-            Ok(())
-        }
-    }
-}
-
-/// Gives back a file that cannot have a second name, such as a folder, if its name is free there. If a killed run has
-/// given it back already, its second name is removed.
-fn give_back_alone<T: Files>(rt: &T, file: &str, path: &str) {
-    match (
-        fs::symlink_metadata(rt, file),
-        fs::symlink_metadata(rt, path),
-    ) {
-        (Ok(claimed), Ok(found)) if is_same(&claimed, &found) => {
-            let _ = fs::remove_file(rt, file);
-        }
-        (_, Err(error)) if error.kind() == ErrorKind::NotFound => {
-            let _ = fs::rename(rt, file, path);
-        }
-        _ => {}
-    }
+/// Removes `mail`, if its file is there.
+pub fn remove<T: Files>(rt: &T, alloc: Global, mail: ClaimedMail<'_>) -> io::Result<()> {
+    let mut disk = HostMails::at(rt, alloc, None);
+    done(clear(&mut disk, mail.file.as_bytes()))
 }

@@ -16,9 +16,10 @@ use ill_files::shelf::Shelf;
 use ill_key::Key;
 use ill_key::role::other_sender;
 use ill_mailbox::fault_lines::{NO_BOX, NO_RUN, NOT_READ};
+use ill_mailbox::folders::open_own_folder;
 use ill_mailbox::host_room::remove_runs;
 use ill_mailbox::mail::{Mails, Opening, Source, begin_run, claim_mails};
-use ill_mailbox::mail_box::{MailBox, give_back, open_box, open_own_folder, remove_if_there};
+use ill_mailbox::mail_box::{ClaimedMail, MailBox, give_back, open_box, remove_if_there};
 use ill_mailbox::mail_folder::MailFolder;
 use ill_mailbox::reserved::is_within;
 use ill_night::outgoing::Outgoing;
@@ -252,17 +253,11 @@ impl<T: Files> Letters<'_, T> {
         match (verdict, file) {
             (Verdict::Aside(unfit), Some(file)) => {
                 self.opened.are_sealed = false;
-                self.set_aside(mail, file.as_str(), unfit)
+                self.set_aside(mail, self.claimed(mail, file), unfit)
             }
             (_, Some(file)) => {
                 self.opened.is_waiting = true;
-                give_back(
-                    self.rt,
-                    self.alloc,
-                    self.unpacking.folder,
-                    file.as_str(),
-                    &mail.name,
-                )
+                give_back(self.rt, self.alloc, self.claimed(mail, file))
             }
             (_, None) => {
                 self.opened.is_waiting = true;
@@ -271,13 +266,23 @@ impl<T: Files> Letters<'_, T> {
         }
     }
 
+    /// Returns the file of a mail as one that was claimed.
+    fn claimed<'m>(&'m self, mail: &'m Mail, file: &'m String) -> ClaimedMail<'m> {
+        ClaimedMail {
+            file: file.as_str(),
+            folder: self.unpacking.folder,
+            name: &mail.name,
+        }
+    }
+
     /// Puts a file aside, under the digest of the bytes that were read of it.
-    fn set_aside(&self, mail: &Mail, file: &str, unfit: Unfit) -> io::Result<()> {
+    fn set_aside(&self, mail: &Mail, claimed: ClaimedMail<'_>, unfit: Unfit) -> io::Result<()> {
         let digest = mail.digest(self.alloc)?;
         let mut why = Vec::new(self.alloc);
         push_unfit(&mut why, unfit)?;
         why.push(b'\n')?;
-        self.aside.put_aside(self.rt, file, digest.as_str(), &why)
+        self.aside
+            .put_aside(self.rt, claimed, digest.as_str(), &why)
     }
 
     /// Keeps the file of a mail among the claimed ones, for the next run, and writes a line about it. A letter has one line.

@@ -19,7 +19,7 @@ use ill_files::shelf::{Shelf, names_of_desks, refuse_retired};
 use ill_mailbox::fault_lines::{NO_BOX, NO_RUN, NOT_READ};
 use ill_mailbox::host_room::remove_runs;
 use ill_mailbox::mail::{Mails, Source, begin_run, claim_mails, new_run};
-use ill_mailbox::mail_box::{MailBox, give_back, open_box, remove_if_there};
+use ill_mailbox::mail_box::{ClaimedMail, MailBox, give_back, open_box, remove_if_there};
 use ill_mailbox::reserved::is_within;
 use ill_night::message::message_in;
 use ill_night::verdict::Mail;
@@ -316,15 +316,19 @@ impl<T: LockFiles> Sorting<'_, T> {
             Some(bytes) => self.sort_bytes(mail, bytes, file.as_str(), errors),
             None => {
                 self.leave(&mail.name, NOT_READ_NOW, errors);
-                give_back(
-                    self.rt,
-                    self.alloc,
-                    self.sources.from.folder,
-                    file.as_str(),
-                    &mail.name,
-                )
+                self.give_back(mail, file.as_str())
             }
         }
+    }
+
+    /// Gives a mail back to the folder from which it was claimed.
+    fn give_back(&self, mail: &Mail, file: &str) -> io::Result<()> {
+        let claimed = ClaimedMail {
+            file,
+            folder: self.sources.from.folder,
+            name: &mail.name,
+        };
+        give_back(self.rt, self.alloc, claimed)
     }
 
     /// Sorts a mail with these bytes. Bytes that are no message are for the shelf's own desk.
@@ -363,13 +367,7 @@ impl<T: LockFiles> Sorting<'_, T> {
             }
             Route::Back => {
                 self.tell_back(mail, home, desk, errors)?;
-                give_back(
-                    self.rt,
-                    self.alloc,
-                    self.sources.from.folder,
-                    file,
-                    &mail.name,
-                )
+                self.give_back(mail, file)
             }
             Route::Gone => {
                 self.answer(mail, message, desk.as_str(), errors)?;

@@ -1,0 +1,42 @@
+//! Folders that belong to the owner of a desk alone.
+
+use ill_files::durable::Owner;
+use std::fs::DirBuilder;
+use std::io::ErrorKind;
+use std::os::unix::fs::{DirBuilderExt, PermissionsExt};
+use std::rt::Files;
+use std::{fs, io};
+
+/// Makes the folder at `path`, which only the owner of the file `original` may enter, if it does not exist. A folder that
+/// others may enter is a fault.
+pub fn open_own_folder<T: Files>(rt: &T, path: &str, original: &str) -> io::Result<()> {
+    make_own_folder(rt, path, Owner::of(&fs::symlink_metadata(rt, original)?))
+}
+
+/// Makes a folder that only its owner may enter, if it does not exist. A folder that others may enter is a fault.
+pub(crate) fn make_own_folder<T: Files>(rt: &T, path: &str, owner: Owner) -> io::Result<()> {
+    make_folder(rt, path, owner)?;
+    let found = fs::symlink_metadata(rt, path)?;
+    if found.permissions().mode() & 0o077 == 0 {
+        Ok(())
+    } else {
+        Err(ErrorKind::PermissionDenied.into())
+    }
+}
+
+/// Makes a folder for its owner alone, if it does not exist. A link to a folder is a fault.
+pub(crate) fn make_folder<T: Files>(rt: &T, path: &str, owner: Owner) -> io::Result<()> {
+    match fs::symlink_metadata(rt, path) {
+        Ok(found) if found.is_dir() => Ok(()),
+        Ok(_) => Err(ErrorKind::AlreadyExists.into()),
+        Err(error) if error.kind() == ErrorKind::NotFound => make_new_folder(rt, path, owner),
+        Err(error) => Err(error),
+    }
+}
+
+/// Makes a folder for its owner alone. If something is at `path`, that is a fault.
+pub(crate) fn make_new_folder<T: Files>(rt: &T, path: &str, owner: Owner) -> io::Result<()> {
+    DirBuilder::new().mode(0o700).create(rt, path)?;
+    owner.take(rt, path);
+    Ok(())
+}

@@ -1,0 +1,216 @@
+//! Mails in files of the host's, as a disk: the only place here that names the calls which settle and send a mail.
+
+ghost use Rattle.ill_mailbox.specs.HostMails.{host_mails};
+
+use crate::folders::make_folder;
+use ill_disk::{Disk, DiskFault, HostDisk, regular_file};
+use ill_files::durable::{Owner, flush};
+use ill_files::paths::folder_of;
+use ill_mail_disk::{Found, MailDisk};
+use std::alloc::Global;
+use std::fs::{Metadata, OpenOptions};
+use std::io::{ErrorKind, Write};
+use std::os::unix::fs::{MetadataExt, OpenOptionsExt};
+use std::rt::Files;
+use std::{fs, io, mem, str};
+
+/// The files of mails on the host. A path of a call is a path of the host's.
+///
+/// A new file is kept open from its making to its flush. So a flush is one of the file that was made.
+///
+/// No contract says what a folder of the host's has, so this disk is not honest. docs/STORES.md says, call by call, what the
+/// host has to do.
+#[derive(Drop)]
+pub struct HostMails<'r, T: Files> {
+    rt: &'r T,
+    alloc: Global,
+    /// The owner of what is made, who alone may read it. Without one it is as the user makes it.
+    owner: Option<Owner>,
+    /// The file that was made, until it is flushed.
+    made: Option<Made<T::File>>,
+}
+
+/// A file that was made at a path, and is open.
+#[derive(Drop)]
+struct Made<F> {
+    path: String,
+    file: F,
+}
+
+impl<'r, T: Files> HostMails<'r, T> {
+    /// Returns the files of mails. What is made belongs to `owner`, if there is one. Touches no file.
+    pub fn at(rt: &'r T, alloc: Global, owner: Option<Owner>) -> HostMails<'r, T> {
+        HostMails {
+            rt,
+            alloc,
+            owner,
+            made: None,
+        }
+    }
+
+    /// Makes a file of `bytes` at a free path, and keeps it open.
+    fn create(&mut self, path: &str, bytes: &[u8]) -> io::Result<()> {
+        let place = String::from_str(self.alloc, path)?;
+        let mut options = OpenOptions::new();
+        options.write(true);
+        options.create_new(true);
+        if self.owner.is_some() {
+            options.mode(0o600);
+        }
+        let mut file = options.open(self.rt, path)?;
+        file.write_all(bytes)?;
+        if let Some(owner) = self.owner {
+            owner.take(self.rt, path);
+        }
+        self.made = Some(Made { path: place, file });
+        Ok(())
+    }
+
+    /// Flushes the file at `path`, which was made or is opened for it.
+    fn flush_at(&mut self, path: &str) -> io::Result<()> {
+        match mem::replace(&mut self.made, None) {
+            Some(made) if made.path.as_str() == path => flush(&made.file),
+            _ => self.flush_unopened(path),
+        }
+    }
+
+    /// Opens the file at `path`, and flushes it.
+    fn flush_unopened(&self, path: &str) -> io::Result<()> {
+        match regular_file::open(self.rt, path)? {
+            Some((file, _)) => flush(&file),
+            None => Err(ErrorKind::NotFound.into()),
+        }
+    }
+
+    /// Flushes the folder of `path`. It counts as flushed if this user may not read it.
+    fn flush_folder(&self, path: &str) -> io::Result<()> {
+        match fs::open(self.rt, folder_of(path)) {
+            Ok(folder) => flush(&folder),
+            Err(error) if error.kind() == ErrorKind::PermissionDenied => Ok(()),
+            Err(error) => Err(error),
+        }
+    }
+
+    /// Makes the folder `path` for the owner of what is made, if it does not exist. Without an owner that is a fault.
+    fn make_own(&self, path: &str) -> io::Result<()> {
+        match self.owner {
+            Some(owner) => make_folder(self.rt, path, owner),
+            None => Err(ErrorKind::Unsupported.into()),
+        }
+    }
+}
+
+/// Returns the path that these bytes encode.
+fn text_of(path: &[u8]) -> Result<&str, DiskFault> {
+    match str::from_utf8(path) {
+        Ok(path) => Ok(path),
+        Err(_) => Err(DiskFault::Failed),
+    }
+}
+
+/// Returns the fault of a call for the error of the host.
+fn fault_of(error: &io::Error) -> DiskFault {
+    match error.kind() {
+        ErrorKind::NotFound => DiskFault::NotFound,
+        ErrorKind::OutOfMemory => DiskFault::OutOfMemory,
+        _ => DiskFault::Failed,
+    }
+}
+
+/// Returns the answer of a call for that of the host.
+fn answer_of(answer: io::Result<()>) -> Result<(), DiskFault> {
+    match answer {
+        Ok(()) => Ok(()),
+        Err(error) => Err(fault_of(&error)),
+    }
+}
+
+/// Returns the error of the host for the fault of a call.
+pub(crate) fn error_of(fault: DiskFault) -> io::Error {
+    match fault {
+        DiskFault::OutOfMemory => ErrorKind::OutOfMemory.into(),
+        DiskFault::Failed | DiskFault::NotFound | DiskFault::TooLarge => ErrorKind::Other.into(),
+    }
+}
+
+/// Returns the size of a file. Anything but a regular file has the greatest, so it is taken for no file of mails.
+fn size_of(found: &Metadata) -> u64 {
+    if found.is_file() {
+        found.len()
+    } else {
+        u64::MAX
+    }
+}
+
+/// Returns the number of a file: that of its device, and its own on the device.
+fn number_of(found: &Metadata) -> u128 {
+    (u128::from(found.dev()) << 64) | u128::from(found.ino())
+}
+
+/// Each call is that of the system. `read` and `look_up` are those of a record in a file.
+impl<'r, T: Files> Disk for HostMails<'r, T> {
+    ghost state = { λ _. host_mails };
+
+    fn read(
+        &mut self,
+        alloc: Global,
+        path: &[u8],
+        limit: usize,
+    ) -> Result<Option<Vec<u8>>, DiskFault> {
+        HostDisk::at(self.rt, alloc, text_of(path)?)?.read(alloc, path, limit)
+    }
+
+    fn look_up(&mut self, path: &[u8]) -> Result<(), DiskFault> {
+        HostDisk::at(self.rt, self.alloc, text_of(path)?)?.look_up(path)
+    }
+
+    fn create_new(&mut self, path: &[u8], bytes: &[u8]) -> Result<(), DiskFault> {
+        answer_of(self.create(text_of(path)?, bytes))
+    }
+
+    fn flush(&mut self, path: &[u8]) -> Result<(), DiskFault> {
+        answer_of(self.flush_at(text_of(path)?))
+    }
+
+    fn rename(&mut self, from: &[u8], to: &[u8]) -> Result<(), DiskFault> {
+        answer_of(fs::rename(self.rt, text_of(from)?, text_of(to)?))
+    }
+
+    fn remove(&mut self, path: &[u8]) -> Result<(), DiskFault> {
+        answer_of(fs::remove_file(self.rt, text_of(path)?))
+    }
+
+    /// No folder has all names.
+    fn flush_names(&mut self) -> Result<(), DiskFault> {
+        Err(DiskFault::Failed)
+    }
+}
+
+impl<'r, T: Files> MailDisk for HostMails<'r, T> {
+    fn find(&mut self, path: &[u8]) -> Result<Option<Found>, DiskFault> {
+        match fs::symlink_metadata(self.rt, text_of(path)?) {
+            Ok(found) => Ok(Some(Found {
+                file: number_of(&found),
+                size: size_of(&found),
+            })),
+            Err(error) if error.kind() == ErrorKind::NotFound => Ok(None),
+            Err(error) => Err(fault_of(&error)),
+        }
+    }
+
+    fn link(&mut self, from: &[u8], to: &[u8]) -> Result<(), DiskFault> {
+        answer_of(fs::hard_link(self.rt, text_of(from)?, text_of(to)?))
+    }
+
+    fn flush_name(&mut self, path: &[u8]) -> Result<(), DiskFault> {
+        answer_of(self.flush_folder(text_of(path)?))
+    }
+
+    fn make_folder(&mut self, path: &[u8]) -> Result<(), DiskFault> {
+        answer_of(self.make_own(text_of(path)?))
+    }
+
+    fn remove_folder(&mut self, path: &[u8]) -> Result<(), DiskFault> {
+        answer_of(fs::remove_dir(self.rt, text_of(path)?))
+    }
+}

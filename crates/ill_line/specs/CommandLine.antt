@@ -15,7 +15,7 @@ use Rattle.ill_line.specs.declared.command_line.Argument.TheVariants.{Out, Night
 use Rattle.ill_line.specs.declared.command_line.Argument.TheVariants.{By, DryRun, Seen}
 use Rattle.ill_line.specs.declared.command_line.Argument.TheVariants.{Actions, Last, Since, Title, NoteWords, Find, Notes}
 use Rattle.ill_line.specs.declared.command_line.Argument.TheVariants.{SinceWhen, NightKey}
-use Rattle.ill_line.specs.declared.command_line.Argument.TheVariants.{KeyFile, ShowKey, ReadKey, From, To, Csv}
+use Rattle.ill_line.specs.declared.command_line.Argument.TheVariants.{KeyFile, ShowKey, ReadKey, From, To, Csv, Explain}
 use Rattle.ill_line.specs.declared.command_line.Argument.TheVariants as arguments
 
 -- Returns the word of a command on the command line.
@@ -101,6 +101,7 @@ id_of NightKey = codes "key"
 id_of KeyFile = codes "KEYFILE"
 id_of ShowKey = codes "show"
 id_of ReadKey = codes "read"
+id_of Explain = codes "explain"
 
 -- All options of the program.
 abbrev pub options : List (List ℕ)

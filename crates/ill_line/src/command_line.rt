@@ -4,8 +4,10 @@ ghost use Rattle.std.specs.Prelude.{◌≡◌, bytes_eq};
 ghost use Rattle.std.specs.List.{list_any};
 ghost use Rattle.ill_line.specs.CommandLine.{word_of, name_read, id_of, is_option, name_in};
 
+use crate::entry::Entry;
 use crate::help;
-use clap::{Arg, ArgAction, Command, Error};
+use crate::shape::Shape;
+use clap::{Arg, Command, Error};
 use std::alloc::Global;
 
 /// A command of `ill`.
@@ -35,12 +37,15 @@ pub enum Name {
     SimulateDesks,
 }
 
+/// The line of the purpose of `ill`.
+pub(crate) const ABOUT: &str = "Interlibrary loan by store-and-forward messages";
+
 /// The word before the commands on a shelf.
 pub const SHELF: &str = "shelf";
 
 /// All commands, in the order of the help. First come the commands for staff, then the commands for the exchange with
 /// other libraries. The last are for looking inside, and one is for shelves alone. `clap` has these and no others.
-const NAMES: [Name; 22] = [
+pub(crate) const NAMES: [Name; 22] = [
     Name::New,
     Name::Act,
     Name::List,
@@ -66,7 +71,7 @@ const NAMES: [Name; 22] = [
 ];
 
 /// The commands on a shelf.
-const SHELF_NAMES: [Name; 12] = [
+pub(crate) const SHELF_NAMES: [Name; 12] = [
     Name::New,
     Name::Act,
     Name::Loan,
@@ -113,7 +118,7 @@ impl Name {
     }
 
     /// Returns the line of its purpose.
-    fn about<'a>(self) -> &'a str {
+    pub(crate) fn about<'a>(self) -> &'a str {
         match self {
             Name::New => "Begin a desk of one role, in a file",
             Name::Act => "Perform one action in a loan, and save it",
@@ -141,7 +146,7 @@ impl Name {
     }
 
     /// Returns the text of its help.
-    fn help<'a>(self) -> &'a str {
+    pub(crate) fn help<'a>(self) -> &'a str {
         match self {
             Name::New => help::NEW,
             Name::Act => help::ACT,
@@ -169,7 +174,7 @@ impl Name {
     }
 
     /// Returns the example below its help.
-    fn example<'a>(self) -> &'a str {
+    pub(crate) fn example<'a>(self) -> &'a str {
         match self {
             Name::New => help::NEW_EXAMPLE,
             Name::Act => help::ACT_EXAMPLE,
@@ -300,12 +305,12 @@ impl Name {
     }
 
     /// Returns true if the command is only for shelves.
-    fn is_of_shelves(self) -> bool {
+    pub(crate) fn is_of_shelves(self) -> bool {
         matches!(self, Name::Retire)
     }
 
     /// Returns the line of its purpose on a shelf.
-    fn about_shelf<'a>(self) -> &'a str {
+    pub(crate) fn about_on_shelf<'a>(self) -> &'a str {
         match self {
             Name::New => "Begin a shelf of one role, in a folder",
             Name::Act => "Perform one action in a loan, at the desk of its group",
@@ -319,8 +324,24 @@ impl Name {
         }
     }
 
+    /// Returns the example below its help on a shelf, if there is one.
+    pub(crate) fn example_on_shelf<'a>(self) -> Option<&'a str> {
+        match self {
+            Name::Retire => Some(help::RETIRE_EXAMPLE),
+            _ => None,
+        }
+    }
+
+    /// Returns the arguments that it has on a shelf alone.
+    pub(crate) fn arguments_on_shelf<'a>(self) -> &'a [Argument] {
+        match self {
+            Name::Act => &[Argument::NewGroup],
+            _ => &[],
+        }
+    }
+
     /// Returns the text of its help on a shelf.
-    fn help_on_shelf<'a>(self) -> &'a str {
+    pub(crate) fn help_on_shelf<'a>(self) -> &'a str {
         match self {
             Name::New => help::SHELF_NEW,
             Name::Act => help::SHELF_ACT,
@@ -445,6 +466,9 @@ pub enum Argument {
     ShowKey,
     /// Set if a key is read from the input.
     ReadKey,
+    /// Set if more is told of a fault. Each command has it, and it is no global option of `clap`: of matches with one the
+    /// contracts of `clap` say nothing.
+    Explain,
 }
 
 impl Argument {
@@ -495,10 +519,11 @@ impl Argument {
             Argument::KeyFile => "KEYFILE",
             Argument::ShowKey => "show",
             Argument::ReadKey => "read",
+            Argument::Explain => "explain",
         }
     }
 
-    /// Returns its line in the help.
+    /// Returns its line in the help of a command for one desk.
     fn help<'a>(self) -> &'a str {
         match self {
             Argument::NewFile => "The file of the desk, which must not be there yet",
@@ -550,87 +575,105 @@ impl Argument {
             Argument::KeyFile => "The file of the key",
             Argument::ShowKey => "Write the key in groups, for the other library",
             Argument::ReadKey => "Read the key in groups on standard input",
+            Argument::Explain => "Say more of what is wrong",
         }
     }
 
-    /// Returns the argument for `clap`. All but the options and the flags are required.
-    fn arg<'a>(self, alloc: Global) -> Arg<'a> {
-        let arg = Arg::new(alloc, self.id()).help(self.help());
+    /// Returns its shape on the command line.
+    pub(crate) fn shape<'a>(self) -> Shape<'a> {
         match self {
-            Argument::Today | Argument::OnDay | Argument::NightDay => valued(arg, "today", "DAY"),
-            Argument::By => valued(arg, "by", "NAME"),
-            Argument::Seen => valued(arg, "seen", "TEXT"),
-            Argument::DryRun => arg.long("dry-run").action(ArgAction::SetTrue),
-            Argument::Copy => arg.long("copy").value_name("FILE"),
-            Argument::Beat => arg.long("beat").value_name("FILE"),
-            Argument::OutFolder => arg,
-            Argument::Stream => arg.long("stream").action(ArgAction::SetTrue),
-            Argument::Overdue => arg.long("overdue").action(ArgAction::SetTrue),
-            Argument::Expire => arg.long("expire").action(ArgAction::SetTrue),
-            Argument::Ahead => valued(arg, "ahead", "DAYS"),
-            Argument::DueBefore => valued(arg, "due-before", "DAY"),
-            Argument::InState => valued(arg, "state", "STATE"),
-            Argument::Find => valued(arg, "find", "WORDS"),
-            Argument::Since => valued(arg, "since", "DAY"),
-            Argument::Last => valued(arg, "last", "N"),
-            Argument::ReportDay => valued(arg, "today", "DAY").required(true),
-            Argument::From => valued(arg, "from", "DAY").required(true),
-            Argument::To => valued(arg, "to", "DAY").required(true),
-            Argument::Csv => arg.long("csv").action(ArgAction::SetTrue),
-            Argument::Paths => arg.required(true).action(ArgAction::Append).num_args(1..),
-            Argument::Words | Argument::NoteWords => arg
-                .required(true)
-                .action(ArgAction::Append)
-                .num_args(1..)
-                .allow_hyphen_values(true)
-                .trailing_var_arg(true),
-            Argument::Number => arg.required(true).allow_hyphen_values(true),
-            Argument::Long | Argument::Title => arg.long("long").action(ArgAction::SetTrue),
-            Argument::Keep => arg.long("keep").action(ArgAction::SetTrue),
-            Argument::Picture => arg.long("picture").action(ArgAction::SetTrue),
-            Argument::Open => arg.long("open").action(ArgAction::SetTrue),
-            Argument::Mine => arg.long("mine").action(ArgAction::SetTrue),
-            Argument::Actions => arg.long("actions").action(ArgAction::SetTrue),
-            Argument::Notes => arg.long("notes").action(ArgAction::SetTrue),
-            Argument::SinceWhen => arg.long("since-when").action(ArgAction::SetTrue),
-            Argument::Json => arg.long("json").action(ArgAction::SetTrue),
-            Argument::NewGroup => arg.long("new-group").action(ArgAction::SetTrue),
-            Argument::Key | Argument::NightKey => arg.long("key").value_name("KEYFILE"),
-            Argument::ShowKey => arg.long("show").action(ArgAction::SetTrue),
-            Argument::ReadKey => arg.long("read").action(ArgAction::SetTrue),
-            _ => arg.required(true),
+            Argument::NewFile
+            | Argument::File
+            | Argument::Folder
+            | Argument::In
+            | Argument::Out
+            | Argument::Role
+            | Argument::Group
+            | Argument::Transaction
+            | Argument::KeyFile => Shape::Word,
+            Argument::OutFolder => Shape::OptionalWord,
+            Argument::Number => Shape::AnyWord,
+            Argument::Paths => Shape::Words,
+            Argument::Words | Argument::NoteWords => Shape::Rest,
+            Argument::Today
+            | Argument::OnDay
+            | Argument::NightDay
+            | Argument::DueBefore
+            | Argument::Since => Shape::Valued("DAY"),
+            Argument::ReportDay | Argument::From | Argument::To => Shape::RequiredValue("DAY"),
+            Argument::By => Shape::Valued("NAME"),
+            Argument::Seen => Shape::Valued("TEXT"),
+            Argument::Find => Shape::Valued("WORDS"),
+            Argument::Ahead => Shape::Valued("DAYS"),
+            Argument::InState => Shape::Valued("STATE"),
+            Argument::Last => Shape::Valued("N"),
+            Argument::Copy | Argument::Beat => Shape::Path("FILE"),
+            Argument::Key | Argument::NightKey => Shape::Path("KEYFILE"),
+            Argument::Stream
+            | Argument::Overdue
+            | Argument::Expire
+            | Argument::DryRun
+            | Argument::Title
+            | Argument::Long
+            | Argument::Keep
+            | Argument::Picture
+            | Argument::Open
+            | Argument::Mine
+            | Argument::Actions
+            | Argument::Notes
+            | Argument::SinceWhen
+            | Argument::Json
+            | Argument::Csv
+            | Argument::NewGroup
+            | Argument::ShowKey
+            | Argument::ReadKey
+            | Argument::Explain => Shape::Flag,
         }
     }
-}
 
-impl Argument {
-    /// Returns the argument for `clap` in a command on a shelf.
-    fn arg_on_shelf<'a>(self, alloc: Global) -> Arg<'a> {
+    /// Returns the word that stands for it, or for its value, in a command on a shelf. Returns none if that is the word
+    /// for one desk.
+    fn value_on_shelf<'a>(self) -> Option<&'a str> {
         match self {
-            Argument::NewFile => Arg::new(alloc, self.id())
-                .value_name("DIR")
-                .help("The folder of the shelf, which is made if it is missing")
-                .required(true),
-            Argument::File => Arg::new(alloc, self.id())
-                .value_name("DIR")
-                .help("The folder of the shelf")
-                .required(true),
-            Argument::Copy => self
-                .arg(alloc)
-                .value_name("FOLDER")
-                .help("Copy each desk into this folder before it sends"),
-            _ => self.arg(alloc),
+            Argument::NewFile | Argument::File => Some("DIR"),
+            Argument::Copy => Some("FOLDER"),
+            _ => None,
         }
     }
-}
 
-/// Returns an option with a value.
-fn valued<'a>(arg: Arg<'a>, name: &'a str, value: &'a str) -> Arg<'a> {
-    arg.long(name).value_name(value).allow_hyphen_values(true)
+    /// Returns the word that stands for it, or for its value, if it has one. `is_on_shelf` is true of a command on a shelf.
+    pub(crate) fn value<'a>(self, is_on_shelf: bool) -> Option<&'a str> {
+        match self.value_on_shelf() {
+            Some(value) if is_on_shelf => Some(value),
+            _ => self.shape().value(self.id()),
+        }
+    }
+
+    /// Returns its line in the help of a command. `is_on_shelf` is true of a command on a shelf.
+    pub(crate) fn line<'a>(self, is_on_shelf: bool) -> &'a str {
+        match self {
+            Argument::NewFile if is_on_shelf => {
+                "The folder of the shelf, which is made if it is missing"
+            }
+            Argument::File if is_on_shelf => "The folder of the shelf",
+            Argument::Copy if is_on_shelf => "Copy each desk into this folder before it sends",
+            _ => self.help(),
+        }
+    }
+
+    /// Returns the argument for `clap`. `is_on_shelf` is true of a command on a shelf.
+    fn arg<'a>(self, alloc: Global, is_on_shelf: bool) -> Arg<'a> {
+        let arg = Arg::new(alloc, self.id()).help(self.line(is_on_shelf));
+        let arg = match self.value(is_on_shelf) {
+            Some(value) => arg.value_name(value),
+            None => arg,
+        };
+        self.shape().shaped(arg, self.id())
+    }
 }
 
 /// All options of the program, also those that `clap` adds.
-const OPTIONS: [&str; 36] = [
+pub(crate) const OPTIONS: [&str; 36] = [
     "--today",
     "--by",
     "--seen",
@@ -696,65 +739,48 @@ fn is_among(name: &str, names: &[&str]) -> bool
 /// Returns the command line of `ill`.
 pub fn command<'a>(alloc: Global) -> Result<Command<'a>, Error> {
     let mut command = Command::new(alloc, "ill")
-        .about("Interlibrary loan by store-and-forward messages")
+        .about(ABOUT)
         .version(help::VERSION)
         .subcommand_required(true)
         .after_long_help(help::ILL)
-        .arg(explain(alloc))?;
+        .arg(Argument::Explain.arg(alloc, false))?;
     for name in NAMES.iter().filter(|name| !name.is_of_shelves()) {
-        command = command.subcommand(subcommand(alloc, *name)?)?;
+        command = command.subcommand(subcommand(alloc, &Entry::of(*name))?)?;
     }
     Ok(command.subcommand(shelf(alloc)?)?)
 }
 
-/// Returns the option `--explain`, which asks for more lines on a fault. Each command has it, and it is no global option
-/// of `clap`: of matches with one the contracts of `clap` say nothing.
-fn explain<'a>(alloc: Global) -> Arg<'a> {
-    Arg::new(alloc, "explain")
-        .long("explain")
-        .help("Say more of what is wrong")
-        .action(ArgAction::SetTrue)
-}
-
-/// Returns the command line of the command `name`.
-fn subcommand<'a>(alloc: Global, name: Name) -> Result<Command<'a>, Error> {
-    let mut command = Command::new(alloc, name.word())
-        .about(name.about())
-        .long_about(name.help())
-        .after_long_help(name.example());
-    for argument in name.arguments() {
-        command = command.arg(argument.arg(alloc))?;
-    }
-    Ok(command.arg(explain(alloc))?)
-}
-
 /// Returns the command line of the commands on a shelf.
 fn shelf<'a>(alloc: Global) -> Result<Command<'a>, Error> {
-    let mut command = Command::new(alloc, SHELF)
-        .about("Keep a folder of desks, one for each group of loans")
-        .subcommand_required(true)
-        .long_about(help::SHELF)
-        .after_long_help(help::SHELF_EXAMPLE)
-        .arg(explain(alloc))?;
+    let mut command = subcommand(alloc, &Entry::SHELF)?.subcommand_required(true);
     for name in &SHELF_NAMES {
-        command = command.subcommand(shelf_subcommand(alloc, *name)?)?;
+        command = command.subcommand(subcommand(alloc, &Entry::on_shelf(*name))?)?;
     }
     Ok(command)
 }
 
-/// Returns the command line of the command `name` on a shelf. It takes the folder of the shelf instead of the file of a
-/// desk.
-fn shelf_subcommand<'a>(alloc: Global, name: Name) -> Result<Command<'a>, Error> {
-    let mut command = Command::new(alloc, name.word())
-        .about(name.about_shelf())
-        .long_about(name.help_on_shelf());
-    for argument in name.arguments() {
-        command = command.arg(argument.arg_on_shelf(alloc))?;
+/// Returns the command line of a command.
+fn subcommand<'a>(alloc: Global, entry: &Entry<'a>) -> Result<Command<'a>, Error> {
+    let mut command = Command::new(alloc, entry.word)
+        .about(entry.about)
+        .long_about(entry.help);
+    if let Some(example) = entry.example {
+        command = command.after_long_help(example);
     }
-    command = match name {
-        Name::Act => command.arg(Argument::NewGroup.arg(alloc))?,
-        Name::Retire => command.after_long_help(name.example()),
-        _ => command,
-    };
-    Ok(command.arg(explain(alloc))?)
+    command = with_arguments(alloc, command, entry.arguments, entry.is_on_shelf)?;
+    command = with_arguments(alloc, command, entry.further, entry.is_on_shelf)?;
+    Ok(command.arg(Argument::Explain.arg(alloc, false))?)
+}
+
+/// Returns the command line of a command with these arguments after its others.
+fn with_arguments<'a>(
+    alloc: Global,
+    mut command: Command<'a>,
+    arguments: &[Argument],
+    is_on_shelf: bool,
+) -> Result<Command<'a>, Error> {
+    for argument in arguments {
+        command = command.arg(argument.arg(alloc, is_on_shelf))?;
+    }
+    Ok(command)
 }

@@ -2,6 +2,8 @@
 #![tactic(auto)]
 
 pub mod command_line;
+mod entry;
 pub mod guard;
 mod help;
 pub mod request;
+mod shape;

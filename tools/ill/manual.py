@@ -1,9 +1,10 @@
-"""Compares the man page and the completions with the built program; tools/texts writes both from the sources.
+"""Compares the man page, the completions and tools/ill/help.jsonl with the built program.
 
-It compares the usages of the man page with those that the program prints. It renders the page, if
-man is installed. It asks bash, zsh and fish themselves what they offer, and says which of them it had: zsh and fish are
-asked if they are installed. It performs the examples of the help and of the man page. It prints a line for each
-comparison, and what is in one and not in the other; exit 1 if one fails.
+The last has to be what the program prints; tools/texts writes the others from it. It compares the usages of the man page
+with those that the program prints. It renders the page, if man is installed. It asks bash, zsh and fish themselves what
+they offer, and says which of them it had: zsh and fish are asked if they are installed. It performs the examples of the
+help and of the man page. It prints a line for each comparison, and what is in one and not in the other; exit 1 if one
+fails.
 """
 import collections
 import os
@@ -12,13 +13,13 @@ import shlex
 import shutil
 import subprocess
 
-from ill import harness
+from ill import command_line, harness
 from ill.harness import read, write
 
 REPORT = harness.Report()
 MAN = os.path.join(harness.TOP, "man", "ill.1")
 COMPLETIONS = os.path.join(harness.TOP, "completions")
-STATES = os.path.join(harness.TOP, "crates", "ill_core", "src", "state.rt")
+TOLD = os.path.join(harness.TOP, command_line.FILE)
 WIDTH = 80
 EXPLAIN = "--explain"
 ROLES = ("requester", "responder")
@@ -114,6 +115,15 @@ def tell_only(who, lines):
     """Prints what only one has."""
     for line in sorted(lines):
         print(f"only {who} has: {line}", flush=True)
+
+
+# ---- The command line, as the program tells it
+
+def compare_told(ill):
+    """Compares tools/ill/help.jsonl with what the program prints. With a further word that is no command."""
+    REPORT.run("ill help --json", ill.run("help --json"), 0, read(TOLD), b"")
+    for words in ("help --json act", "help act --json", "--explain help --json"):
+        REPORT.run(f"ill {words}", ill.run(words), 2, b"", "error: unrecognized subcommand '--json'\n")
 
 
 # ---- The man page
@@ -302,8 +312,7 @@ class Offers:
         for command in ("list", "news", "report"):
             self.offers(f"ill {command} fol", "folder")
         self.offers("ill report --today ")
-        states = [match[1] for match in found(r'^ *State::.* => "(.*)",$', text_of(STATES).splitlines())]
-        self.offers("ill list one --state ", *states)
+        self.offers("ill list one --state ", *command_line.words_of("state"))
         self.offers("ill take --long ", *self.files)
         self.all_offer(("take --key", "take one --key", "send one G1 T1 1 --key", "key --show"), *self.files)
 
@@ -542,6 +551,7 @@ def main(program):
     os.environ.update(PATH=f"{os.getcwd()}/bin:{os.environ['PATH']}", LC_ALL="C")
     ill = harness.Program(program)
     ill.path = os.path.abspath("bin/ill")
+    compare_told(ill)
     known, page = Help(ill), Page()
     compare_page(known, page)
     render_page()

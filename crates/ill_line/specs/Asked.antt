@@ -483,6 +483,13 @@ abbrev pub asked_in : Option (Text × Found) → Option Asked
 asked_in None = None
 asked_in (Some said) = asked_by said.0 said.1
 
+-- ---- the command line itself
+
+-- Returns true if the words of a command line ask for the command line itself. The first is the name of the program.
+abbrev pub asks_for_help : List (List ℕ) → Bool
+asks_for_help (program ∷ command ∷ form ∷ []) = bytes_eq command (codes "help") && bytes_eq form (codes "--json")
+asks_for_help words = false
+
 -- ---- options among the words of an action or of a note
 
 -- Returns true if `word` is `--`, after which no word is an option.

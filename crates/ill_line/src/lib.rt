@@ -2,6 +2,7 @@
 #![tactic(auto)]
 
 pub mod command_line;
+pub mod described;
 mod entry;
 pub mod guard;
 mod help;

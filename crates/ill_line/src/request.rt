@@ -1,15 +1,16 @@
 //! The requests of command lines, which are read before any file is opened.
 
-ghost use Rattle.std.specs.Prelude.{◌≡◌, true, is_none, map, option_map};
+ghost use Rattle.std.specs.Prelude.{◌≡◌, true, Ok, is_none, map, option_map};
 ghost use Rattle.std.specs.List.{list_any};
 ghost use Rattle.ill_values.specs.TxnId.{txn_id_of};
 ghost use Rattle.clap.specs.Words.{found_of, rows_of, subcommand_rows_of};
 ghost use Rattle.ill_line.specs.CommandLine.{is_option};
+ghost use Rattle.ill_line.specs.declared.request.Call.TheVariants.{Help};
 ghost use Rattle.ill_line.specs.declared.request.Refusal.TheVariants.{Usage, Fault};
 ghost use Rattle.ill_text.specs.declared.fault.ToolFault.TheVariants.{OutOfMemory};
 ghost use Rattle.ill_line.specs.declared.command_line.Name.TheVariants as names;
 ghost use Rattle.ill_text.specs.Diary.{stamped};
-ghost use Rattle.ill_line.specs.Asked.{dates_and_stamp_of, day_and_name_of, name_in, stamp_if, stamp_of, GivesId, ReadsValue, IsRefusal, asked_by, asked_in, asked_of, text_of, texts_of, role_of, loan_of, group_of, new_file_of, day_in, last_in, state_in, number_of_message, dates_of, outlet_of, is_set, which_of, form_of, wanted_of, wanted_on, ahead_in, due_in, day_or_days, days_on, day_given, span_of, asked, desk_at_stake, end_with_dashes, has_option, note_words_of, said_free, unless_option, deed_by, key_of_outlet};
+ghost use Rattle.ill_line.specs.Asked.{asks_for_help, dates_and_stamp_of, day_and_name_of, name_in, stamp_if, stamp_of, GivesId, ReadsValue, IsRefusal, asked_by, asked_in, asked_of, text_of, texts_of, role_of, loan_of, group_of, new_file_of, day_in, last_in, state_in, number_of_message, dates_of, outlet_of, is_set, which_of, form_of, wanted_of, wanted_on, ahead_in, due_in, day_or_days, days_on, day_given, span_of, asked, desk_at_stake, end_with_dashes, has_option, note_words_of, said_free, unless_option, deed_by, key_of_outlet};
 
 use crate::command_line::{Argument, Name, SHELF, command, is_option};
 use clap::error::ErrorKind;
@@ -278,20 +279,43 @@ impl From<AllocError> for Refusal {
     }
 }
 
-/// The request of a command line, for one desk or for a shelf.
+/// The request of a command line, for one desk, for a shelf or for the help.
 #[derive(Drop)]
 pub enum Call<'a> {
     /// A request to one desk, or to none.
     Desk(Request<'a>),
     /// A request to a shelf: `ill shelf`.
     Shelf(Request<'a>),
+    /// A request for the command line itself, as objects of JSON: `ill help --json`.
+    Help,
 }
 
 /// The word after which no word is an option.
 pub const DASHES: &str = "--";
 
 /// Reads the words of a command line. The first word is the name of the program.
-pub fn read_words<'a>(alloc: Global, words: &'a [&'a str]) -> Result<Call<'a>, Refusal> {
+pub fn read_words<'a>(alloc: Global, words: &'a [&'a str]) -> Result<Call<'a>, Refusal>
+    ensures { asks_for_help (map (λ word. word.now) words.now) ≡ true → result ≡ Ok Help }
+{
+    if asks_for_help(words) {
+        return Ok(Call::Help);
+    }
+    parsed(alloc, words)
+}
+
+/// Returns true if `words` ask for the command line itself. No help tells of them: only the tools of this repository ask
+/// for it.
+fn asks_for_help(words: &[&str]) -> bool
+    ensures { result ≡ asks_for_help (map (λ word. word.now) words.now) }
+{
+    match words {
+        [_, command, form] => *command == "help" && *form == "--json",
+        _ => false,
+    }
+}
+
+/// Returns the request of the command that `clap` finds in the words of a command line.
+fn parsed<'a>(alloc: Global, words: &'a [&'a str]) -> Result<Call<'a>, Refusal> {
     let matches = command(alloc)?.try_get_matches_from(words)?;
     match matches.subcommand() {
         Some((word, matches)) if word == SHELF => Ok(Call::Shelf(read(alloc, words, matches)?)),

@@ -1,3 +1,4 @@
 pub mod ExitStatus
+pub mod Help
 pub mod Runs
 pub mod Simulate

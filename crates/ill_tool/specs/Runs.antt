@@ -14,6 +14,7 @@ use Rattle.ill_line.specs.declared.request.Call.TheVariants as calls
 use Rattle.ill_line.specs.declared.request.Refusal.{Refusal}
 use Rattle.ill_line.specs.declared.request.Refusal.TheVariants.{Usage, Fault}
 use Rattle.ill_tool.specs.ExitStatus.{IsFlushed, TellsKind, exit_status, status_of}
+use Rattle.ill_tool.specs.Help.{TellsHelp}
 use Rattle.ill_commands.specs.AtFile.{NewAtFile, ActsAtFile, ShowsFile, LoanAtFile}
 use Rattle.ill_visits.specs.Visits.{ListsPaths}
 use Rattle.ill_visits.specs.Visits.{CountsPaths, TellsPaths}
@@ -104,11 +105,13 @@ RunsShelf (asks.Exchange folder incoming outgoing form dates stamp copy beat key
 RunsShelf (asks.Retire folder group) left rest before after result = (rest ≡ left) × RetiresAtFile before after result
 RunsShelf other left rest before after result = (rest ≡ left) × (after ≡ before) × (result ≡ Err Arguments)
 
--- The command of a call has this result: for one desk behind the guard, or on a shelf.
+-- The command of a call has this result: for one desk behind the guard, on a shelf, or for the command line itself. The
+-- last reads nothing.
 abbrev pub RunsCall : Call → Option (List ℕ) → Option (List ℕ) → Option (List ℕ) → Option (List ℕ) →
     Result Bool ToolFault → Type 0
 RunsCall (calls.Desk request) = RunsGuarded (asked request)
 RunsCall (calls.Shelf request) = RunsShelf (asked request)
+RunsCall calls.Help = λ left rest before after result. (rest ≡ left) × TellsHelp before after result
 
 -- The command of a call was run, from the output `before`. `result` is its result, or the fault `Write` of the
 -- flush. Or there was no memory for the buffer of the output.

@@ -1,6 +1,8 @@
 //! The commands of `ill`: a request is run, and ends with an exit status.
 #![tactic(auto)]
 
+mod exits;
+mod help;
 mod simulate;
 mod words;
 

@@ -5,8 +5,10 @@ ghost use Rattle.ill_text.specs.declared.fault.ToolFault.TheVariants.{Write};
 ghost use Rattle.clap.specs.Values.{kind_of};
 ghost use Rattle.ill_line.specs.Asked.{asked};
 ghost use Rattle.ill_tool.specs.Runs.{EndsCall, EndsLine, EndsReading, PerformsCall, Runs, RunsCall, RunsGuarded, RunsShelf};
-ghost use Rattle.ill_tool.specs.ExitStatus.{IsFlushed, TellsKind, desk_status, exit_status, status_of};
+ghost use Rattle.ill_tool.specs.ExitStatus.{IsFlushed, TellsKind, exit_status, status_of};
 
+use crate::exits::{BAD, exit_status};
+use crate::help::tell_command_line;
 use crate::simulate::{run_simulate, run_simulate_desks};
 use clap::Error;
 use clap::error::ErrorKind;
@@ -24,7 +26,7 @@ use ill_line::request::{Call, Refusal, Request, read_words};
 use ill_mail::keyed::{exchange_with, inbox_with, outbox_with};
 use ill_mailbox::mail::Incoming;
 use ill_night::night::Night;
-use ill_saved::{DeskFault, LockFiles};
+use ill_saved::LockFiles;
 use ill_shelf::keyed::{exchange_of_shelf_with, inbox_of_shelf_with, outbox_of_shelf_with};
 use ill_shelf::on_shelf::{
     act_on_shelf, loan_on_shelf, new_shelf, note_on_shelf, retire, send_on_shelf_with,
@@ -177,7 +179,7 @@ fn perform<T: LockFiles, R: Read, W: Write, E: Write>(
     finish_writing(buffered.writer, done)
 }
 
-/// Runs the command of a call, for one desk or on a shelf.
+/// Runs the command of a call: for one desk, on a shelf, or for the command line itself.
 fn run_call<T: LockFiles, R: Read, W: Write, E: Write>(
     machine: &mut Machine<'_, T, W, E>,
     call: &Call<'_>,
@@ -189,6 +191,7 @@ fn run_call<T: LockFiles, R: Read, W: Write, E: Write>(
     match call {
         Call::Desk(request) => run_guarded(machine, request, reader),
         Call::Shelf(request) => run_on_shelf(machine, request, reader),
+        Call::Help => tell_command_line(machine),
     }
 }
 
@@ -454,28 +457,15 @@ fn help<W: Write>(error: &Error, writer: &mut W) -> Result<bool, ToolFault>
     Ok(true)
 }
 
-/// The exit status if the command was refused, or a message was refused or in conflict.
-const REFUSED: u8 = 1;
-
-/// The exit status if the arguments, the input or the record are invalid.
-const BAD: u8 = 2;
-
-/// The exit status if a file, a stream or memory failed, or if mails are left.
-const FAILED: u8 = 3;
-
 /// Writes the line of a fault, if there is one, and returns the exit status.
 fn finish<E: Write>(outcome: Result<bool, ToolFault>, errors: &mut E) -> u8
     ensures status { result ≡ exit_status outcome }
     ensures most { result ≤ 3 }
 {
-    match outcome {
-        Ok(true) => 0,
-        Ok(false) => REFUSED,
-        Err(fault) => {
-            write_fault(fault, errors);
-            status_after(fault)
-        }
+    if let Err(fault) = outcome {
+        write_fault(fault, errors);
     }
+    exit_status(outcome)
 }
 
 /// The greatest number of bytes in the line of a fault.
@@ -488,39 +478,4 @@ fn write_fault<E: Write>(fault: ToolFault, errors: &mut E) {
     let _ = writeln!(line, "ill: {fault}");
     let size = usize::try_from(line.position()).unwrap_or(FAULT_LINE);
     let _ = errors.write_all(line.get_ref().get(..size).unwrap_or_default());
-}
-
-/// Returns the exit status for `fault`.
-fn status_after(fault: ToolFault) -> u8
-    ensures status { result ≡ status_of fault }
-    ensures most { result ≤ 3 }
-{
-    match fault {
-        ToolFault::Arguments
-        | ToolFault::Der(_)
-        | ToolFault::TooMany
-        | ToolFault::Script(_)
-        | ToolFault::Key(_)
-        | ToolFault::NotSealed => BAD,
-        ToolFault::Desk(fault) => status_after_desk(fault),
-        ToolFault::Left | ToolFault::Read | ToolFault::Write | ToolFault::OutOfMemory => FAILED,
-    }
-}
-
-/// Returns the exit status for a fault of a desk.
-fn status_after_desk(fault: DeskFault) -> u8
-    ensures status { result ≡ desk_status fault }
-    ensures most { result ≤ 3 }
-{
-    match fault {
-        DeskFault::Core(_)
-        | DeskFault::NoSuchMessage
-        | DeskFault::NotSaved
-        | DeskFault::Exists
-        | DeskFault::NoRecord
-        | DeskFault::NoSuchTransaction
-        | DeskFault::DeskFull => REFUSED,
-        DeskFault::Bytes(_) | DeskFault::Trailing | DeskFault::Saved(_) => BAD,
-        DeskFault::Store(_) | DeskFault::OutOfMemory => FAILED,
-    }
 }

@@ -139,7 +139,7 @@ def check_targets(code, targets, place):
 
 def check_tools(text, place):
     """Each tool that a text names is there."""
-    for name in re.findall(r"(?<![\w/])tools/((?:\w+/)*[\w-]+(?:\.(?:c|py))?)", text):
+    for name in re.findall(r"(?<![\w/])tools/((?:\w+/)*[\w-]+(?:\.(?:c|py|jsonl))?)", text):
         is_there = os.path.exists(repository.full("tools", name))
         expect("tools", is_there, place, f"there is no tools/{name}")
 
@@ -372,7 +372,7 @@ def check_ways(everything):
     picture, = [block for block in re.findall(r"(?ms)^```\n(.*?)^```", read(page)) if block.startswith("definition ")]
     forms = {"definition": ("crates/*/specs/*.antt", r"(?m)^[a-z ]+ pub {} :|^pub (?:record|data) {}\b"),
              "law": ("crates/*/src/*laws.rt", r"\bpub fn {}\("), "function": ("crates/*/src/*.rt", r"\bpub fn {}[<(]"),
-             "command": ("crates/ill_line/src/command_line.rt", r'=> "{}"')}
+             "command": ("tools/ill/help.jsonl", r'"command":"{}"')}
     for kind, names in re.findall(r"\b(definition|law|function|command) {2,}([\w-]+(?:, [\w-]+)*)", picture):
         pattern, form = forms[kind]
         for name in names.split(", "):

@@ -1,11 +1,11 @@
 """Compares help, man page and explanations with the numbers, exit statuses and words of the sources.
 
-It reads the command line as the module `words` does, which writes the completions and most of the man page. It compares
+It reads the help as the module `command_line` has it, which is what the program prints. It compares
 
 - each number, in figures or as a word from two on, with the constants of the sources. Phrases with numbers stand below;
   a number in no such phrase is a fault, and so is a phrase that no text has. Of the man page it reads what is written
   by hand;
-- the status of each fault of the list of `ill --help`, and those of each command, with what the sources answer. Ends
+- the status of each fault of the list of `ill --help`, and those of each command, with what the program answers. Ends
   that all commands have, or all on a desk, are told by `ill --help` alone;
 - lists of words: roles, actions, results, outcomes, marks, lines of a script and lines of a status;
 - each word in backquotes, in capitals or with the name of a message, with the words that there are;
@@ -14,10 +14,10 @@ It reads the command line as the module `words` does, which writes the completio
 import os
 import re
 
-from ill import repository
+from ill import command_line, repository
 from ill.repository import Unread, read
-from ill.texts import words as command_line
-from ill.texts.words import HELP, LINE, MAN, body, find, named
+from ill.texts import words as of_page
+from ill.texts.words import HELP, MAN, body, find, named
 
 EXPLAIN = "crates/ill_explain/src"
 (SCRIPT, WORLD, WORDS, TEXT, SHOW, ROWS, LIST, NEWS, REPORT, SLIP, COUNTED, DESK, NIGHT, INBOX, FILES, KEY, COMMANDS,
@@ -25,9 +25,9 @@ EXPLAIN = "crates/ill_explain/src"
     f"crates/ill_{room}/src"
     for room in ("script", "world", "words", "text", "show", "rows", "list", "news", "report", "slip", "figures", "desk",
                  "night", "inbox", "files", "key", "commands", "visits", "mail", "mailbox", "shelf", "room"))
-FILE_KINDS = {"File", "NewFile", "Paths", "Folder"}
-KEY_KINDS = {"KeyFile", "Key", "NightKey"}
-FLAGS = {"Long", "Keep", "Picture", "Open", "Mine", "Actions", "Json", "Csv"}
+# The arguments that name a desk, or files of it, and those that name the file of a key.
+OF_DESKS = {"FILE", "PATH"}
+OF_KEYS = {"KEYFILE", "key"}
 # The sources of the commands on a file: what locks it is told by their bodies.
 FILED = (f"{COMMANDS}/commands.rt", f"{VISITS}/visits.rt", f"{COMMANDS}/note.rt", f"{MAIL}/exchange.rt", f"{MAIL}/rooms.rt")
 # The source of what a command does after it has opened what it works on.
@@ -107,16 +107,10 @@ CAUSES = {
     "the input has a faulty message or too many": "der, too-many",
     "one has a fault or there are too many": "der, too-many", "a line that is no event and no use": "script",
     "a line that is no event": "script"}
-# The variants that have these statuses.
-STATUS = {
-    "ok": "Ok(true)", "refused": "Ok(false)", "arguments": "ToolFault::Arguments", "der": "ToolFault::Der",
-    "too-many": "ToolFault::TooMany", "script": "ToolFault::Script", "left": "ToolFault::Left",
-    "read": "ToolFault::Read",
-    "write": "ToolFault::Write", "memory": "ToolFault::OutOfMemory", "exists": "DeskFault::Exists",
-    "no-record": "DeskFault::NoRecord", "no-such-transaction": "DeskFault::NoSuchTransaction",
-    "no-such-message": "DeskFault::NoSuchMessage", "not-saved": "DeskFault::NotSaved",
-    **dict.fromkeys(KEY_FAULTS, "ToolFault::Key"), "not-sealed": "ToolFault::NotSealed",
-    "store failed": "DeskFault::Store", "store too-large": "DeskFault::Store", "record": "DeskFault::Saved"}
+# The lines of faults that stand for causes of another name.
+LINE_OF = {"ok": "well", "der": "tag at N", "script": "script at line N", "record": "record short"}
+# The causes of faults whose lines have other names, by their variants.
+CAUSE_OF = {"ToolFault::Der": "der", "ToolFault::Script": "script", "DeskFault::Saved": "record"}
 # Faults of a desk that no command tells as a fault: refusals are outcomes, and no command gives a desk bytes.
 UNTOLD = {"DeskFault::Core", "DeskFault::DeskFull", "DeskFault::Bytes", "DeskFault::Trailing"}
 
@@ -186,8 +180,7 @@ def numbers_of():
         "sealed": constant("TEXT", "crates/ill_seal/src/letter.rt") + constant("SEAL", "crates/ill_seal/src/letter.rt"),
         "key": constant("SIZE", f"{KEY}/key_file.rt"), "key_groups": constant("DIGITS", "crates/ill_seal/src/key.rt") // 4,
         "made": constant("NEW_DESKS", f"crates/ill_sorting/src/sorting.rt"), "escaped": 2,
-        **{status: statuses()[STATUS[cause]] for status, cause in (("well", "ok"), ("refused", "refused"),
-                                                                  ("failed", "left"))}}
+        **{name: status_of(cause) for name, cause in (("well", "ok"), ("refused", "refused"), ("failed", "left"))}}
 
 
 def variants(name, path):
@@ -196,8 +189,8 @@ def variants(name, path):
 
 
 def arguments_of():
-    """Returns the commands for one desk, or for none, in their order, each with its arguments."""
-    return {command.word: [part.kind for part in command.parts] for command in command_line.commands()[0]}
+    """Returns the commands for one desk, or for none, in their order, each with its arguments by their names."""
+    return {command.word: {part.name: part for part in command.parts} for command in command_line.commands()[0]}
 
 
 def status_labels():
@@ -251,15 +244,9 @@ def told_faults(kind="ToolFault"):
             yield text.replace("{0}", "N"), variant
 
 
-def statuses():
-    """Returns the exit status of each outcome and of each variant of a fault."""
-    path = "crates/ill_tool/src/words.rt"
-    found = {}
-    for name in ("finish", "status_after", "status_after_desk"):
-        for arm, status in re.findall(r"(?:^|\n)\s*((?:\|? ?(?:Ok|\w+Fault)[\w:()]*\s*)+) => (\w+),", body(name, path)):
-            value = int(status) if status.isdigit() else constant(status, path)
-            found |= dict.fromkeys(re.findall(r"Ok\(\w+\)|\w+Fault::\w+", arm), value)
-    return found
+def status_of(cause):
+    """Returns the exit status of a cause, or None if no command ends with it."""
+    return command_line.ends().get(LINE_OF.get(cause, cause))
 
 
 def source_of(command):
@@ -279,16 +266,16 @@ def causes_of(command, arguments):
     call = find(rf"=>[\s{{]*(?:all_well\()?(?:run_)?{name}(?:_as|_with)?\(((?:[^()]|\([^()]*\))*)\)",
                 "crates/ill_tool/src/words.rt")[1]
     found = {"ok", "write", "memory"} | ({"read"} if "reader" in call else set())
-    if FILE_KINDS & set(arguments):
+    if OF_DESKS & set(arguments):
         found |= {"store failed", "store too-large"}
-        found |= {"exists"} if "NewFile" in arguments else {"no-record", "record"}
-    if KEY_KINDS & set(arguments):
+        found |= {"exists"} if command == "new" else {"no-record", "record"}
+    if OF_KEYS & set(arguments):
         found |= set(KEY_FAULTS[:4])
-    if "KeyFile" in arguments:
+    if "KEYFILE" in arguments:
         found |= {"exists", "store failed", *KEY_FAULTS}
-    if set(arguments) - FILE_KINDS - FLAGS:
+    if any(part.label for name, part in arguments.items() if name not in OF_DESKS):
         found.add("arguments")
-    if "Key" in arguments and "read" in found:
+    if "key" in arguments and "read" in found:
         found.add("not-sealed")
     called = {"handle_input(": {"der", "too-many"}, "refused(": {"refused"}, "wants_person(": {"refused"},
               "tell_tally(": {"left"}, "Err(ToolFault::Left)": {"left"}, f" {name}(alloc": {"script"},
@@ -329,11 +316,10 @@ def events():
 
 def texts():
     """Returns the texts of the help by their names, without the examples, and those of the command line."""
-    found = {name: text for name, text in re.findall(r'pub const (\w+): &str = "\\\n(.*?)";', read(HELP), re.S)
-             if not name.endswith("_EXAMPLE")}
+    found = command_line.texts()
     found["ILL"] = re.sub(r"(?m)^(  \$ .*\n|  (?!\d)\S.*\n)+", "", found["ILL"])
     found["EXCHANGE"] = without_numbers_of_steps(found["EXCHANGE"])
-    found["command_line"] = ". ".join(re.findall(r'=> "([^"]* [^"]*)"', read(LINE))) + "."
+    found["command_line"] = ". ".join(command_line.lines()) + "."
     return found
 
 
@@ -346,7 +332,7 @@ def without_numbers_of_steps(text):
 
 def manual():
     """Returns what is written by hand in the man page, without its macros, its fonts and its examples."""
-    text = command_line.by_hand(read(MAN)).partition(".SH DESCRIPTION")[2]
+    text = of_page.by_hand(read(MAN)).partition(".SH DESCRIPTION")[2]
     text = re.sub(r"(?ms)^\.EX$.*?^\.EE$|^\.TP \d+$", "", text)
     text = re.sub(r"\\f[A-Z]", "", text).replace("\\-", "-").replace("\\ ", " ")
     return re.sub(r"(?m)^\.(?:[A-Z]{1,2})\b ?", "", text)
@@ -436,10 +422,12 @@ def compare_number(key, said, numbers, place):
         expect_same("numbers", value, numbers[key], f"{place}, {key}")
 
 
-def compare_faults(text, known):
-    """The list of `ill --help` has each fault that a command tells, with its status."""
-    wanted = {(known.get(variant), told) for told, variant in told_faults()}
-    wanted |= {(known.get(variant), "-") for variant in ("Ok(true)", "Ok(false)", "ToolFault::Arguments")}
+def compare_faults(text):
+    """The list of `ill --help` has each fault that a command tells, with its status. The program knows each fault of the
+    sources."""
+    expect_same("lists", sorted(command_line.faults()), sorted(told for told, _ in told_faults()), "ill help --json: the faults")
+    wanted = {(status_of(told), told) for told in command_line.faults()}
+    wanted |= {(status_of(cause), "-") for cause in ("ok", "refused", "arguments")}
     lines = table(text, "The exit status, and the line of a fault")
     found = {(int(line[0]), re.split(r"  +", line)[1]) for line in lines}
     for status, told in sorted(wanted | found, key=str):
@@ -447,7 +435,7 @@ def compare_faults(text, known):
         expect("statuses", (status, told) in wanted, f"ILL: no command ends with {status}  {told}")
 
 
-def compare_status(name, text, wanted, known):
+def compare_status(name, text, wanted):
     """The sentences on the exit status of a command, if there are any, name each thing that may become of it, with its
     status, but for success and what `ill --help` tells. It answers the text without them."""
     said = re.search(r"The exit status is (.*?\.)(?= (?!It is)|$)", joined(text))
@@ -456,7 +444,7 @@ def compare_status(name, text, wanted, known):
     for status, part in zip(parts[1::2], parts[2::2]):
         for key in causes_in(part, name):
             found.add(key)
-            expect_same("statuses", int(status), known.get(STATUS[key]), f"{name}: the status of {key}")
+            expect_same("statuses", int(status), status_of(key), f"{name}: the status of {key}")
     expect_same("statuses", sorted(found - {"ok"}), sorted(wanted - {"ok"}), f"{name}: what it may end with")
     return joined(text).replace(said[0], "") if said else joined(text)
 
@@ -471,12 +459,12 @@ def told_of_all(text):
     return [set(causes_in(part, "ILL")) for part in said.groups()]
 
 
-def ends_of_all(text, own):
-    """Returns what `ill --help` tells that a command may end with, by the arguments of the command."""
+def ends_of_all(text, command, own):
+    """Returns what `ill --help` tells that a command may end with, by its arguments."""
     of_any, of_desks, of_old_desks, of_keys = told_of_all(text)
-    return of_any | (of_desks if FILE_KINDS & set(own) else set()) \
-        | (of_old_desks if FILE_KINDS & set(own) and "NewFile" not in own else set()) \
-        | (of_keys if KEY_KINDS & set(own) else set())
+    return of_any | (of_desks if OF_DESKS & set(own) else set()) \
+        | (of_old_desks if OF_DESKS & set(own) and command != "new" else set()) \
+        | (of_keys if OF_KEYS & set(own) else set())
 
 
 def causes_in(part, name):
@@ -487,7 +475,7 @@ def causes_in(part, name):
             rest = rest.replace(cause, "")
             yield from CAUSES[cause].split(", ")
     for word in re.findall(r"`([^`]+)`", rest):
-        if word not in STATUS:
+        if status_of(word) is None:
             raise Unread(f"{name}: no fault `{word}`")
         yield word
     rest = re.sub(r"`[^`]+`|\b(?:if|after|with|for|and|or)\b|[(),.\s]", "", rest)
@@ -527,7 +515,7 @@ def lists_of(arguments):
     core, record = "crates/ill_core/src", "crates/ill_record/src"
     roles = [name.lower() for name in variants("Role", f"{record}/role.rt")]
     results = results_of()
-    filed = [command for command, own in arguments.items() if FILE_KINDS & set(own)]
+    filed = [command for command, own in arguments.items() if OF_DESKS & set(own)]
     locking = [name for name in filed if re.search(r"\block\(|open_locked\(", body(name, *FILED))]
     reading = [it for it, own in arguments.items() if "read" in causes_of(it, own)]
     marks = dict.fromkeys(re.findall(r'push_mark\(&mut marks, .*?"([\w-]+)"', read(f"{SHOW}/marks.rt")))
@@ -539,7 +527,7 @@ def lists_of(arguments):
     return [("ILL", r"on one file\. (.*?) wait for each other", locking),
             ("ILL", r"until its input ends\. (.*?) wait for nobody", [it for it in filed if it not in locking]),
             ("ILL", r"change it\. (.*?) read and write no file",
-             [it for it, own in arguments.items() if it not in filed and "KeyFile" not in own]),
+             [it for it, own in arguments.items() if it not in filed and "KEYFILE" not in own]),
             ("ILL", r"Only ([^.]*?) read standard input", reading),
             ("NEW", r"name may not end in (.*?): what lies", beside()),
             ("NEW", r"two desks, one as (\w+) and one", roles[:1]), ("NEW", r"and one as (\w+), in", roles[1:]),
@@ -565,10 +553,9 @@ def compare_explanations():
 
 def compare_options():
     """The options that no word of an action may be are those of all commands."""
-    parts = [*command_line.options(), *command_line.general()]
+    parts = [*of_page.options(), *of_page.general()]
     wanted = {word for part in parts for word in (part.option, part.letter) if word}
-    found = re.findall(r'"(-[\w-]+)"', find(r"const OPTIONS: [^=]*= \[(.*?)\];", LINE)[1])
-    expect_same("lists", sorted(found), sorted(wanted), "command_line.rt: all options")
+    expect_same("lists", sorted(command_line.program()["options"]), sorted(wanted), "ill help --json: all options")
 
 
 def beside():
@@ -592,10 +579,11 @@ def compare_forms(place, lines, forms):
 
 def compare_words(named_texts, words, arguments):
     """Each word in backquotes, in capitals or with the name of a message is one that there is."""
-    states = set(named("State", read("crates/ill_core/src/state.rt")).values())
+    states = set(command_line.words_of("state"))
     messages = set(named("ApduType", read("crates/ill_values/src/apdu_type.rt")).values())
     verbs_known = {form.split()[0] for forms in actions().values() for form in forms}
-    files = re.findall(r"^  \$ ill new (\w+)", read(HELP), re.M)
+    examples = "\n".join([*command_line.texts().values(), *command_line.examples()])
+    files = re.findall(r"^  \$ ill new (\w+)", examples, re.M)
     objects = "".join(map(read, (f"{TEXT}/apdu_object.rt", f"{SHOW}/objects.rt", f"{LIST}/list_objects.rt",
                                  f"{SHOW}/diary.rt", f"{SHOW}/since.rt", f"{NEWS}/news.rt", f"{LIST}/listed_news.rt",
                                  f"{ROWS}/listed.rt", f"{SHOW}/verify.rt", f"{INBOX}/objects.rt")))
@@ -625,14 +613,14 @@ def compare_words(named_texts, words, arguments):
 
 def compare():
     """Returns the faults of the help, and what was compared."""
-    text, arguments, known = texts(), arguments_of(), statuses()
-    compare_faults(text["ILL"], known)
+    text, arguments = texts(), arguments_of()
+    compare_faults(text["ILL"])
     words = compare_lists(text, arguments)
     for command, own in arguments.items():
         name = command.replace("-", "_").upper()
-        wanted, told = causes_of(command, own), ends_of_all(text["ILL"], own)
+        wanted, told = causes_of(command, own), ends_of_all(text["ILL"], command, own)
         expect_same("statuses", sorted(told - wanted - {"arguments"}), [], f"ILL: {command} does not end with")
-        text[name] = compare_status(name, text[name], wanted - told, known)
+        text[name] = compare_status(name, text[name], wanted - told)
     text["ILL"] = re.sub(r"(?m)^  \d  (\S+ )*", "", text["ILL"])
     compare_words(text, words, arguments)
     compare_explanations()

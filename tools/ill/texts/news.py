@@ -6,8 +6,9 @@ requester's record that shows one is without it.
 """
 import re
 
+from ill.command_line import text_of
 from ill.repository import Unread, read
-from ill.texts.words import HELP, find, named
+from ill.texts.words import HELP, named
 
 SPEC = "crates/ill_show/specs/NewsWords.antt"
 # What the help says after a type whose date may be missing, and of the day that is no message's.
@@ -59,7 +60,7 @@ def defined():
 
 def table():
     """Returns what is told, with its words, as the lists of the help have them."""
-    text = find(r'pub const NEWS: &str = "(.*?)";', HELP)[1]
+    text = text_of("NEWS")
     lists = re.findall(r"(?m)^The words of what a \w+ (?:hears|has sent):\n((?:  .*\n)+)", text)
     return [(line[35:], line[2:35].rstrip()) for of in lists for line in of.splitlines()]
 

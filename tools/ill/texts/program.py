@@ -1,8 +1,8 @@
-"""Writes the table of docs/FAULTS.md that has the faults of the program, from the help and the sources.
+"""Writes the table of docs/FAULTS.md that has the faults of the program, from its help, its ends and the sources.
 
 A row has the text of a fault after `ill: `, its exit status, its type in the code, the commands that may end with it,
-and its meaning. The meanings and their order are those of `ill --help`, and the rest is of the sources. The table stands
-under the heading, up to the next one.
+and its meaning. The meanings and their order are those of `ill --help`. The module `command_line` has the statuses, and
+the rest is of the sources. The table stands under the heading, up to the next one.
 """
 import re
 
@@ -27,7 +27,7 @@ def commands_by_cause():
     for command, own in arguments.items():
         for cause in helps.causes_of(command, own):
             by_cause.setdefault(cause, []).append(command)
-    return by_cause, [command for command, own in arguments.items() if helps.FILE_KINDS & set(own)]
+    return by_cause, [command for command, own in arguments.items() if helps.OF_DESKS & set(own)]
 
 
 def named(commands, every, filed):
@@ -41,13 +41,12 @@ def named(commands, every, filed):
 
 def rows():
     """Yields the rows of the table."""
-    types, statuses = dict(helps.told_faults()), helps.statuses()
-    causes, (by_cause, filed) = {variant: cause for cause, variant in helps.STATUS.items()}, commands_by_cause()
+    types, (by_cause, filed) = dict(helps.told_faults()), commands_by_cause()
     for told, meaning in meanings().items():
         if told not in types:
             raise Unread(f"{helps.HELP}: no command tells {told}")
-        commands = by_cause[told if told in by_cause else causes[types[told]]]
-        yield (f"| `{told}` | {statuses[types[told]]} | `{types[told]}` | {named(commands, by_cause['ok'], filed)} "
+        commands = by_cause[told if told in by_cause else helps.CAUSE_OF[types[told]]]
+        yield (f"| `{told}` | {helps.status_of(told)} | `{types[told]}` | {named(commands, by_cause['ok'], filed)} "
                f"| {meaning} |\n")
 
 

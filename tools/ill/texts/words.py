@@ -1,9 +1,8 @@
-r"""Writes the words of the program into the man page and the completions, from the sources of its help.
+r"""Writes the words of the program into the man page and the completions, from what it tells of its command line.
 
-It reads commands, arguments and options in crates/ill_line/src/command_line.rt, the tables of
-crates/ill_line/src/help.rt, and the states. It writes completions/ill.bash, _ill and ill.fish whole, from the texts at
-the end of this file. In man/ill.1 it writes the version, and what stands between `.\" words: PART` and `.\" end`. PART
-is
+It reads commands, arguments, options and tables of the help as the module `command_line` has them. It writes
+completions/ill.bash, _ill and ill.fish whole, from the texts at the end of this file. In man/ill.1 it writes the
+version, and what stands between `.\" words: PART` and `.\" end`. PART is
 
     commands, options, or statuses with their faults
     column TEXT HEAD       the first column of a table of a text of the help, under the line that ends in HEAD
@@ -15,32 +14,28 @@ import collections
 import re
 import textwrap
 
-from ill import repository
+from ill import command_line, repository
+from ill.command_line import Part, about, commands, explained, text_of
 from ill.repository import Unread, read
 
-HELP, LINE, MAN = "crates/ill_line/src/help.rt", "crates/ill_line/src/command_line.rt", "man/ill.1"
-STATES = "crates/ill_core/src/state.rt"
+HELP, MAN = "crates/ill_line/src/help.rt", "man/ill.1"
 BEGIN, END = '.\\" words: ', '.\\" end'
 # Words in capitals of the help that stand for others, beside the labels of arguments and values.
 CAPITALS = {"DUE", "EXPIRY", "ITEM", "N", "RESULT", "WISHED"}
-# Words of the man page that the sources of the help do not have: those of `clap`, and a name of a file.
+# Words of the man page that the help does not have: those of `clap`, and a name of a file.
 OTHERS = {"error:", "ill help", "ill --version", ".unsorted.mail", ".letters.mail", ".opened"}
-# The kinds of arguments that the completions know, by their variants, and those of the values of options.
-KINDS = {"File": "file", "NewFile": "file", "Paths": "files", "Folder": "folder", "OutFolder": "folder", "In": "folder",
-         "Out": "folder", "Role": "role", "Group": "loan", "Transaction": "loan", "Words": "words", "NoteWords": "none",
-          "Number": "none", "KeyFile": "file"}
+# The kinds of arguments that the completions know, by their names, and those of the values of options.
+KINDS = {"FILE": "file", "PATH": "files", "FOLDER": "folder", "IN": "folder", "OUT": "folder", "ROLE": "role", "GROUP": "loan",
+         "TRANSACTION": "loan", "WORDS": "words", "NUMBER": "none", "KEYFILE": "file"}
 VALUES = {"DAY": "day", "DAYS": "count", "N": "count", "NAME": "text", "TEXT": "text", "WORDS": "text", "STATE": "state", "FILE": "file",
           "FOLDER": "file", "KEYFILE": "file"}
 
-# An argument has the label that stands for it; an option has its name, the label of its value, and perhaps a letter.
-Part = collections.namedtuple("Part", "kind label option about required many last letter", defaults=("",) * 6)
-Command = collections.namedtuple("Command", "word about parts")
 # What a shell offers for a command: its word, the kind of each argument, and its options.
 Row = collections.namedtuple("Row", "word kinds options")
 
 # What `clap` adds to each command line.
-HELP_OPTION = Part("Help", "", "--help", "Print help", letter="-h")
-VERSION_OPTION = Part("Version", "", "--version", "Print the version", letter="-V")
+HELP_OPTION = Part("help", "", "--help", "Print help", False, False, False, (), "-h")
+VERSION_OPTION = Part("version", "", "--version", "Print the version", False, False, False, (), "-V")
 HELP_COMMAND = {"help": "Print the help of a command"}
 
 
@@ -74,80 +69,6 @@ def named(kind, text):
     return {name: word for names, word in found for name in re.findall(rf"{kind}::(\w+)", names)}
 
 
-def arms(text, indent):
-    """Returns the variants of the arms of a match, each with the code after it; `_` stands for all others."""
-    found = re.findall(rf"(?ms)^ {{{indent}}}([\w:| ]+?) => (.*?)(?=^ {{{indent}}}\S|^ {{{indent - 4}}}\}})", text)
-    return {name: code for names, code in found for name in re.findall(r"(?<=::)\w+|^_", names)}
-
-
-def part_of(kind, label, about, code):
-    """Returns a part of a command line, as the code makes it of which `clap` is told."""
-    valued = re.search(r'valued\(arg, "([\w-]+)", "(\w+)"\)', code)
-    option = valued or re.search(r'\.long\("([\w-]+)"\)', code)
-    value = re.search(r'\.value_name\("(\w+)"\)', code)
-    value = valued[2] if valued else value[1] if value else "" if option else label
-    return Part(kind, value, f"--{option[1]}" if option else "", about, ".required(true)" in code,
-                "num_args(1..)" in code, "trailing_var_arg(true)" in code)
-
-
-def parts():
-    """Returns all parts of command lines by their variants: for one desk, and on a shelf."""
-    of_arguments = read(LINE).partition("impl Argument {")[2]
-    labels, abouts = (named("Argument", function(name, of_arguments)) for name in ("id", "help"))
-    codes, on_shelf = (arms(body(name, LINE), 12) for name in ("arg", "arg_on_shelf"))
-    plain = {kind: part_of(kind, label, abouts[kind], codes.get(kind, codes["_"])) for kind, label in labels.items()}
-    shelved = dict(plain)
-    for kind, code in on_shelf.items():
-        if kind != "_":
-            own = part_of(kind, labels[kind], said_by(code, LINE), code)
-            shelved[kind] = own._replace(option=plain[kind].option)
-    return plain, shelved
-
-
-def kinds_of():
-    """Returns the variants of the parts of each command, by the variant of the command."""
-    said = arms(body("arguments", LINE), 12)
-    return {name: re.findall(r"Argument::(\w+)", code) for name, code in said.items()}
-
-
-def names_in(constant):
-    """Returns the variants of the commands that a constant lists."""
-    return re.findall(r"Name::(\w+),", find(rf"const {constant}: .*?\];", LINE)[0])
-
-
-def commands():
-    """Returns the commands for one desk, or for none, and those on a shelf, each in the order of the help."""
-    words, abouts = (named("Name", body(name, LINE)) for name in ("word", "about"))
-    plain, shelved = parts()
-    kinds, own = kinds_of(), named("Name", body("about_shelf", LINE))
-    further = dict(re.findall(r"Name::(\w+) => command\.arg\(Argument::(\w+)\.arg", body("shelf_subcommand", LINE)))
-    of_shelves = re.findall(r"Name::(\w+)", body("is_of_shelves", LINE))
-    desk = [Command(words[name], abouts[name], [plain[kind] for kind in kinds[name]])
-            for name in names_in("NAMES") if name not in of_shelves]
-    shelf = [Command(words[name], own.get(name, abouts[name]),
-                     [shelved[kind] for kind in [*kinds[name], further.get(name)] if kind])
-             for name in names_in("SHELF_NAMES")]
-    return desk, shelf
-
-
-def said_by(code, place):
-    """Returns what code tells `clap` that a part of the command line is for."""
-    found = re.search(r'\.(?:about|help)\("([^"]+)"\)', code)
-    if found is None:
-        raise Unread(f"{place}: nothing is said in {code}")
-    return found[1]
-
-
-def about(name):
-    """Returns what a part of the command line is for that has a function of its own."""
-    return said_by(body(name, LINE), LINE)
-
-
-def explained():
-    """Returns the option that stands before the command, or before the words of an action."""
-    return Part("Explain", "", "--explain", about("explain"))
-
-
 def general():
     """Returns the options of the program."""
     return [explained(), HELP_OPTION, VERSION_OPTION]
@@ -156,11 +77,6 @@ def general():
 def options():
     """Returns all options of commands, each once for each command that has it."""
     return [part for some in commands() for command in some for part in command.parts if part.option]
-
-
-def text_of(name):
-    """Returns a text of the help."""
-    return find(rf'pub const {name}: &str = "(?:\\\n)?(.*?)";', HELP)[1].replace("\\\\", "\\")
 
 
 def groups():
@@ -203,7 +119,7 @@ def verbs(role):
 
 def states():
     """Returns the names of the states."""
-    return list(named("State", read(STATES)).values())
+    return command_line.words_of("state")
 
 
 # The man page.
@@ -361,10 +277,17 @@ def bold_by_hand(page):
     return set(re.findall(r"\\fB(.*?)\\fP", " ".join(text.split()))) | set(re.findall(r"(?m)^\.B (.*)$", text))
 
 
+def all_texts():
+    """Returns all texts of the help: of the program, of commands and their examples, and of arguments."""
+    words = [word for some in commands() for command in some for word in (command.word, *(part.label for part in command.parts))]
+    return [*command_line.texts().values(), *command_line.examples(), *command_line.lines(), *words,
+            *command_line.program()["options"]]
+
+
 def stands_in_help(word):
-    """Tells if the sources of the help have a word, which is no part of a longer one."""
+    """Tells if the help has a word, which is no part of a longer one."""
     before, after = (r"(?<![\w-])" if word[0].isalnum() else "", r"(?![\w-])" if word[-1].isalnum() else "")
-    return re.search(before + re.escape(word) + after, " ".join((read(HELP) + read(LINE)).split()))
+    return re.search(before + re.escape(word) + after, " ".join(" ".join(all_texts()).split()))
 
 
 def manual(old):
@@ -383,7 +306,7 @@ def manual(old):
     for word in bold_by_hand(old) - OTHERS:
         if not stands_in_help(word):
             raise Unread(f"{MAN}: {word} stands in no text of the help")
-    lines[0] = re.sub(r'"ill [^"]*"', f'"ill {text_of("VERSION")}"', lines[0])
+    lines[0] = re.sub(r'"ill [^"]*"', f'"ill {command_line.program()["version"]}"', lines[0])
     return "\n".join(lines) + "\n"
 
 
@@ -400,23 +323,26 @@ def rows():
 
 def row_of(word, command):
     """Returns what may stand after a command."""
-    of_desk = any(part.kind == "File" for part in command.parts)
-    kinds = [kind_of(part, of_desk, word.startswith("shelf-")) for part in command.parts if not part.option]
+    of_desk = any(part.name == "FILE" for part in command.parts)
+    kinds = [kind_of(part, command.word, of_desk, word.startswith("shelf-")) for part in command.parts if not part.option]
     return Row(word, kinds, [*(part for part in command.parts if part.option), explained(), HELP_OPTION])
 
 
-def kind_of(part, of_desk, on_shelf):
-    """Returns the kind of an argument: a loan only if there is a desk or a shelf that has it."""
-    if part.kind not in KINDS:
-        raise Unread(f"{LINE}: no completion knows the argument {part.kind}")
-    kind = KINDS[part.kind]
+def kind_of(part, word, of_desk, on_shelf):
+    """Returns the kind of an argument of a command: a loan only if there is a desk or a shelf that has it, and the words
+    of actions only for `act`."""
+    if part.name not in KINDS:
+        raise Unread(f"{command_line.FILE}: no completion knows the argument {part.name}")
+    kind = KINDS[part.name]
+    if kind == "words" and word != "act":
+        return "none"
     return "folder" if kind == "file" and on_shelf else "none" if kind == "loan" and not of_desk else kind
 
 
 def value_of(option):
     """Returns the kind of the value of an option, or nothing if it has none."""
     if option.label and option.label not in VALUES:
-        raise Unread(f"{LINE}: no completion knows the value {option.label} of {option.option}")
+        raise Unread(f"{command_line.FILE}: no completion knows the value {option.label} of {option.option}")
     return VALUES.get(option.label, "")
 
 
@@ -460,7 +386,7 @@ def cases(between, indent, line):
 def common():
     """Returns what all completions name."""
     return {"requester": " ".join(verbs("requester")), "responder": " ".join(verbs("responder")),
-            "roles": " ".join(parts()[0]["Role"].about.split(" or ")), "explain": explained().option}
+            "roles": " ".join(command_line.words_of("ROLE")), "explain": explained().option}
 
 
 def of_bash():
@@ -517,7 +443,7 @@ def of_fish():
     of_options = {}
     for row in known:
         for option in row.options:
-            of_options.setdefault(option._replace(kind="", required=False), []).append(row.word)
+            of_options.setdefault(option._replace(required=False), []).append(row.word)
     for option, of in of_options.items():
         kind, letter = value_of(option), f"-s {option.letter[1:]} " if option.letter else ""
         lines.append(rule(f"__ill_option {kind or 'any'} {' '.join(of)}",
@@ -879,7 +805,7 @@ def written():
 def compare():
     """Returns the lines that differ, and which files were compared."""
     files = written()
-    return repository.all_differences(files), f"{', '.join(files)} have the words of the sources"
+    return repository.all_differences(files), f"{', '.join(files)} have the words of {command_line.FILE}"
 
 
 def write():

@@ -1,0 +1,145 @@
+//! The command line as objects of JSON, for the tools of this repository: one object on each line.
+
+use crate::command_line::{ABOUT, Argument, NAMES, OPTIONS, SHELF_NAMES};
+use crate::entry::Entry;
+use crate::help;
+use ill_core::STATES;
+use ill_saved::Role;
+use ill_text::json::{Value, push_members, push_plain};
+use ill_values::OutOfMemory;
+
+/// Appends the program, and then each command with its arguments.
+pub fn push_command_line(text: &mut Vec<u8>) -> Result<(), OutOfMemory> {
+    push_program(text)?;
+    push_argument(text, None, Argument::Explain)?;
+    for name in NAMES.iter().filter(|name| !name.is_of_shelves()) {
+        push_entry(text, &Entry::of(*name))?;
+    }
+    push_entry(text, &Entry::SHELF)?;
+    for name in &SHELF_NAMES {
+        push_entry(text, &Entry::on_shelf(*name))?;
+    }
+    Ok(())
+}
+
+/// Appends an object of `fields`, on a line.
+pub fn push_object<'a>(
+    text: &mut Vec<u8>,
+    fields: &[(&'a str, Value<'a>)],
+) -> Result<(), OutOfMemory> {
+    push_plain(text, "{")?;
+    push_members(text, b"", fields)?;
+    push_plain(text, "}\n")
+}
+
+/// Appends the program: its version, its help, and all options.
+fn push_program(text: &mut Vec<u8>) -> Result<(), OutOfMemory> {
+    push_object(
+        text,
+        &[
+            ("kind", Value::Text(b"program")),
+            ("version", Value::Text(help::VERSION.as_bytes())),
+            ("about", Value::Text(ABOUT.as_bytes())),
+            ("help", Value::Text(help::ILL.as_bytes())),
+            ("options", Value::Words(&OPTIONS)),
+        ],
+    )
+}
+
+/// Appends a command, and then its arguments.
+fn push_entry(text: &mut Vec<u8>, entry: &Entry<'_>) -> Result<(), OutOfMemory> {
+    push_object(
+        text,
+        &[
+            ("kind", Value::Text(b"command")),
+            ("command", Value::Text(entry.word.as_bytes())),
+            ("shelf", Value::Flag(entry.is_on_shelf)),
+            ("about", Value::Text(entry.about.as_bytes())),
+            ("help", Value::Text(entry.help.as_bytes())),
+            ("example", optional(entry.example)),
+        ],
+    )?;
+    push_arguments(text, entry, entry.arguments)?;
+    push_arguments(text, entry, entry.further)
+}
+
+/// Appends these arguments of a command.
+fn push_arguments(
+    text: &mut Vec<u8>,
+    entry: &Entry<'_>,
+    arguments: &[Argument],
+) -> Result<(), OutOfMemory> {
+    for argument in arguments {
+        push_argument(text, Some(entry), *argument)?;
+    }
+    Ok(())
+}
+
+/// Appends an argument of a command. An argument of no command is one of the program, and of each command.
+fn push_argument(
+    text: &mut Vec<u8>,
+    entry: Option<&Entry<'_>>,
+    argument: Argument,
+) -> Result<(), OutOfMemory> {
+    push_plain(text, "{")?;
+    push_shape(text, entry, argument)?;
+    push_values(text, argument)?;
+    push_plain(text, "}\n")
+}
+
+/// Appends the fields of an argument but the words that it may have.
+fn push_shape(
+    text: &mut Vec<u8>,
+    entry: Option<&Entry<'_>>,
+    argument: Argument,
+) -> Result<(), OutOfMemory> {
+    let (command, is_on_shelf) = match entry {
+        Some(entry) => (Some(entry.word), entry.is_on_shelf),
+        None => (None, false),
+    };
+    let shape = argument.shape();
+    push_members(
+        text,
+        b"",
+        &[
+            ("kind", Value::Text(b"argument")),
+            ("command", optional(command)),
+            ("shelf", Value::Flag(is_on_shelf)),
+            ("name", Value::Text(argument.id().as_bytes())),
+            ("option", Value::Flag(shape.is_option())),
+            ("value", optional(argument.value(is_on_shelf))),
+            ("help", Value::Text(argument.line(is_on_shelf).as_bytes())),
+            ("required", Value::Flag(shape.is_required())),
+            ("repeats", Value::Flag(shape.has_words())),
+            ("rest", Value::Flag(shape.takes_rest())),
+        ],
+    )
+}
+
+/// Appends the words that an argument may have, as a field after others.
+fn push_values(text: &mut Vec<u8>, argument: Argument) -> Result<(), OutOfMemory> {
+    let values = values_of(text, argument)?;
+    push_members(text, b",", &[("values", Value::Words(&values))])
+}
+
+/// Returns the words that an argument may have, in the memory of `text`. Returns no words if it may have any.
+fn values_of(text: &Vec<u8>, argument: Argument) -> Result<Vec<&'static str>, OutOfMemory> {
+    let alloc = *text.allocator();
+    let values = match argument {
+        Argument::Role => Vec::from_slice(
+            alloc,
+            &[Role::Requester.name(), Role::Responder.name()],
+        )?,
+        Argument::InState => STATES.iter().map(|state| state.name()).collect(alloc)?,
+        _ => Vec::new(alloc),
+    };
+    Ok(values)
+}
+
+/// Returns the value of `word`, which is missing if there is none.
+fn optional(word: Option<&str>) -> Value<'_> {
+    match word {
+        Some(word) => Value::Text(word.as_bytes()),
+        None => Value::Missing,
+    }
+}

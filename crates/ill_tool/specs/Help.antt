@@ -1,0 +1,13 @@
+-- The contract of `ill help --json`, which writes the command line as objects of JSON.
+use Rattle.std.specs.Prelude.{ℕ, Bool, List, Option, Result}
+use Rattle.ill_text.specs.Output.{WritesText}
+use Rattle.ill_text.specs.declared.fault.ToolFault.{ToolFault}
+use Rattle.ill_files.specs.Opening.{GoesWell}
+
+-- A text was written: the output grew by it, or by a prefix of it. Texts of the help have no definition.
+abbrev pub WritesHelp : Option (List ℕ) → Option (List ℕ) → Result (Unit {0}) ToolFault → Type 0
+WritesHelp before after result = (text : List ℕ) × WritesText before after text result
+
+-- A text was written, and all went well. Else the output could not be written, or memory ran out.
+abbrev pub TellsHelp : Option (List ℕ) → Option (List ℕ) → Result Bool ToolFault → Type 0
+TellsHelp before after result = GoesWell (WritesHelp before after) result

@@ -45,14 +45,21 @@ module _ (wanted : Wanted) (off : wanted.has_since ≡ false) where
       (same_texts (told_row columns annex wanted) (told_row columns (notes_alone annex) wanted) (first ∷ others)
       (row_stays columns annex))
 
+  -- The lines of a loan in a morning's list are those by the notes alone.
+  morning_row_stays : (columns : MorningColumns) (annex : AnnexRead) (side : Side)
+      → told_morning columns annex wanted side ≡ told_morning columns (notes_alone annex) wanted side
+  morning_row_stays columns annex side =
+      ap (λ (day : List ℕ). morning_row columns annex.news wanted side ++ (note_shown annex.notes wanted side ++ day))
+      (no_day annex side ∙ sym (no_day (notes_alone annex) side))
+
   -- The lines of a kind of work in a morning's list are those by the notes alone.
   morning_stays : (columns : MorningColumns) (annex : AnnexRead) (work : Work) (sides : List Side)
       → morning_lines columns annex wanted work sides ≡ morning_lines columns (notes_alone annex) wanted work sides
-  morning_stays columns annex work sides =
-      same_texts (told_morning columns annex wanted work) (told_morning columns (notes_alone annex) wanted work) sides
-      (λ side. ap (λ (day : List ℕ). morning_row columns annex.news wanted work side
-      ++ (note_shown annex.notes wanted side ++ day))
-      (no_day annex side ∙ sym (no_day (notes_alone annex) side)))
+  morning_stays columns annex work [] = refl
+  morning_stays columns annex work (first ∷ others) =
+      ap (λ (rows : List ℕ). work_heading work (length (first ∷ others)) ++ rows)
+      (same_texts (told_morning columns annex wanted) (told_morning columns (notes_alone annex) wanted) (first ∷ others)
+      (morning_row_stays columns annex))
 
   -- The lines of a kind of work are those by the notes alone, in either form.
   text_stays : (annex : AnnexRead) (chosen : List Side) (work : Work) (sides : List Side)

@@ -1,8 +1,7 @@
 //! The line of a loan in a list.
 
 ghost use Rattle.std.specs.Prelude.{◌≡◌, ◌++◌, map, length, string_bytes, codes, IfOk, OnOk};
-ghost use Rattle.ill_core.specs.State.{state_name};
-ghost use Rattle.ill_record.specs.Side.{state_of, due_date_of};
+ghost use Rattle.ill_record.specs.Side.{due_date_of};
 ghost use Rattle.ill_words.specs.Shown.{due_text};
 ghost use Rattle.ill_rows.specs.Cells.{cell, column};
 ghost use Rattle.ill_list.specs.List.{columns_of, actions_cell, actions_text, due_and_name, no_columns, row, standing, verbs_text, widened};

@@ -68,7 +68,7 @@ impl Which {
 }
 
 /// Returns the kind of work with the loan of `side` on the day of the list.
-pub(crate) fn work(wanted: &Wanted, side: &Side) -> Work
+fn work(wanted: &Wanted, side: &Side) -> Work
     ensures { result ≡ work_of wanted.now side.now }
 {
     Work::on(side, wanted.today, wanted.ahead)

@@ -400,7 +400,7 @@ def compare_words():
         sources = re.findall(r'=> "([\w/-]+)"', read(f"{TOP}/crates/ill_core/src/{name}.rt").decode())
         if sorted(sources) != sorted(words):
             faults.append(f"docs/ill.schema.json: the words of {name} are {words}, and those of the sources {sources}")
-    news = re.findall(r'"([^"]+)"', read(f"{TOP}/crates/ill_show/src/news_words.rt").decode().partition("#[cfg")[0])
+    news = re.findall(r'"([^"]+)"', read(f"{TOP}/crates/ill_beside/src/news_words.rt").decode().partition("#[cfg")[0])
     fixed, dated = SCHEMA["$defs"]["words"]["anyOf"]
     told = [word for word in news if not word.endswith(" ") and word != "renewal refused"]
     if sorted(told) != sorted(fixed["enum"]):

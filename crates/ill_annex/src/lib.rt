@@ -4,15 +4,15 @@
 ghost use Rattle.std.specs.Prelude.{IfErr};
 ghost use Rattle.ill_text.specs.Fault.{IsOpenFault};
 
+use ill_beside::annex::Annex;
+use ill_beside::file_lines::FileLines;
+use ill_beside::keyed_diary::KeyedDiary;
+use ill_beside::notes::Notes;
 use ill_files::came::came_bytes;
 use ill_files::diary::diary_bytes;
 use ill_files::notes::notes_bytes;
 use ill_files::open::open;
 use ill_saved::{Desk, FileStore};
-use ill_show::annex::Annex;
-use ill_show::file_lines::FileLines;
-use ill_show::keyed_diary::KeyedDiary;
-use ill_show::notes::Notes;
 use ill_text::fault::ToolFault;
 use ill_text::input::apdus_in;
 use std::alloc::Global;

@@ -7,7 +7,7 @@ use Rattle.ill_record.specs.Sides.{side_with}
 use Rattle.ill_text.specs.declared.fault.ToolFault.{ToolFault}
 use Rattle.ill_text.specs.declared.fault.ToolFault.TheVariants.{Desk}
 use Rattle.ill_text.specs.Output.{WritesText}
-use Rattle.ill_show.specs.Notes.{kept_line, note_text}
+use Rattle.ill_beside.specs.Notes.{kept_line, note_text}
 use Rattle.ill_desk.specs.Take.{KeepsPrefix}
 use Rattle.ill_files.specs.Opening.{FailsToOpen, GoesWell}
 use Rattle.ill_commands.specs.declared.note.NoteView.{NoteView}

@@ -2,15 +2,15 @@
 
 ghost use Rattle.ill_record.specs.Sides.{side_with};
 ghost use Rattle.ill_desk.specs.Take.{KeepsPrefix};
-ghost use Rattle.ill_show.specs.Notes.{kept_line};
+ghost use Rattle.ill_beside.specs.Notes.{kept_line};
 ghost use Rattle.ill_commands.specs.Note.{KeepsAtFile, KeepsNote, NotesAtFile, RunsNote, text_of};
 
+use ill_beside::notes::{kept_line, note_text};
 use ill_desk::take::keep_bytes;
 use ill_files::machine::Machine;
 use ill_files::notes::open_notes;
 use ill_files::open::{all_well, open_locked};
 use ill_saved::{DeskFault, LockFiles, Sides};
-use ill_show::notes::{kept_line, note_text};
 use ill_text::fault::ToolFault;
 use ill_text::output::write_whole;
 use ill_values::TxnId;

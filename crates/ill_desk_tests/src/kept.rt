@@ -2,6 +2,7 @@
 
 use crate::letters::Letters;
 use crate::view::{View, tell_side};
+use ill_beside::file_lines::FileLines;
 use ill_desk::act::{run_act, run_desk_act};
 use ill_desk::send::{run_desk_send, run_send};
 use ill_desk::take::{TakeForm, run_desk_take, run_desk_take_as, run_take};
@@ -14,7 +15,6 @@ use ill_night::verdict::{Batch, Mail, Verdict};
 use ill_saved::{Desk, Desk1, DeskFault, MemoryStore, Store};
 use ill_session_kit::Call;
 use ill_session_kit::words::{Word, texts};
-use ill_show::file_lines::FileLines;
 use ill_show::loan::{Beside, LoanForm, LoanView, run_desk_loan};
 use ill_show::status::{run_desk_status, run_status};
 use ill_test_kit::{Page, octet_in};

@@ -8,8 +8,8 @@ use Rattle.ill_values.specs.Day.{Date}
 use Rattle.ill_values.specs.declared.apdu.Apdu.{Apdu}
 use Rattle.ill_record.specs.declared.side.Side.{Side}
 use Rattle.ill_record.specs.Side.{issued_of}
-use Rattle.ill_show.specs.Diary.{Named, issued_named, messages_of, request_taken, taken_named}
-use Rattle.ill_show.specs.Heard.{is_heard}
+use Rattle.ill_beside.specs.Diary.{Named, issued_named, messages_of, request_taken, taken_named}
+use Rattle.ill_beside.specs.Heard.{is_heard}
 use Rattle.ill_figures.specs.declared.loan_figures.Dated.{Dated}
 use Rattle.ill_figures.specs.LoanFigures.{Mentioned, dated, dated_of, day_said}
 

@@ -11,9 +11,9 @@ use Rattle.ill_core.specs.declared.state.State.{State}
 use Rattle.ill_core.specs.declared.state.State.TheVariants as states
 use Rattle.ill_record.specs.declared.side.Side.{Side}
 use Rattle.ill_record.specs.Side.{issued_of, state_of, txn_of}
-use Rattle.ill_show.specs.Diary.{Named, issued_named, request_taken, said_by, taken_named}
-use Rattle.ill_show.specs.Heard.{is_heard}
-use Rattle.ill_show.specs.Kept.{kept_of}
+use Rattle.ill_beside.specs.Diary.{Named, issued_named, request_taken, said_by, taken_named}
+use Rattle.ill_beside.specs.Heard.{is_heard}
+use Rattle.ill_beside.specs.Kept.{kept_of}
 use Rattle.ill_figures.specs.declared.loan_figures.Dated.{Dated}
 use Rattle.ill_figures.specs.declared.loan_figures.End.{End}
 use Rattle.ill_figures.specs.declared.loan_figures.End.TheVariants.{Filled, Open, Cancelled, Unfilled, Retry, Estimate}

@@ -2,7 +2,7 @@
 
 ghost use Rattle.std.specs.Prelude.{◌≡◌, ◌≤◌, length, map, IfOk};
 ghost use Rattle.ill_saved.specs.ManySides.{sides_held};
-ghost use Rattle.ill_show.specs.FileLines.{lines_of};
+ghost use Rattle.ill_beside.specs.FileLines.{lines_of};
 ghost use Rattle.ill_rows.specs.Messages.{IsTextOf, WritesNews};
 ghost use Rattle.ill_figures.specs.Figures.{asked_in, figures_of, gathered, loans_of};
 ghost use Rattle.ill_figures.specs.LoanFigures.{mentioned, mentions_in};
@@ -13,9 +13,9 @@ pub use crate::days::Span;
 use crate::loan_figures::{Loan, loan_of};
 use crate::mentions::{Mention, mentions_in};
 use crate::texts::{HEAD, push_lines, push_record};
+use ill_beside::file_lines::FileLines;
 use ill_rows::listed::{Listed, heading};
 use ill_saved::{Desk, Side, Sides, Store};
-use ill_show::file_lines::FileLines;
 use ill_text::fault::ToolFault;
 use ill_text::input::apdus_in;
 use ill_text::output::write_whole;

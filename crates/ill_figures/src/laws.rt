@@ -5,7 +5,7 @@ ghost use Rattle.std.specs.List.{list_any, sum_by};
 ghost use Rattle.ill_values.specs.Day.{Date, IsDate, next_day};
 ghost use Rattle.ill_values.specs.declared.apdu.Apdu.{Apdu};
 ghost use Rattle.ill_record.specs.declared.side.Side.{Side};
-ghost use Rattle.ill_show.specs.Diary.{messages_of};
+ghost use Rattle.ill_beside.specs.Diary.{messages_of};
 ghost use Rattle.ill_figures.specs.Bad.{CountsBadly};
 ghost use Rattle.ill_figures.specs.Days.{days_between};
 ghost use Rattle.ill_figures.specs.Figures.{counted, mean, outcomes, reasons, tenths};

@@ -2,18 +2,18 @@
 
 ghost use Rattle.std.specs.Prelude.{◌≡◌, ◌++◌, ◌∷◌, [], filter, map, IfOk, OnOk};
 ghost use Rattle.ill_record.specs.Side.{issued_of, state_of, txn_of};
-ghost use Rattle.ill_show.specs.Diary.{request_taken};
-ghost use Rattle.ill_show.specs.Heard.{is_heard};
+ghost use Rattle.ill_beside.specs.Diary.{request_taken};
+ghost use Rattle.ill_beside.specs.Heard.{is_heard};
 ghost use Rattle.ill_text.specs.Diary.{message_key};
 ghost use Rattle.ill_figures.specs.LoanFigures.{dated_of, day_of, day_said, days_between_steps, end_of, event_of, issued_dated, loan_in, loan_of, mentioned, refusal_by, refusal_in, refusal_of, taken_dated, takes};
 
 use crate::days::days_from;
 use crate::mentions::{Mention, day_said};
+use ill_beside::diary::verb_of;
+use ill_beside::heard::is_heard;
+use ill_beside::kept::kept_of;
 use ill_core::State;
 use ill_saved::Side;
-use ill_show::diary::verb_of;
-use ill_show::heard::is_heard;
-use ill_show::kept::kept_of;
 use ill_text::diary::message_key;
 use ill_values::{AnswerResult, Apdu, Body, Day, OutOfMemory};
 use std::alloc::Global;

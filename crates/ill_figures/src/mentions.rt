@@ -3,7 +3,7 @@
 ghost use Rattle.std.specs.Prelude.{◌≡◌, ◌++◌, ◌∷◌, [], map, option_to_list, IfOk, OnOk};
 ghost use Rattle.ill_figures.specs.LoanFigures.{day_said, mention_in, mentioned, mentions_in};
 
-use ill_show::diary::{Entry, said_by};
+use ill_beside::diary::{Entry, said_by};
 use ill_values::{Day, OutOfMemory};
 use std::alloc::Global;
 

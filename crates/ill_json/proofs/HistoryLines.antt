@@ -19,10 +19,10 @@ use Rattle.ill_record.specs.declared.side.Side.TheVariants as sides
 use Rattle.ill_record.specs.Ranges.{Each, IsInRange}
 use Rattle.ill_record.specs.Side.{issued_of}
 use Rattle.ill_words.specs.Words.{◌>>=◌, day_of}
-use Rattle.ill_show.specs.Diary.{Named, Said, Told, at_space, body_verb, history_fields, history_of, is_named, is_space}
-use Rattle.ill_show.specs.Diary.{issued_named, messages_of, part_at, part_fields, part_object, part_of, part_said, person}
-use Rattle.ill_show.specs.Diary.{request_taken, said_by, said_in, said_on, says_of, taken_named}
-use Rattle.ill_show.specs.Heard.{is_heard}
+use Rattle.ill_beside.specs.Diary.{Named, Said, Told, at_space, body_verb, history_fields, history_of, is_named, is_space}
+use Rattle.ill_beside.specs.Diary.{issued_named, messages_of, part_at, part_fields, part_object, part_of, part_said, person}
+use Rattle.ill_beside.specs.Diary.{request_taken, said_by, said_in, said_on, says_of, taken_named}
+use Rattle.ill_beside.specs.Heard.{is_heard}
 use Rattle.ill_json.proofs.Names.{type_printable, verb_printable}
 use Rattle.ill_json.proofs.Shown.{are_printable, printable_shown}
 use Rattle.ill_json.proofs.Values.{HasValue, FieldReads, object_reads}

@@ -30,9 +30,9 @@ use Rattle.ill_rows.specs.Finding.{is_found}
 use Rattle.ill_rows.specs.Heading.{between, file_told}
 use Rattle.ill_list.specs.Listing.{chosen_of, list_objects, listed, listed_desk, section, sections}
 use Rattle.ill_list.specs.Listing.{work_objects}
-use Rattle.ill_show.specs.Diary.{Told, history_fields, history_of, messages_of, part_fields, part_object}
-use Rattle.ill_show.specs.Notes.{note_fields, note_of}
-use Rattle.ill_show.specs.Since.{AnnexRead, since_fields, since_of}
+use Rattle.ill_beside.specs.Diary.{Told, history_fields, history_of, messages_of, part_fields, part_object}
+use Rattle.ill_beside.specs.Notes.{note_fields, note_of}
+use Rattle.ill_beside.specs.Since.{AnnexRead, since_fields, since_of}
 use Rattle.ill_show.specs.Loan.{loan_text}
 use Rattle.ill_show.specs.Objects.{came_fields, kept_fields, loan_fields}
 use Rattle.ill_list.specs.ListObjects.{counts_fields, counts_object}

@@ -9,7 +9,7 @@ use Rattle.ill_record.specs.declared.side.Side.{Side}
 use Rattle.ill_record.specs.Side.{txn_of}
 use Rattle.ill_record.specs.Ranges.{Each}
 use Rattle.ill_text.specs.Json.{optional}
-use Rattle.ill_show.specs.Kept.{is_among, kept_of, with_new}
+use Rattle.ill_beside.specs.Kept.{is_among, kept_of, with_new}
 use Rattle.ill_list.specs.ListedNews.{heard_array, heard_fields, heard_object, listed_news_fields}
 use Rattle.ill_json.proofs.Fields.{array_value, field_reads, optional_value, text_value}
 use Rattle.ill_json.proofs.NewsTexts.{told_utf8}

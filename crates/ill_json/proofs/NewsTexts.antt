@@ -8,7 +8,7 @@ use Rattle.ill_values.specs.declared.apdu.AnswerResult.TheVariants as results
 use Rattle.ill_record.specs.declared.side.Side.{Side}
 use Rattle.ill_record.specs.declared.side.Side.TheVariants as sides
 use Rattle.ill_record.specs.Side.{due_date_of}
-use Rattle.ill_show.specs.NewsWords.{lender_words, news_words, told_words}
+use Rattle.ill_beside.specs.NewsWords.{lender_words, news_words, told_words}
 use Rattle.ill_news.specs.News.{words_by}
 use Rattle.ill_json.proofs.Fields.{day_utf8}
 use Rattle.ill_json.proofs.Shown.{are_printable, printable_shown}

@@ -8,7 +8,7 @@ use Rattle.std.specs.Str.{is_utf8}
 use Rattle.std.proofs.lemmas.Str.{IsUtf8-from_is_utf8}
 use Rattle.ill_values.specs.TxnId.{Qualifiers}
 use Rattle.ill_text.specs.Keys.{loan_key}
-use Rattle.ill_show.specs.Notes.{note_of, unless_empty, words_after}
+use Rattle.ill_beside.specs.Notes.{note_of, unless_empty, words_after}
 
 -- The words of a line are UTF-8.
 words_utf8 : (begin line : List ℕ) → IfSome (words_after begin line) IsUtf8

@@ -31,7 +31,7 @@ use Rattle.ill_text.specs.ApduObject.{head_fields, optional_date_fields, body_fi
 use Rattle.ill_text.specs.Json.{flag, optional, quoted}
 use Rattle.ill_list.specs.declared.wanted.Wanted.{Wanted}
 use Rattle.ill_list.specs.List.{counts_of, is_to_do}
-use Rattle.ill_show.specs.Notes.{note_fields}
+use Rattle.ill_beside.specs.Notes.{note_fields}
 use Rattle.ill_show.specs.Objects.{leaves_fields, loan_fields, message_object, messages_fields}
 use Rattle.ill_list.specs.ListObjects.{counts_fields}
 use Rattle.ill_rows.specs.Heading.{file_fields}
@@ -41,7 +41,7 @@ use Rattle.ill_list.specs.ListObjects.{row_fields}
 use Rattle.ill_show.specs.Status.{mark, marks_of}
 use Rattle.ill_news.specs.News.{told_fields}
 use Rattle.ill_show.specs.ItemLine.{item_of}
-use Rattle.ill_show.specs.Since.{AnnexRead, since_fields}
+use Rattle.ill_beside.specs.Since.{AnnexRead, since_fields}
 use Rattle.ill_json.specs.Lines.{fields_of_counts, fields_of_loan, fields_of_message, fields_of_news, fields_of_row}
 use Rattle.ill_json.proofs.Labels.{labels, are_apart, apart_after, apart_before}
 use Rattle.ill_json.proofs.Names.{type_printable, result_printable, state_printable, turn_printable, verb_printable}

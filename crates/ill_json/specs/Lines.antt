@@ -15,13 +15,13 @@ use Rattle.ill_words.specs.Waiting.{most_urgent_first}
 use Rattle.ill_list.specs.declared.wanted.Wanted.{Wanted}
 use Rattle.ill_work.specs.declared.work.Work.{Work}
 use Rattle.ill_work.specs.Work.{all_work}
-use Rattle.ill_show.specs.Diary.{history_fields, history_of, messages_of}
+use Rattle.ill_beside.specs.Diary.{history_fields, history_of, messages_of}
 use Rattle.ill_list.specs.Seeking.{Seeking}
 use Rattle.ill_list.specs.List.{has_work, counts_of}
 use Rattle.ill_list.specs.Listing.{chosen_of}
-use Rattle.ill_show.specs.Notes.{note_fields}
+use Rattle.ill_beside.specs.Notes.{note_fields}
 use Rattle.ill_news.specs.News.{news_fields}
-use Rattle.ill_show.specs.Since.{AnnexRead}
+use Rattle.ill_beside.specs.Since.{AnnexRead}
 use Rattle.ill_show.specs.Objects.{status_fields, kept_fields}
 use Rattle.ill_inbox.specs.declared.tally.Tally.{Tally}
 use Rattle.ill_night.specs.declared.verdict.Unfit.{Unfit}

@@ -24,7 +24,7 @@ use Rattle.ill_figures.specs.Days.{span_between}
 use Rattle.ill_figures.specs.declared.days.Span.{Span}
 use Rattle.ill_figures.specs.declared.figures.FiguresView.{FiguresView}
 use Rattle.ill_show.specs.Loan.{loan_form}
-use Rattle.ill_show.specs.Notes.{is_note, note_text}
+use Rattle.ill_beside.specs.Notes.{is_note, note_text}
 use Rattle.ill_show.specs.declared.loan.LoanForm.{LoanForm}
 use Rattle.ill_text.specs.Diary.{Stamped, is_name, stamped}
 use Rattle.ill_text.specs.declared.form.Form.{Form}

@@ -15,6 +15,7 @@ ghost use Rattle.ill_line.specs.Asked.{asks_for_help, dates_and_stamp_of, day_an
 use crate::command_line::{Argument, Name, SHELF, command, is_option};
 use clap::error::ErrorKind;
 use clap::{ArgMatches, Command, Error};
+use ill_beside::notes::{is_note, note_text};
 use ill_core::State;
 use ill_days::read_day;
 use ill_desk::take::TakeForm;
@@ -26,7 +27,6 @@ use ill_night::night::{Dates, Night};
 use ill_rows::soon::SOON;
 use ill_saved::Role;
 use ill_show::loan::LoanForm;
-use ill_show::notes::{is_note, note_text};
 use ill_text::diary::{Stamp, is_name};
 use ill_text::fault::ToolFault;
 use ill_text::form::Form;

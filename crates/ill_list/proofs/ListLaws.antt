@@ -11,7 +11,7 @@ use Rattle.ill_rows.specs.Heading.{heading}
 use Rattle.ill_list.specs.Listing.{noted_row, section, since_shown, told_morning, told_row, work_heading, work_lines}
 use Rattle.ill_list.specs.Morning.{is_morning, morning_columns, morning_row}
 use Rattle.ill_list.specs.declared.morning.MorningColumns.{MorningColumns}
-use Rattle.ill_show.specs.Since.{AnnexRead, notes_alone, since_line, since_of}
+use Rattle.ill_beside.specs.Since.{AnnexRead, notes_alone, since_line, since_of}
 use Rattle.ill_text.specs.declared.form.Form.TheVariants.{Lines}
 use Rattle.ill_record.specs.declared.side.Side.{Side}
 use Rattle.ill_words.specs.Waiting.{most_urgent_first}

@@ -14,8 +14,8 @@ use Rattle.ill_text.specs.ApduObject.{object_line}
 use Rattle.ill_list.specs.ListedNews.{listed_news_fields}
 use Rattle.ill_rows.specs.Heading.{file_fields}
 use Rattle.ill_show.specs.Objects.{names_of}
-use Rattle.ill_show.specs.Notes.{note_fields, note_of}
-use Rattle.ill_show.specs.Since.{AnnexRead, since_fields, since_of}
+use Rattle.ill_beside.specs.Notes.{note_fields, note_of}
+use Rattle.ill_beside.specs.Since.{AnnexRead, since_fields, since_of}
 
 -- Returns the field that says that a line is of a loan, and the field of its work.
 abbrev pub kind_fields : Work → List Field

@@ -7,8 +7,8 @@ use Rattle.ill_core.specs.Issued.{is_same_txn}
 use Rattle.ill_record.specs.declared.side.Side.{Side}
 use Rattle.ill_record.specs.Side.{txn_of}
 use Rattle.ill_text.specs.Json.{Field, array, object, optional, quoted}
-use Rattle.ill_show.specs.Kept.{kept_of}
-use Rattle.ill_show.specs.NewsWords.{told_words}
+use Rattle.ill_beside.specs.Kept.{kept_of}
+use Rattle.ill_beside.specs.NewsWords.{told_words}
 
 -- ---- lines
 

@@ -22,8 +22,8 @@ use Rattle.ill_list.specs.Seeking.{Seeking, found_of}
 use Rattle.ill_list.specs.ListedNews.{listed_news}
 use Rattle.ill_rows.specs.Heading.{file_told, heading}
 use Rattle.ill_list.specs.Morning.{is_morning, morning_columns, morning_row}
-use Rattle.ill_show.specs.Notes.{listed_note, note_of}
-use Rattle.ill_show.specs.Since.{AnnexRead, annex_of, since_line, since_of}
+use Rattle.ill_beside.specs.Notes.{listed_note, note_of}
+use Rattle.ill_beside.specs.Since.{AnnexRead, annex_of, since_line, since_of}
 
 -- ---- one kind of work
 

@@ -8,8 +8,8 @@ use Rattle.ill_list.specs.declared.morning.MorningColumns.{MorningColumns}
 use Rattle.ill_list.specs.declared.wanted.Wanted.{Wanted}
 use Rattle.ill_rows.specs.Cells.{cell, title_text}
 use Rattle.ill_list.specs.List.{columns_of, is_mine, due_and_name}
-use Rattle.ill_show.specs.Kept.{kept_of}
-use Rattle.ill_show.specs.NewsWords.{told_words}
+use Rattle.ill_beside.specs.Kept.{kept_of}
+use Rattle.ill_beside.specs.NewsWords.{told_words}
 
 -- Returns true if a list is one of a morning: of what wants a hand, and of what came since a day.
 abbrev pub is_morning : Wanted → Bool

@@ -3,7 +3,7 @@ use Rattle.std.specs.Prelude.{ℕ, List, filter, Option, option_map}
 use Rattle.ill_record.specs.declared.side.Side.{Side}
 use Rattle.ill_list.specs.declared.list.Sought.{Sought}
 use Rattle.ill_rows.specs.Finding.{is_found}
-use Rattle.ill_show.specs.Since.{AnnexRead, annex_of}
+use Rattle.ill_beside.specs.Since.{AnnexRead, annex_of}
 
 -- The words that are sought in the loans of a desk, if there are any, and the annex of the desk.
 pub record Seeking : Type 0 where

@@ -3,7 +3,7 @@
 ghost use Rattle.std.specs.Prelude.{◌≡◌, ℕ, Bool, true, false, find, List, Option, None};
 ghost use Rattle.ill_values.specs.declared.apdu.Apdu.{Apdu};
 ghost use Rattle.ill_record.specs.declared.side.Side.{Side};
-ghost use Rattle.ill_show.specs.Since.{AnnexRead, notes_alone};
+ghost use Rattle.ill_beside.specs.Since.{AnnexRead, notes_alone};
 ghost use Rattle.ill_list.specs.List.{is_listed, is_mine, is_to_do, is_wanted};
 ghost use Rattle.ill_list.specs.ListedNews.{has_news};
 ghost use Rattle.ill_list.specs.Listing.{listed_desk};

@@ -5,13 +5,13 @@ ghost use Rattle.std.specs.List.{flat_map, list_any};
 ghost use Rattle.ill_record.specs.Side.{txn_of};
 ghost use Rattle.ill_core.specs.Issued.{is_same_txn};
 ghost use Rattle.ill_text.specs.Json.{joined, member};
-ghost use Rattle.ill_show.specs.Since.{annex_of};
+ghost use Rattle.ill_beside.specs.Since.{annex_of};
 ghost use Rattle.ill_list.specs.ListedNews.{has_news, heard_array, heard_fields, heard_object, listed_news, listed_news_fields, news_line, news_value};
 
+use ill_beside::annex::Annex;
+use ill_beside::kept::kept_of;
+use ill_beside::news_words::told_words;
 use ill_saved::Side;
-use ill_show::annex::Annex;
-use ill_show::kept::kept_of;
-use ill_show::news_words::told_words;
 use ill_text::json::{ItemForm, Value, push_array, push_label, push_members, push_plain};
 use ill_values::{Apdu, OutOfMemory};
 

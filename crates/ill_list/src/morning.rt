@@ -2,16 +2,16 @@
 
 ghost use Rattle.std.specs.Prelude.{◌≡◌, ◌++◌, [], map, fold, IfOk, OnOk};
 ghost use Rattle.std.specs.List.{flat_map};
-ghost use Rattle.ill_show.specs.Since.{annex_of};
+ghost use Rattle.ill_beside.specs.Since.{annex_of};
 ghost use Rattle.ill_list.specs.Morning.{break_after, is_morning, morning_columns, morning_row, news_text, text_or_dash, widest, with_words, words_of};
 
 use crate::row::{Columns, push_due_and_name};
 use crate::wanted::Wanted;
+use ill_beside::annex::Annex;
+use ill_beside::kept::kept_of;
+use ill_beside::news_words::told_words;
 use ill_rows::cells::{push_cell, push_title};
 use ill_saved::Side;
-use ill_show::annex::Annex;
-use ill_show::kept::kept_of;
-use ill_show::news_words::told_words;
 use ill_values::{Apdu, OutOfMemory};
 use std::alloc::Global;
 

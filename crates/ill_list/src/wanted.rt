@@ -1,13 +1,13 @@
 //! The loans that a list is asked for.
 
 ghost use Rattle.std.specs.Prelude.{◌≡◌, filter, map, IfOk};
-ghost use Rattle.ill_show.specs.Since.{annex_of};
+ghost use Rattle.ill_beside.specs.Since.{annex_of};
 ghost use Rattle.ill_list.specs.List.{has_work, is_due_before, is_in, is_listed, is_mine, is_of_list, is_to_do, is_wanted, listed_of, lists, work_of};
 
 use crate::listed_news::has_news;
+use ill_beside::annex::Annex;
 use ill_core::State;
 use ill_saved::Side;
-use ill_show::annex::Annex;
 use ill_values::{Day, OutOfMemory};
 use ill_words::waiting::is_sooner;
 use ill_work::Work;

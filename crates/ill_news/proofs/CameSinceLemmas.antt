@@ -17,7 +17,7 @@ use Rattle.ill_values.specs.declared.apdu.Apdu.{Apdu}
 use Rattle.ill_news.specs.CameSince.{came_before, came_key, came_since, is_named_before, is_named_since, is_new}
 use Rattle.ill_news.specs.CameSince.{says_before}
 use Rattle.ill_record.specs.Ranges.{Each}
-use Rattle.ill_show.specs.Diary.{Said, has_key, is_named, said_by}
+use Rattle.ill_beside.specs.Diary.{Said, has_key, is_named, said_by}
 
 -- The last items that pass a test go on before the last item, if it passes. Else there are none.
 pub suffix_last : {X : Type 0} (p : X → Bool) (before : List X) (x : X)

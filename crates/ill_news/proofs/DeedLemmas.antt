@@ -14,7 +14,7 @@ use Rattle.ill_core.specs.Responder.{ResponderRecord}
 use Rattle.ill_record.specs.declared.side.Side.{Side}
 use Rattle.ill_record.specs.declared.side.Side.TheVariants.{Requester, Responder}
 use Rattle.ill_record.specs.Ranges.{Each}
-use Rattle.ill_show.specs.Heard.{is_heard, responder_heard}
+use Rattle.ill_beside.specs.Heard.{is_heard, responder_heard}
 use Rattle.ill_news.specs.Deeds.{deeds_at, deeds_since, is_by_date, is_deed_since}
 
 -- An item that passes a test stands among those that do.

@@ -6,7 +6,7 @@ use Rattle.ill_values.specs.Types.{type_name}
 use Rattle.ill_values.specs.declared.apdu.Apdu.{Apdu}
 use Rattle.ill_core.specs.Dates.{is_before}
 use Rattle.ill_text.specs.Diary.{message_key}
-use Rattle.ill_show.specs.Diary.{Said, is_named, said_by}
+use Rattle.ill_beside.specs.Diary.{Said, is_named, said_by}
 
 -- Returns the key by which a diary names a message that came.
 abbrev pub came_key : Apdu → List ℕ

@@ -9,7 +9,7 @@ use Rattle.ill_core.specs.Verbs.{verb_name}
 use Rattle.ill_record.specs.declared.side.Side.{Side}
 use Rattle.ill_record.specs.declared.side.Side.TheVariants.{Requester, Responder}
 use Rattle.ill_text.specs.Diary.{message_key}
-use Rattle.ill_show.specs.Diary.{body_verb}
+use Rattle.ill_beside.specs.Diary.{body_verb}
 use Rattle.ill_news.specs.CameSince.{is_named_before, is_named_since}
 
 -- Returns true for a message that a date makes due.

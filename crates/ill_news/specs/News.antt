@@ -13,11 +13,11 @@ use Rattle.ill_text.specs.declared.form.Form.TheVariants.{Lines, Json}
 use Rattle.ill_text.specs.ApduObject.{object_line}
 use Rattle.ill_text.specs.Json.{Field, optional, quoted}
 use Rattle.ill_news.specs.declared.news.NewsColumns.{NewsColumns}
-use Rattle.ill_show.specs.Heard.{is_heard}
+use Rattle.ill_beside.specs.Heard.{is_heard}
 use Rattle.ill_rows.specs.Cells.{cell, column, title_text}
 use Rattle.ill_rows.specs.Heading.{file_told, heading}
 use Rattle.ill_show.specs.ItemLine.{item_of}
-use Rattle.ill_show.specs.NewsWords.{news_words, told_words}
+use Rattle.ill_beside.specs.NewsWords.{news_words, told_words}
 use Rattle.ill_rows.specs.Heading.{file_fields}
 
 -- ---- the news

@@ -3,7 +3,7 @@ use Rattle.std.specs.Prelude.{ℕ, List, ◌++◌, Option, Some, option_map}
 use Rattle.ill_values.specs.Day.{Date}
 use Rattle.ill_values.specs.declared.apdu.Apdu.{Apdu}
 use Rattle.ill_record.specs.declared.side.Side.{Side}
-use Rattle.ill_show.specs.Since.{AnnexRead}
+use Rattle.ill_beside.specs.Since.{AnnexRead}
 use Rattle.ill_news.specs.CameSince.{came_since}
 use Rattle.ill_news.specs.Deeds.{deeds_since}
 use Rattle.ill_news.specs.News.{news_of}

@@ -2,12 +2,12 @@
 
 ghost use Rattle.std.specs.Prelude.{◌≡◌, ◌+◌, ◌++◌, ◌∷◌, [], not, filter, length, map, IfOk, OnOk, Some};
 ghost use Rattle.std.specs.List.{after_last, suffix_len};
-ghost use Rattle.ill_show.specs.FileLines.{lines_of};
-ghost use Rattle.ill_show.specs.Diary.{said_by};
+ghost use Rattle.ill_beside.specs.FileLines.{lines_of};
+ghost use Rattle.ill_beside.specs.Diary.{said_by};
 ghost use Rattle.ill_news.specs.CameSince.{came_before, came_key, is_named_before, is_named_since, is_new, says_before, says_since, came_since};
 
-use ill_show::diary::{is_named, said_by};
-use ill_show::file_lines::FileLines;
+use ill_beside::diary::{is_named, said_by};
+use ill_beside::file_lines::FileLines;
 use ill_text::diary::message_key;
 use ill_values::{Apdu, Day, Number, OutOfMemory};
 use std::alloc::Global;

@@ -4,8 +4,8 @@ ghost use Rattle.std.specs.Prelude.{◌≡◌, ◌++◌, ◌∷◌, [], filter, 
 ghost use Rattle.ill_news.specs.Deeds.{deed_key, deeds_at, deeds_since, is_by_date, is_deed_since, is_done_since};
 
 use crate::came_since::{is_named_before, is_named_since};
+use ill_beside::diary::verb_of;
 use ill_saved::{Side, Sides};
-use ill_show::diary::verb_of;
 use ill_text::diary::message_key;
 use ill_values::{Apdu, Body, Day, OutOfMemory};
 use ill_words::sides::all_of;

@@ -7,11 +7,11 @@ ghost use Rattle.ill_values.specs.declared.apdu.Apdu.{Apdu};
 ghost use Rattle.ill_record.specs.declared.side.Side.{Side};
 ghost use Rattle.ill_news.specs.CameSince.{came_before, came_key, came_since, is_named_before, is_named_since, is_new};
 ghost use Rattle.ill_record.specs.Ranges.{Each};
-ghost use Rattle.ill_show.specs.Diary.{is_named};
+ghost use Rattle.ill_beside.specs.Diary.{is_named};
 ghost use Rattle.ill_core.specs.Responder.{ResponderRecord};
 ghost use Rattle.ill_news.specs.Deeds.{deeds_since, is_by_date, is_deed_since};
 ghost use Rattle.ill_record.specs.declared.side.Side.TheVariants.{Responder};
-ghost use Rattle.ill_show.specs.Heard.{is_heard};
+ghost use Rattle.ill_beside.specs.Heard.{is_heard};
 ghost use Rattle.ill_news.specs.News.{heard_at, is_same, is_told, news_of};
 
 /// A message that came is told if the record of its loan shows that it was taken.

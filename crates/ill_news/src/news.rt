@@ -7,21 +7,21 @@ ghost use Rattle.ill_text.specs.Json.{joined, member, optional, quoted, value_te
 ghost use Rattle.ill_rows.specs.Cells.{title_text};
 ghost use Rattle.ill_rows.specs.Heading.{between, file_told, gap, heading};
 ghost use Rattle.ill_rows.specs.Heading.{file_fields};
-ghost use Rattle.ill_show.specs.FileLines.{lines_of};
+ghost use Rattle.ill_beside.specs.FileLines.{lines_of};
 ghost use Rattle.ill_news.specs.Told.{news_since, told_since};
-ghost use Rattle.ill_show.specs.Since.{annex_of};
+ghost use Rattle.ill_beside.specs.Since.{annex_of};
 ghost use Rattle.ill_rows.specs.Messages.{IsTextOf, WritesNews};
 ghost use Rattle.ill_news.specs.News.{columns_of, heard_at, heard_by, is_same, is_told, last_of, named, news_counts, news_desk, news_fields, news_lines, news_object, news_objects, news_of, news_row, told_fields, widened, with_news, words_at, words_by};
 ghost use Rattle.ill_show.specs.ItemLine.{item_of};
 
 use crate::came_since::Came;
 use crate::deeds::push_deeds;
+use ill_beside::annex::Annex;
+use ill_beside::heard::is_heard;
+use ill_beside::news_words::{news_words, told_words};
 use ill_rows::cells::{column, push_cell, push_title};
 use ill_rows::listed::{Listed, heading, push_file};
 use ill_saved::{Desk, Side, Sides, Store};
-use ill_show::annex::Annex;
-use ill_show::heard::is_heard;
-use ill_show::news_words::{news_words, told_words};
 use ill_show::objects::title;
 use ill_text::fault::ToolFault;
 use ill_text::form::Form;

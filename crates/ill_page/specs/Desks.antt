@@ -10,7 +10,7 @@ use Rattle.ill_record.specs.declared.side.Side.{Side}
 use Rattle.ill_record.specs.Side.{txn_of}
 use Rattle.ill_text.specs.Html.{html_escaped, html_text}
 use Rattle.ill_report.specs.Report.{PageShown, desk_text, page_head_with}
-use Rattle.ill_show.specs.Since.{AnnexRead, annex_of}
+use Rattle.ill_beside.specs.Since.{AnnexRead, annex_of}
 use Rattle.ill_page.specs.declared.desks.DeskShown.{DeskShown}
 use Rattle.ill_page.specs.declared.parts.TheConstants.{BEGIN, BEGIN_END, BEGUN, END, FIGURES, FORM, FOUND, FOUND_END, GROUP}
 use Rattle.ill_page.specs.declared.parts.TheConstants.{NUMBER, SEARCH, SEARCH_END, STYLE}

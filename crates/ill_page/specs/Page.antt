@@ -6,7 +6,7 @@ use Rattle.ill_record.specs.declared.side.Side.{Side}
 use Rattle.ill_record.specs.Side.{txn_of}
 use Rattle.ill_text.specs.Html.{html_escaped, html_text}
 use Rattle.ill_words.specs.Possible.{possible_on, request_of, item_asked}
-use Rattle.ill_show.specs.StateWords.{state_words}
+use Rattle.ill_beside.specs.StateWords.{state_words}
 use Rattle.ill_report.specs.Link.{PlaceShown, place_text}
 use Rattle.ill_report.specs.Report.{page_head_with}
 use Rattle.ill_page.specs.declared.page.LoanShown.{LoanShown}

@@ -2,7 +2,7 @@
 
 ghost use Rattle.std.specs.Prelude.{◌≡◌, ◌++◌, option_map, IfOk, OnOk};
 ghost use Rattle.ill_text.specs.Html.{html_escaped, html_text};
-ghost use Rattle.ill_show.specs.Since.{annex_of};
+ghost use Rattle.ill_beside.specs.Since.{annex_of};
 ghost use Rattle.ill_page.specs.Desks.{begin_form, begin_text, desk_part, desk_seen, desks_begin, desks_end, known_group, new_text, next_number, proposed_text, search_text, sought_text};
 
 use crate::forms::{push_act, push_hidden};
@@ -10,10 +10,10 @@ use crate::parts::{
     BEGIN, BEGIN_END, BEGUN, END, FIGURES, FORM, FOUND, FOUND_END, GROUP, NUMBER, SEARCH,
     SEARCH_END, STYLE,
 };
+use ill_beside::annex::Annex;
 use ill_core::Verb;
 use ill_report::report::{PageView, push_desk, push_head_with};
 use ill_saved::{Role, Sides};
-use ill_show::annex::Annex;
 use ill_text::html::{push_html, push_text};
 use ill_text::json::push_plain;
 use ill_values::{Day, OutOfMemory};

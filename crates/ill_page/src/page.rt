@@ -11,10 +11,10 @@ use crate::parts::{
     ALERT, ALERT_END, ALL, COUNTED, COUNTED_END, END, KNOWN, KNOWN_END, LOAN, POSSIBLE, SLIP,
     SLIP_END, STATE, STYLE,
 };
+use ill_beside::state_words::words_of;
 use ill_report::link::{Place, push_place};
 use ill_report::report::push_head_with;
 use ill_saved::Side;
-use ill_show::state_words::words_of;
 use ill_text::html::{push_html, push_text};
 use ill_text::json::push_plain;
 use ill_values::{Day, OutOfMemory};

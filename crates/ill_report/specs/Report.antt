@@ -32,11 +32,11 @@ use Rattle.ill_report.specs.declared.report.PageView.{PageView}
 use Rattle.ill_rows.specs.Finding.{is_found}
 use Rattle.ill_report.specs.Link.{linked_text}
 use Rattle.ill_rows.specs.Cells.{title_text}
-use Rattle.ill_show.specs.Kept.{kept_of}
-use Rattle.ill_show.specs.NewsWords.{told_words}
-use Rattle.ill_show.specs.Notes.{note_of}
-use Rattle.ill_show.specs.Since.{AnnexRead, since_of}
-use Rattle.ill_show.specs.StateWords.{state_words}
+use Rattle.ill_beside.specs.Kept.{kept_of}
+use Rattle.ill_beside.specs.NewsWords.{told_words}
+use Rattle.ill_beside.specs.Notes.{note_of}
+use Rattle.ill_beside.specs.Since.{AnnexRead, since_of}
+use Rattle.ill_beside.specs.StateWords.{state_words}
 
 -- The day of a page, the words that its loans have, if any are sought, and the text for its desk in the links of its rows, if
 -- they have links.

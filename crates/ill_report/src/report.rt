@@ -10,12 +10,12 @@ ghost use Rattle.ill_words.specs.Possible.{possible_on, request_of, item_asked};
 ghost use Rattle.ill_work.specs.Order.{has_work};
 ghost use Rattle.ill_report.specs.declared.report_parts.TheConstants.{NOTE_END, SINCE, TIME_END};
 ghost use Rattle.ill_rows.specs.Cells.{title_text};
-ghost use Rattle.ill_show.specs.FileLines.{lines_of};
+ghost use Rattle.ill_beside.specs.FileLines.{lines_of};
 ghost use Rattle.ill_rows.specs.Finding.{is_found};
 ghost use Rattle.ill_report.specs.Link.{linked_text};
-ghost use Rattle.ill_show.specs.Notes.{note_of};
-ghost use Rattle.ill_show.specs.Since.{annex_of, since_of};
-ghost use Rattle.ill_show.specs.StateWords.{state_words};
+ghost use Rattle.ill_beside.specs.Notes.{note_of};
+ghost use Rattle.ill_beside.specs.Since.{annex_of, since_of};
+ghost use Rattle.ill_beside.specs.StateWords.{state_words};
 ghost use Rattle.ill_report.specs.Report.{action_text, counted, counts_text, deadline_text, desk_text, field_text, is_to_do, loans_text, news_mark, news_marks, noted_text, page_end, page_head, page_head_with, page_shown, report_of, row_text, rows_text, since_text, table_head, table_text, unread_text, value_text, work_text, works_text};
 
 use crate::link::push_linked;
@@ -24,17 +24,17 @@ use crate::report_parts::{
     OPEN, PAGE, ROOM, ROW, SINCE, STYLE_END, TABLE, TABLE_END, TIME_END, TO_DO, UNREAD, UNREAD_END,
     heading,
 };
+use ill_beside::annex::Annex;
+use ill_beside::kept::kept_of;
+use ill_beside::news_words::told_words;
+use ill_beside::notes::Notes;
+use ill_beside::since::since_of;
+use ill_beside::state_words::words_of;
 use ill_core::Verb;
 use ill_rows::cells::push_title;
 use ill_rows::finding::found_of;
 use ill_rows::soon::SOON;
 use ill_saved::{SIDES_LIMIT, Side, Sides};
-use ill_show::annex::Annex;
-use ill_show::kept::kept_of;
-use ill_show::news_words::told_words;
-use ill_show::notes::Notes;
-use ill_show::since::since_of;
-use ill_show::state_words::words_of;
 use ill_text::fault::ToolFault;
 use ill_text::html::{push_html, push_text};
 use ill_text::json::push_plain;

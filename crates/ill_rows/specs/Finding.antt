@@ -9,7 +9,7 @@ use Rattle.ill_values.specs.TxnId.{Qualifiers}
 use Rattle.ill_record.specs.declared.side.Side.{Side}
 use Rattle.ill_record.specs.Side.{txn_of}
 use Rattle.ill_words.specs.Possible.{item_asked, request_of}
-use Rattle.ill_show.specs.Notes.{note_of}
+use Rattle.ill_beside.specs.Notes.{note_of}
 
 -- Returns a text of UTF-8 with the case of its characters folded (The Unicode Standard, section 3.13).
 abbrev pub folded : List ℕ → List ℕ

@@ -2,13 +2,13 @@
 
 ghost use Rattle.std.specs.Prelude.{◌≡◌, ◌++◌, ◌∷◌, [], filter, map, option_map, IfOk, OnOk};
 ghost use Rattle.ill_words.specs.Possible.{item_asked, request_of};
-ghost use Rattle.ill_show.specs.FileLines.{lines_of};
-ghost use Rattle.ill_show.specs.Notes.{note_of};
+ghost use Rattle.ill_beside.specs.FileLines.{lines_of};
+ghost use Rattle.ill_beside.specs.Notes.{note_of};
 ghost use Rattle.ill_rows.specs.Finding.{folded, has_part, has_words, is_found, loan_number, tells, tells_any};
 
 use caseless::default_case_fold_str;
+use ill_beside::notes::Notes;
 use ill_saved::Side;
-use ill_show::notes::Notes;
 use ill_values::{OutOfMemory, TxnId};
 use ill_words::possible::item_asked;
 use std::alloc::Global;

@@ -1,12 +1,4 @@
-pub mod DiaryLaws
-pub mod DiaryLemmas
-pub mod KeyedDiaryLemmas
+pub mod HistoryLaws
 pub mod LoanLemmas
-pub mod NewsWordsLemmas
-pub mod NotesLaws
-pub mod NotesLemmas
-pub mod ReadLemmas
-pub mod SinceLaws
 pub mod StatusLemmas
-pub mod TextLemmas
 pub mod VerifyLemmas

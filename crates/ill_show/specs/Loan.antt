@@ -17,10 +17,11 @@ use Rattle.ill_text.specs.Output.{WritesText}
 use Rattle.ill_show.specs.declared.loan.Beside.{Beside}
 use Rattle.ill_show.specs.declared.loan.LoanForm.{LoanForm}
 use Rattle.ill_show.specs.declared.loan.LoanForm.TheVariants.{Lines, Object, Picture}
-use Rattle.ill_show.specs.Diary.{history_fields, history_lines, history_of, messages_of}
-use Rattle.ill_show.specs.FileLines.{lines_of}
-use Rattle.ill_show.specs.Kept.{kept_lines, kept_of}
-use Rattle.ill_show.specs.Notes.{note_fields, note_of}
+use Rattle.ill_beside.specs.Diary.{history_fields, history_lines, history_of, messages_of}
+use Rattle.ill_beside.specs.FileLines.{lines_of}
+use Rattle.ill_show.specs.LoanLines.{kept_lines}
+use Rattle.ill_beside.specs.Kept.{kept_of}
+use Rattle.ill_beside.specs.Notes.{note_fields, note_of}
 use Rattle.ill_show.specs.Objects.{kept_fields}
 use Rattle.ill_show.specs.Picture.{picture}
 

@@ -1,5 +1,5 @@
 -- The lines of a loan: all that a desk knows of it.
-use Rattle.std.specs.Prelude.{ℕ, nat_le, Bool, List, [], ◌++◌, map, codes, Option, None, Some}
+use Rattle.std.specs.Prelude.{ℕ, nat_le, Bool, true, List, [], ◌++◌, map, codes, Option, None, Some}
 use Rattle.std.specs.List.{flat_map}
 use Rattle.std.specs.Fmt.{decimal}
 use Rattle.ill_values.specs.declared.apdu.Apdu.{Apdu}
@@ -9,12 +9,13 @@ use Rattle.ill_core.specs.Verbs.{verb_name}
 use Rattle.ill_record.specs.declared.side.Side.{Side}
 use Rattle.ill_record.specs.declared.side.Side.TheVariants.{Requester, Responder}
 use Rattle.ill_record.specs.Side.{issued_of}
+use Rattle.ill_saved.specs.Holdings.{DeskEntry}
 use Rattle.ill_record.specs.SideVerbs.{turn_of}
 use Rattle.ill_words.specs.Shown.{due_text}
 use Rattle.ill_text.specs.Escape.{escaped}
 use Rattle.ill_text.specs.Lines.{line, reply_word, shown_lines}
 use Rattle.ill_words.specs.Possible.{possible_on, request_of}
-use Rattle.ill_show.specs.Notes.{note_lines}
+use Rattle.ill_beside.specs.Notes.{note_lines}
 use Rattle.ill_show.specs.Status.{status_lines, spaced_or_dash}
 use Rattle.ill_core.specs.Words.{turn_name}
 
@@ -68,3 +69,7 @@ message_lines released apdu = marked_lines (codes "leaves") (nat_le apdu.number 
 unfoldable pub loan_lines : Option (List ℕ) → Side → ℕ → List ℕ
 loan_lines note side released =
     side_lines side released ++ (note_lines note ++ flat_map (message_lines released) (issued_of side))
+
+-- Returns all lines of a loan with this note, and after them the lines of the messages `kept` that came.
+abbrev pub kept_lines : Option (List ℕ) → DeskEntry → List Apdu → List ℕ
+kept_lines note held kept = loan_lines note held.side held.released ++ flat_map (marked_lines (codes "came") true) kept

@@ -17,7 +17,7 @@ use Rattle.ill_show.specs.declared.picture.Link.TheVariants.{Before, After}
 use Rattle.ill_text.specs.Escape.{is_within}
 use Rattle.ill_values.specs.Types.{type_name}
 use Rattle.ill_text.specs.Lines.{shown_fields}
-use Rattle.ill_show.specs.Kept.{is_among}
+use Rattle.ill_beside.specs.Kept.{is_among}
 
 -- ---- texts
 

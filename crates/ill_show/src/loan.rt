@@ -4,17 +4,18 @@ ghost use Rattle.std.specs.Prelude.{◌≡◌, [], ◌++◌, codes, map, option_
 ghost use Rattle.ill_record.specs.Side.{txn_of};
 ghost use Rattle.ill_saved.specs.ManySides.{found_by, txn_held};
 ghost use Rattle.ill_text.specs.Json.{joined, member};
-ghost use Rattle.ill_show.specs.Diary.{history_fields, history_of, messages_of, told};
+ghost use Rattle.ill_beside.specs.Diary.{history_fields, history_of, messages_of, told};
 ghost use Rattle.ill_show.specs.Loan.{IsTextOf, RunsLoan, beside_of, fields_with_history, lines_with_history, loan_form, loan_text};
-ghost use Rattle.ill_show.specs.FileLines.{lines_of};
+ghost use Rattle.ill_beside.specs.FileLines.{lines_of};
 ghost use Rattle.ill_show.specs.declared.loan.LoanForm.TheVariants.{Object};
-ghost use Rattle.ill_show.specs.Notes.{note_of};
+ghost use Rattle.ill_beside.specs.Notes.{note_of};
 
-use crate::diary::{Part, history_of, messages_of, push_history, push_history_field};
-use crate::file_lines::FileLines;
-use crate::kept::{kept_of, push_kept_lines};
+use crate::loan_lines::push_kept_lines;
 use crate::objects::push_kept_and_note;
 use crate::picture::picture_of;
+use ill_beside::diary::{Part, history_of, messages_of, push_history, push_history_field};
+use ill_beside::file_lines::FileLines;
+use ill_beside::kept::kept_of;
 use ill_saved::{Desk, DeskFault, Side, Store};
 use ill_text::fault::ToolFault;
 use ill_text::form::Form;

@@ -1,17 +1,43 @@
 //! The lines of a loan.
 
-ghost use Rattle.std.specs.Prelude.{◌≡◌, ◌++◌, option_copied, OnOk};
+ghost use Rattle.std.specs.Prelude.{◌≡◌, ◌++◌, true, codes, option_copied, OnOk};
 ghost use Rattle.std.specs.List.{flat_map};
 ghost use Rattle.ill_words.specs.Possible.{request_of};
-ghost use Rattle.ill_show.specs.LoanLines.{item_lines, loan_lines, marked_lines, message_lines, optional_number_line, request_lines, side_lines, taken_lines, turn_lines};
+ghost use Rattle.ill_show.specs.LoanLines.{item_lines, kept_lines, loan_lines, marked_lines, message_lines, optional_number_line, request_lines, side_lines, taken_lines, turn_lines};
 
-use crate::notes::push_note_lines;
 use crate::status::{push_day_or_dash, push_status, push_words};
+use ill_beside::notes::push_note_lines;
 use ill_saved::Side;
 use ill_text::lines::{push_item, push_line, push_number, push_shown, push_whether};
 use ill_values::{Apdu, Body, Number, OutOfMemory};
 use ill_words::names::names;
 use ill_words::possible::{possible_on, request};
+
+/// Appends the lines of `side` and of its note, and of the messages `kept` that came to it.
+pub(crate) fn push_kept_lines(
+    lines: &mut Vec<u8>,
+    note: Option<&str>,
+    side: &Side,
+    released: u8,
+    kept: &[Apdu],
+) -> Result<(), OutOfMemory>
+    ensures { OnOk result (lines.new.items ≡ lines.old.items
+        ++ kept_lines (option_copied note.entry) (record { side = side.now; released = released }) kept.now) }
+{
+    push_loan(lines, note, side, released)?;
+    push_kept(lines, kept)
+}
+
+/// Appends the lines of the messages `kept`.
+fn push_kept(lines: &mut Vec<u8>, kept: &[Apdu]) -> Result<(), OutOfMemory>
+    ensures { OnOk result (lines.new.items ≡ lines.old.items
+        ++ flat_map (marked_lines (codes "came") true) kept.now) }
+{
+    for apdu in kept {
+        push_marked(lines, "came", true, apdu)?;
+    }
+    Ok(())
+}
 
 /// Appends the lines of `side` and of its note, and of the messages that it has issued.
 #[tactic(auto, unfolding(crate::specs::LoanLines::loan_lines))]

@@ -4,11 +4,11 @@ ghost use Rattle.std.specs.Prelude.{◌≡◌, [], ◌++◌, map, codes, option_
 ghost use Rattle.ill_text.specs.Json.{joined, member, optional, quoted, value_text};
 ghost use Rattle.ill_words.specs.Possible.{item_asked, request_of};
 ghost use Rattle.ill_text.specs.ApduObject.{apdu_fields, object_line};
-ghost use Rattle.ill_show.specs.Notes.{note_fields};
+ghost use Rattle.ill_beside.specs.Notes.{note_fields};
 ghost use Rattle.ill_show.specs.Objects.{came_fields, kept_fields, leaves_fields, loan_fields, message_object, messages_fields, names_of, standing_fields, status_fields, taken_fields, turn_fields};
 
 use crate::marks::marks;
-use crate::notes::push_note_field;
+use ill_beside::notes::push_note_field;
 use ill_saved::Side;
 use ill_text::apdu_object::push_apdu;
 use ill_text::json::{ItemForm, Value, push_array, push_label, push_members, push_plain};

@@ -4,7 +4,7 @@ ghost use Rattle.std.specs.Prelude.{◌≡◌, ◌≤◌, ◌++◌, length, IfOk
 ghost use Rattle.ill_record.specs.Side.{issued_of};
 ghost use Rattle.ill_show.specs.Picture.{answers, arrow, arrows, comes_before, drawn, drawn_byte, is_linked, is_plain, label_of, picture_of, theirs_of, through, arrow_of, with_own, with_request};
 
-use crate::kept::is_among;
+use ill_beside::kept::is_among;
 use ill_saved::Side;
 use ill_text::lines::push_shown_fields;
 use ill_values::{Apdu, Body, Number, OutOfMemory};

@@ -24,7 +24,7 @@ use Rattle.ill_commands.specs.Note.{NotesAtFile}
 use Rattle.ill_commands.specs.Streams.{streams_of}
 use Rattle.ill_key.specs.KeyCommand.{RunsKey}
 use Rattle.ill_files.specs.Opening.{GoesWell}
-use Rattle.ill_show.specs.Notes.{note_text}
+use Rattle.ill_beside.specs.Notes.{note_text}
 use Rattle.ill_commands.specs.AtFile.{VerifiesFile}
 use Rattle.ill_visits.specs.Visits.{ReportsPaths}
 use Rattle.ill_mail.specs.Keyed.{WithKey}

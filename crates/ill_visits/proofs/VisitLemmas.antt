@@ -5,7 +5,7 @@ use Rattle.ill_der.specs.ShortForm.{header_at, outer_at, apdu_at}
 use Rattle.ill_text.specs.Input.{AreIn}
 use Rattle.ill_news.specs.CameSince.{came_since}
 use Rattle.ill_news.specs.News.{news_of}
-use Rattle.ill_show.specs.Since.{AnnexRead}
+use Rattle.ill_beside.specs.Since.{AnnexRead}
 use Rattle.ill_text.specs.declared.fault.ToolFault.{ToolFault}
 use Rattle.ill_text.specs.declared.fault.ToolFault.TheVariants.{Write}
 use Rattle.ill_text.specs.declared.form.Form.{Form}

@@ -5,7 +5,7 @@ use Rattle.ill_values.specs.Day.{Date}
 use Rattle.ill_record.specs.declared.side.Side.{Side}
 use Rattle.ill_text.specs.declared.fault.ToolFault.{ToolFault}
 use Rattle.ill_text.specs.Visits.{gravest_of}
-use Rattle.ill_show.specs.Since.{AnnexRead}
+use Rattle.ill_beside.specs.Since.{AnnexRead}
 use Rattle.ill_news.specs.Told.{news_since}
 use Rattle.ill_report.specs.Report.{desk_text, page_end, page_head, report_of, unread_text}
 

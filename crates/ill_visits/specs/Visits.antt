@@ -17,7 +17,7 @@ use Rattle.ill_list.specs.Listing.{listed_desk}
 use Rattle.ill_rows.specs.Messages.{WritesNews}
 use Rattle.ill_news.specs.News.{news_desk}
 use Rattle.ill_news.specs.Told.{news_since, told_since}
-use Rattle.ill_show.specs.Since.{AnnexRead}
+use Rattle.ill_beside.specs.Since.{AnnexRead}
 use Rattle.ill_visits.specs.Parts.{Part, gravest_part, report_page}
 use Rattle.ill_text.specs.declared.form.Form.{Form}
 use Rattle.ill_text.specs.Visits.{Stop, VisitsEach, graver}

@@ -6,6 +6,7 @@ ghost use Rattle.ill_text.specs.Fault.{IsOpenFault};
 ghost use Rattle.ill_visits.specs.Visits.{ListsDesk};
 
 use ill_annex::{read_annex, read_notes};
+use ill_beside::annex::Annex;
 use ill_files::machine::Machine;
 use ill_files::open::{all_well, open};
 use ill_list::list::{Sought, count_left_out, run_desk_list};
@@ -13,7 +14,6 @@ use ill_list::wanted::Wanted;
 use ill_news::news::news_since;
 use ill_rows::listed::{Listed, left_out_line, warning};
 use ill_saved::{SIDES_LIMIT, Sides};
-use ill_show::annex::Annex;
 use ill_show::numbers::numbers_lines;
 use ill_text::fault::ToolFault;
 use ill_text::form::Form;

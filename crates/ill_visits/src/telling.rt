@@ -5,13 +5,13 @@ ghost use Rattle.ill_text.specs.Fault.{IsOpenFault};
 ghost use Rattle.ill_visits.specs.Visits.{TellsDesk};
 
 use ill_annex::read_diary;
+use ill_beside::file_lines::FileLines;
 use ill_files::came::came_bytes;
 use ill_files::machine::Machine;
 use ill_files::open::{all_well, open};
 use ill_news::came_since::Came;
 use ill_news::news::run_desk_news;
 use ill_rows::listed::Listed;
-use ill_show::file_lines::FileLines;
 use ill_text::fault::ToolFault;
 use ill_values::{Day, Number};
 use std::alloc::Global;

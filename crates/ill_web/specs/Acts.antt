@@ -10,7 +10,7 @@ use Rattle.ill_record.specs.declared.side.Action.{Action}
 use Rattle.ill_text.specs.Diary.{diary_line, is_name}
 use Rattle.ill_text.specs.Fault.{desk_fault}
 use Rattle.ill_text.specs.declared.fault.ToolFault.{ToolFault}
-use Rattle.ill_show.specs.Notes.{is_note}
+use Rattle.ill_beside.specs.Notes.{is_note}
 use Rattle.ill_commands.specs.Note.{NotesAtFile}
 use Rattle.ill_browser.specs.Wanted.{LoanAsked}
 use Rattle.ill_report.specs.Link.{PlaceShown}

@@ -15,7 +15,7 @@ use Rattle.ill_text.specs.declared.fault.ToolFault.TheVariants as tools
 use Rattle.ill_text.specs.Fault.{IsOpenFault}
 use Rattle.ill_show.specs.Loan.{FilesBeside, RunsLoan}
 use Rattle.ill_show.specs.declared.loan.LoanForm.TheVariants.{Lines}
-use Rattle.ill_show.specs.Since.{AnnexRead}
+use Rattle.ill_beside.specs.Since.{AnnexRead}
 use Rattle.ill_report.specs.declared.link.Place.{Place}
 use Rattle.ill_news.specs.Told.{news_since}
 use Rattle.ill_report.specs.Report.{unread_text}

@@ -8,12 +8,12 @@ ghost use Rattle.ill_web.specs.Replies.{house_shown};
 
 use crate::house::House;
 use crate::trouble::Trouble;
+use ill_beside::notes::is_note;
 use ill_browser::LoanName;
 use ill_commands::note::{NoteView, note};
 use ill_page::seen_reply;
 use ill_report::link::Place;
 use ill_saved::LockFiles;
-use ill_show::notes::is_note;
 
 /// Keeps a note on a loan, and returns the reply. An empty text removes the note. What `ill note` refuses is refused.
 pub fn note_loan<T: LockFiles>(

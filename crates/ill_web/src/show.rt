@@ -2,7 +2,7 @@
 
 ghost use Rattle.std.specs.Prelude.{◌≡◌, ◌++◌, ◌==◌, [], length, map, option_map, string_bytes, Some, IfOk, OnOk, MatchResult};
 ghost use Rattle.ill_browser.specs.Wanted.{loan_asked};
-ghost use Rattle.ill_show.specs.Since.{annex_of};
+ghost use Rattle.ill_beside.specs.Since.{annex_of};
 ghost use Rattle.ill_page.specs.declared.reply.Status.TheVariants.{Good};
 ghost use Rattle.ill_web.specs.Pages.{AddsDesk, AddsDesks, AreLines, AtDesk, IsUnread, ShowsDesks, ShowsFigures, ShowsHeld, ShowsLoan, ShowsSlip, ShowsSpan, TellsNone, asked_at, said, sides_part, with_news};
 ghost use Rattle.ill_web.specs.Replies.{house_shown};
@@ -12,6 +12,8 @@ use crate::house::House;
 use crate::told::Told;
 use crate::trouble::Trouble;
 use ill_annex::open_with_annex;
+use ill_beside::annex::Annex;
+use ill_beside::file_lines::FileLines;
 use ill_browser::LoanName;
 use ill_commands::commands::slip;
 use ill_figures::figures::{FiguresView, Span};
@@ -28,8 +30,6 @@ use ill_post::stamp_of;
 use ill_report::link::Place;
 use ill_report::report::push_fault;
 use ill_saved::{Desk, DeskFault, Sides, Store};
-use ill_show::annex::Annex;
-use ill_show::file_lines::FileLines;
 use ill_show::loan::{Beside, LoanForm, LoanView, run_desk_loan};
 use ill_text::fault::ToolFault;
 use ill_values::{Day, OutOfMemory};

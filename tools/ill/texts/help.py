@@ -20,11 +20,11 @@ from ill.texts import words as of_page
 from ill.texts.words import HELP, MAN, body, find, named
 
 EXPLAIN = "crates/ill_explain/src"
-(SCRIPT, WORLD, WORDS, TEXT, SHOW, ROWS, LIST, NEWS, REPORT, SLIP, COUNTED, DESK, NIGHT, INBOX, FILES, KEY, COMMANDS,
- VISITS, MAIL, MAILBOX, SHELF, ROOM) = (
+(SCRIPT, WORLD, WORDS, TEXT, BESIDE, SHOW, ROWS, LIST, NEWS, REPORT, SLIP, COUNTED, DESK, NIGHT, INBOX, FILES, KEY,
+ COMMANDS, VISITS, MAIL, MAILBOX, SHELF, ROOM) = (
     f"crates/ill_{room}/src"
-    for room in ("script", "world", "words", "text", "show", "rows", "list", "news", "report", "slip", "figures", "desk",
-                 "night", "inbox", "files", "key", "commands", "visits", "mail", "mailbox", "shelf", "room"))
+    for room in ("script", "world", "words", "text", "beside", "show", "rows", "list", "news", "report", "slip", "figures",
+                 "desk", "night", "inbox", "files", "key", "commands", "visits", "mail", "mailbox", "shelf", "room"))
 # The arguments that name a desk, or files of it, and those that name the file of a key.
 OF_DESKS = {"FILE", "PATH"}
 OF_KEYS = {"KEYFILE", "key"}
@@ -206,7 +206,7 @@ def status_labels():
 
 def loan_labels():
     """Returns the labels of the lines of a loan that a status has not."""
-    sources = read(f"{SHOW}/loan_lines.rt") + read(f"{SHOW}/kept.rt")
+    sources = read(f"{SHOW}/loan_lines.rt")
     return labels_in(sources + body("push_item", f"{TEXT}/lines.rt"))
 
 
@@ -585,7 +585,7 @@ def compare_words(named_texts, words, arguments):
     examples = "\n".join([*command_line.texts().values(), *command_line.examples()])
     files = re.findall(r"^  \$ ill new (\w+)", examples, re.M)
     objects = "".join(map(read, (f"{TEXT}/apdu_object.rt", f"{SHOW}/objects.rt", f"{LIST}/list_objects.rt",
-                                 f"{SHOW}/diary.rt", f"{SHOW}/since.rt", f"{NEWS}/news.rt", f"{LIST}/listed_news.rt",
+                                 f"{BESIDE}/diary.rt", f"{BESIDE}/since.rt", f"{NEWS}/news.rt", f"{LIST}/listed_news.rt",
                                  f"{ROWS}/listed.rt", f"{SHOW}/verify.rt", f"{INBOX}/objects.rt")))
     labels = set(re.findall(r'(?:\(|\(text, )"([\w-]+)"(?:, |\)\?;)', objects))
     counted = set(re.findall(r"(\w+) \{\1\}", read(f"{INBOX}/tally.rt")))

@@ -1,4 +1,4 @@
-"""Compares the help with the definitions of ill_show: both have the same words of what came.
+"""Compares the help with the definitions of ill_beside: both have the same words of what came.
 
 It compares the lists of `ill news --help` with `specs/NewsWords.antt`: the words of each type of APDU, with each of
 its answers, and with and without its date, and those of what a date makes due. A record without a due date has no line for a renewal that was refused: no
@@ -10,7 +10,7 @@ from ill.command_line import text_of
 from ill.repository import Unread, read
 from ill.texts.words import HELP, named
 
-SPEC = "crates/ill_show/specs/NewsWords.antt"
+SPEC = "crates/ill_beside/specs/NewsWords.antt"
 # What the help says after a type whose date may be missing, and of the day that is no message's.
 DATED = {"IllRequest": " with an expiry day", "Renew": " with a wished day"}
 OF_RECORD = "; DAY is that of the record"

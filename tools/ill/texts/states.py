@@ -1,4 +1,4 @@
-"""Compares docs/PROTOCOL.md with the definitions of ill_show: both say the same of each state to staff.
+"""Compares docs/PROTOCOL.md with the definitions of ill_beside: both say the same of each state to staff.
 
 It compares the second cell of each line in the tables of states (2.2 and 3.2) with the words in `specs/StateWords.antt`:
 by role, by state and by the mark that either names.
@@ -9,7 +9,7 @@ from ill.repository import read
 from ill.texts.tables import PAGE, SECTION, need, read_states, table_lines
 from ill.texts.work import MARKS
 
-SPEC = "crates/ill_show/specs/StateWords.antt"
+SPEC = "crates/ill_beside/specs/StateWords.antt"
 CHOICE = re.compile(r'if (\w+) then codes "([^"]*)" else codes "([^"]*)"')
 
 

@@ -2,7 +2,7 @@
 use Rattle.std.proofs.Common.{ℕ, List, subst}
 use Rattle.ill_record.specs.Sides.{SidesOf}
 use Rattle.ill_text.specs.Output.{WritesPrefix}
-use Rattle.ill_show.specs.FileLines.{lines_of}
+use Rattle.ill_beside.specs.FileLines.{lines_of}
 use Rattle.ill_rows.specs.Messages.{IsTextOf}
 use Rattle.ill_rows.proofs.MessageLemmas.{writes_news}
 use Rattle.ill_figures.specs.Figures.{figures_of}

@@ -1,6 +1,6 @@
 -- States the loop invariant of `push_heard` (`src/loan_figures.rt`).
 use Rattle.std.proofs.Common.{◌≡◌, ◌++◌, filter, map, take}
-use Rattle.ill_show.specs.Heard.{is_heard}
+use Rattle.ill_beside.specs.Heard.{is_heard}
 use Rattle.ill_figures.specs.LoanFigures.{mentioned, taken_dated}
 use Rattle.ill_figures.proofs.loan_figures.push_heard.Given as goal
 

@@ -3,7 +3,7 @@ use Rattle.std.proofs.Common.{◌≡◌, ◌++◌, take, Bor}
 use Rattle.std.specs.List.{flat_map}
 use Rattle.ill_record.specs.declared.side.Side.{Side}
 use Rattle.ill_list.specs.Listing.{told_morning}
-use Rattle.ill_show.specs.Since.{annex_of}
+use Rattle.ill_beside.specs.Since.{annex_of}
 use Rattle.ill_list.proofs.list.push_morning_rows.Given as goal
 
 -- The lines of the sides so far are appended.

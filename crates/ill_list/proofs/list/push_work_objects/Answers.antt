@@ -5,7 +5,7 @@ use Rattle.std.proofs.lemmas.List.{take_all}
 use Rattle.std.proofs.lemmas.List.Folds.{flat_map-map}
 use Rattle.ill_record.specs.declared.side.Side.{Side}
 use Rattle.ill_list.specs.ListObjects.{row_object}
-use Rattle.ill_show.specs.Since.{annex_of}
+use Rattle.ill_beside.specs.Since.{annex_of}
 use Rattle.ill_list.proofs.list.push_work_objects.Goals as goal
 
 -- Proves the contract of `push_work_objects`. After the loop each side has added its object.

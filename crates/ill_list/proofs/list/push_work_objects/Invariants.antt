@@ -3,7 +3,7 @@ use Rattle.std.proofs.Common.{◌≡◌, ◌++◌, take, Bor, option_map}
 use Rattle.std.specs.List.{flat_map}
 use Rattle.ill_record.specs.declared.side.Side.{Side}
 use Rattle.ill_list.specs.ListObjects.{row_object}
-use Rattle.ill_show.specs.Since.{annex_of}
+use Rattle.ill_beside.specs.Since.{annex_of}
 use Rattle.ill_list.proofs.list.push_work_objects.Given as goal
 
 -- The objects of the sides so far are appended.

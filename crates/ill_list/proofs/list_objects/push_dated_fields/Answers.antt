@@ -4,7 +4,7 @@ use Rattle.ill_values.specs.Day.{Date}
 use Rattle.ill_text.specs.Json.{joined, member}
 use Rattle.ill_text.proofs.JsonLemmas.{joined_further}
 use Rattle.ill_list.specs.ListObjects.{noted_fields}
-use Rattle.ill_show.specs.Since.{annex_of, since_fields}
+use Rattle.ill_beside.specs.Since.{annex_of, since_fields}
 use Rattle.ill_list.proofs.list_objects.push_dated_fields.Goals as goal
 
 -- Proves the contract of `push_dated_fields`. The field of the day follows the fields of the loan and its note.

@@ -2,8 +2,8 @@
 use Rattle.std.proofs.Common.{◌≡◌, ◌++◌, ℕ, List, [], Option, OnOk, ap, subst, ◌∙◌}
 use Rattle.ill_text.specs.Json.{joined, member}
 use Rattle.ill_text.proofs.JsonLemmas.{joined_further}
-use Rattle.ill_show.specs.FileLines.{lines_of}
-use Rattle.ill_show.specs.Notes.{note_fields, note_of}
+use Rattle.ill_beside.specs.FileLines.{lines_of}
+use Rattle.ill_beside.specs.Notes.{note_fields, note_of}
 use Rattle.ill_show.specs.Objects.{names_of}
 use Rattle.ill_list.specs.ListObjects.{row_fields}
 use Rattle.ill_list.proofs.list_objects.push_noted_fields.Goals as goal

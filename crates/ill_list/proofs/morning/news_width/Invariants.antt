@@ -1,7 +1,7 @@
 -- States the loop invariant of `news_width` (`src/morning.rt`).
 use Rattle.std.proofs.Common.{◌≡◌, map, take, Bor}
 use Rattle.ill_record.specs.declared.side.Side.{Side}
-use Rattle.ill_show.specs.Since.{annex_of}
+use Rattle.ill_beside.specs.Since.{annex_of}
 use Rattle.ill_list.specs.Morning.{news_text, text_or_dash, widest}
 use Rattle.ill_list.proofs.morning.news_width.Given as goal
 

@@ -3,7 +3,7 @@ use Rattle.std.proofs.Common.{ℕ, List, [], ◌∷◌, map, Bor, ap, sym, ◌�
 use Rattle.std.specs.List.{join_by}
 use Rattle.ill_core.specs.Verbs.{verb_name}
 use Rattle.ill_words.specs.Possible.{possible_on}
-use Rattle.ill_show.proofs.TextLemmas.{joined_as_texts}
+use Rattle.ill_beside.proofs.TextLemmas.{joined_as_texts}
 use Rattle.ill_list.proofs.row.verbs_text.Goals as goal
 
 -- Proves the contract of `verbs_text`. Joining the names of verbs equals joining the verbs by their names.

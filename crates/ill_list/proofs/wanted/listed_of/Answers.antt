@@ -2,7 +2,7 @@
 use Rattle.std.proofs.Common.{List, Bor, map, ap, ◌∙◌}
 use Rattle.ill_record.specs.declared.side.Side.{Side}
 use Rattle.ill_list.specs.List.{is_listed}
-use Rattle.ill_show.specs.Since.{annex_of}
+use Rattle.ill_beside.specs.Since.{annex_of}
 use Rattle.ill_list.proofs.ListLemmas.{filter_mapped}
 use Rattle.ill_list.proofs.wanted.listed_of.Goals as goal
 

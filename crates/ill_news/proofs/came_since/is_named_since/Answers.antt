@@ -2,9 +2,9 @@
 use Rattle.std.proofs.Common.{rules, tests, ℕ, Vec, Global, sym, ◌∙◌}
 use Rattle.std.proofs.lemmas.Iterator.{YieldsList-from_slice}
 use Rattle.std.proofs.lemmas.Iterator.Search.{any_from_yields_List}
-use Rattle.ill_show.specs.Diary.{said_by}
+use Rattle.ill_beside.specs.Diary.{said_by}
 use Rattle.ill_news.specs.CameSince.{says_since}
-use Rattle.ill_show.proofs.DiaryLemmas.{any_mapped}
+use Rattle.ill_beside.proofs.DiaryLemmas.{any_mapped}
 use Rattle.ill_news.proofs.came_since.is_named_since.Goals as goal
 
 -- Proves the contract of `is_named_since`. A test of the bytes of lines is one of the lines.

@@ -5,7 +5,7 @@ use Rattle.ill_text.specs.Output.{WritesPrefix}
 use Rattle.ill_rows.specs.Heading.{between}
 use Rattle.ill_rows.specs.Messages.{IsTextOf}
 use Rattle.ill_news.specs.News.{news_desk}
-use Rattle.ill_show.specs.FileLines.{lines_of}
+use Rattle.ill_beside.specs.FileLines.{lines_of}
 use Rattle.ill_news.specs.Told.{told_since}
 use Rattle.ill_rows.proofs.MessageLemmas.{writes_news}
 use Rattle.ill_news.proofs.news.run_desk_news.Goals as goal

@@ -1,7 +1,7 @@
 -- States the loop invariant of `push_fields` (`src/report.rt`).
 use Rattle.std.proofs.Common.{◌≡◌, ◌++◌, take}
 use Rattle.std.specs.List.{flat_map}
-use Rattle.ill_show.specs.Since.{annex_of}
+use Rattle.ill_beside.specs.Since.{annex_of}
 use Rattle.ill_report.specs.Report.{field_text, page_shown}
 use Rattle.ill_report.proofs.report.push_fields.Given as goal
 

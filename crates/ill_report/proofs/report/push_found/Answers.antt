@@ -2,7 +2,7 @@
 use Rattle.std.proofs.Common.{◌≡◌, ◌++◌, List, Bor, OnOk, map, ap, subst, ◌∙◌}
 use Rattle.std.specs.List.{flat_map}
 use Rattle.ill_record.specs.declared.side.Side.{Side}
-use Rattle.ill_show.specs.Since.{annex_of}
+use Rattle.ill_beside.specs.Since.{annex_of}
 use Rattle.ill_work.specs.declared.work.Work.{Work}
 use Rattle.ill_report.specs.Report.{page_shown, work_text, works_text}
 use Rattle.ill_report.proofs.report.push_found.Goals as goal

@@ -5,10 +5,10 @@ use Rattle.std.proofs.lemmas.List.{take_all}
 use Rattle.std.proofs.lemmas.List.Folds.{flat_map-map}
 use Rattle.ill_record.specs.declared.side.Side.{Side}
 use Rattle.ill_work.specs.Order.{has_work}
-use Rattle.ill_show.specs.Since.{annex_of}
+use Rattle.ill_beside.specs.Since.{annex_of}
 use Rattle.ill_report.specs.Report.{page_shown, row_text, rows_text}
 use Rattle.ill_rows.specs.declared.soon.TheConstants.{SOON}
-use Rattle.ill_show.proofs.TextLemmas.{kept_apart}
+use Rattle.ill_beside.proofs.TextLemmas.{kept_apart}
 use Rattle.ill_report.proofs.report.push_rows.Goals as goal
 
 -- Proves the contract of `push_rows`. After the loop each loan with the work has added its row.

@@ -2,7 +2,7 @@
 use Rattle.std.proofs.Common.{◌≡◌, ◌++◌, take, ◌∷◌, [], Bor}
 use Rattle.std.specs.List.{flat_map}
 use Rattle.ill_record.specs.declared.side.Side.{Side}
-use Rattle.ill_show.specs.Since.{annex_of}
+use Rattle.ill_beside.specs.Since.{annex_of}
 use Rattle.ill_report.specs.Report.{page_shown, rows_text}
 use Rattle.ill_report.proofs.report.push_rows.Given as goal
 

@@ -3,7 +3,7 @@ use Rattle.std.proofs.Common.{ℕ, List, Option, Bor, map, option_map, ap, sym, 
 use Rattle.std.specs.Prelude.{filter}
 use Rattle.ill_record.specs.declared.side.Side.{Side}
 use Rattle.ill_rows.specs.Finding.{is_found}
-use Rattle.ill_show.specs.FileLines.{lines_of}
+use Rattle.ill_beside.specs.FileLines.{lines_of}
 use Rattle.ill_rows.proofs.FindingLemmas.{all_found}
 use Rattle.ill_rows.proofs.finding.found_of.Goals as goal
 

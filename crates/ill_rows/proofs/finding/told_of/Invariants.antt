@@ -3,7 +3,7 @@ use Rattle.std.proofs.Common.{◌≡◌, map, take, Bor}
 use Rattle.std.specs.Prelude.{filter}
 use Rattle.ill_record.specs.declared.side.Side.{Side}
 use Rattle.ill_rows.specs.Finding.{has_words}
-use Rattle.ill_show.specs.FileLines.{lines_of}
+use Rattle.ill_beside.specs.FileLines.{lines_of}
 use Rattle.ill_rows.proofs.finding.told_of.Given as goal
 
 -- `found` has the loans so far of which a text has the words.

@@ -9,7 +9,7 @@ use Rattle.ill_saved.proofs.Contents.{held_there, none_held_there}
 use Rattle.ill_text.specs.declared.fault.ToolFault.TheVariants.{OutOfMemory}
 use Rattle.ill_text.specs.Output.{WritesPrefix}
 use Rattle.ill_show.specs.Loan.{IsTextOf, RunsLoan, beside_of, loan_text}
-use Rattle.ill_show.specs.Notes.{note_of}
+use Rattle.ill_beside.specs.Notes.{note_of}
 use Rattle.ill_show.proofs.LoanLemmas.{writes_loan}
 use Rattle.ill_show.proofs.loan.run_desk_loan.Goals as goal
 

@@ -5,7 +5,7 @@ use Rattle.std.proofs.lemmas.List.{take_all}
 use Rattle.std.proofs.lemmas.List.Folds.{flat_map-map}
 use Rattle.ill_record.specs.declared.side.Side.{Side}
 use Rattle.ill_show.specs.Numbers.{has_few_numbers, numbers_line, numbers_lines}
-use Rattle.ill_show.proofs.TextLemmas.{kept_apart}
+use Rattle.ill_beside.proofs.TextLemmas.{kept_apart}
 use Rattle.ill_show.proofs.numbers.push_lines.Goals as goal
 
 -- After the loop each side with few numbers left has added its line.

@@ -4,7 +4,7 @@ use Rattle.ill_values.specs.declared.apdu.Apdu.{Apdu}
 use Rattle.ill_saved.specs.ManySides.{sides_held}
 use Rattle.ill_record.specs.Sides.{SidesOf}
 use Rattle.ill_news.specs.Told.{news_since}
-use Rattle.ill_show.specs.Since.{annex_of}
+use Rattle.ill_beside.specs.Since.{annex_of}
 use Rattle.ill_visits.proofs.listing.list_file.Goals as goal
 
 -- Proves the contract of `list_file` if the desk is opened. `run_desk_list` lists its sides, with the news of the annex.

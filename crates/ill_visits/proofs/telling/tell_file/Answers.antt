@@ -1,7 +1,7 @@
 -- Answers the contract of `tell_file` (`src/telling.rt`).
 use Rattle.std.proofs.Common.{inr}
 use Rattle.ill_saved.specs.ManySides.{sides_held}
-use Rattle.ill_show.specs.FileLines.{lines_of}
+use Rattle.ill_beside.specs.FileLines.{lines_of}
 use Rattle.ill_visits.proofs.telling.tell_file.Goals as goal
 
 -- Proves the contract of `tell_file` if the files are opened. `run_desk_news` tells what came to its sides.

@@ -2,7 +2,7 @@
 use Rattle.std.proofs.Common.{◌++◌, List, Option, option_map, Ok, Err, refl, ap, ◌∙◌}
 use Rattle.ill_values.specs.declared.apdu.Apdu.{Apdu}
 use Rattle.ill_report.specs.Report.{desk_text, report_of}
-use Rattle.ill_show.specs.Since.{AnnexRead, annex_of}
+use Rattle.ill_beside.specs.Since.{AnnexRead, annex_of}
 use Rattle.ill_visits.proofs.visits.push_file.Goals as goal
 
 -- Proves the contract of `push_file` if the desk is opened. The part has its loans, with the news of the annex.

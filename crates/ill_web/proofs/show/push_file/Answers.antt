@@ -2,7 +2,7 @@
 use Rattle.std.proofs.Common.{List, Ok, Err, refl}
 use Rattle.ill_record.specs.declared.role.Role.{Role}
 use Rattle.ill_record.specs.declared.side.Side.{Side}
-use Rattle.ill_show.specs.Since.{AnnexRead, annex_of}
+use Rattle.ill_beside.specs.Since.{AnnexRead, annex_of}
 use Rattle.ill_web.proofs.DeskLemmas.{then_ok}
 use Rattle.ill_web.proofs.show.push_file.Goals as goal
 

@@ -1,6 +1,6 @@
 -- Proves the contract of `push_opened` (`src/show.rt`), by the news that `with_news` has found.
 use Rattle.std.proofs.Common.{◌∙◌, ◌++◌, ap, option_map}
-use Rattle.ill_show.specs.Since.{AnnexRead}
+use Rattle.ill_beside.specs.Since.{AnnexRead}
 use Rattle.ill_web.specs.Pages.{sides_part}
 use Rattle.ill_web.proofs.DeskLemmas.{then_ok}
 use Rattle.ill_web.proofs.show.push_opened.Goals as goal

@@ -1,0 +1,190 @@
+-- Proves that the day of the last line that names one of some messages is the day of the latest of their last lines.
+use Rattle.std.proofs.Common.{◌≡◌, ℕ, suc, ◌<◌, ◌≤◌, Bool, true, false, nat_lt, if◌then◌else◌, List, [], ◌∷◌, fold, map, Vec}
+use Rattle.std.proofs.Common.{Global}
+use Rattle.std.proofs.Common.{bytes_eq, Option, Some, None, IfSome, option_map, refl, sym, ap, ◌∙◌, lt_trans, le_of_lt}
+use Rattle.std.proofs.Common.{lt-suc_self}
+use Rattle.std.specs.Prelude.{cond, find}
+use Rattle.std.specs.Map.{lookup}
+use Rattle.std.specs.Option.{option_or}
+use Rattle.std.proofs.lemmas.Bool.{le-ltb, lt-ltb, ltb-true}
+use Rattle.std.proofs.lemmas.Slice.Eq.{bytes_eq-Decides}
+use Rattle.ill_values.specs.Day.{Date}
+use Rattle.ill_words.specs.Words.{◌>>=◌}
+use Rattle.ill_beside.specs.declared.diary.Message.{Message}
+use Rattle.ill_beside.specs.declared.keyed_diary.LastLine.{LastLine}
+use Rattle.ill_beside.specs.Diary.{Named, Said, named, said_by}
+use Rattle.ill_beside.specs.KeyedDiary.{AreLasts, Lasts, is_same_key, last_after, last_named, later, latest, latest_among}
+use Rattle.ill_beside.specs.KeyedDiary.{with_line}
+use Rattle.ill_beside.specs.Since.{day_said, day_told, last_day}
+
+-- ---- keys
+
+-- Two tests that pass alike are equal.
+same_test : (one other : Bool) → (one ≡ true → other ≡ true) → (other ≡ true → one ≡ true) → one ≡ other
+same_test true other there back = sym (there refl)
+same_test false true there back = back refl
+same_test false false there back = refl
+
+-- It does not matter which of two keys comes first.
+same_key : (one other : List ℕ) → bytes_eq one other ≡ bytes_eq other one
+same_key one other =
+    same_test (bytes_eq one other) (bytes_eq other one)
+    (λ is. (bytes_eq-Decides other one).1 (sym ((bytes_eq-Decides one other).0 is)))
+    (λ is. (bytes_eq-Decides one other).1 (sym ((bytes_eq-Decides other one).0 is)))
+
+-- ---- the later of two lines
+
+-- Returns the day of a line, if there is one.
+abbrev pub day_of_line : Option LastLine → Option Date
+day_of_line found = option_map (λ last. last.day) found
+
+-- A line stands before `place`, if there is one.
+abbrev pub IsBefore : (place : ℕ) → Option LastLine → Type 0
+IsBefore place found = IfSome found (λ last. nat_lt last.place place ≡ true)
+
+-- Both values of a choice have what a choice has.
+chosen : {A : Type 0} (P : A → Type 0) (test : Bool) (one other : A) → P one → P other → P (if test then one else other)
+chosen P true one other first second = first
+chosen P false one other first second = second
+
+-- If both lines stand before a place, the later does.
+later_before : (place : ℕ) (one other : Option LastLine) → IsBefore place one → IsBefore place other
+    → IsBefore place (later one other)
+later_before place None other first second = second
+later_before place (Some one) None first second = first
+later_before place (Some one) (Some other) first second =
+    chosen (IsBefore place) (nat_lt other.place one.place) (Some one) (Some other) first second
+
+-- A line that stands before a place stands before the next one.
+next_before : (place : ℕ) (found : Option LastLine) → IsBefore place found → IsBefore (suc place) found
+next_before place None before = tt
+next_before place (Some last) before =
+    lt-ltb last.place (suc place) (lt_trans (ltb-true last.place place before) (lt-suc_self place))
+
+-- After one more line, the last of a message stands before the next place.
+after_before : (key : List ℕ) (place : ℕ) (says : Option Said) (found : Option LastLine) → IsBefore place found
+    → IsBefore (suc place) (last_after key place says found)
+after_before key place None found before = next_before place found before
+after_before key place (Some says) found before =
+    chosen (IsBefore (suc place)) (bytes_eq says.message key) (Some (record { place = place; day = says.day })) found
+    (lt-ltb place (suc place) (lt-suc_self place)) (next_before place found before)
+
+-- ---- one more line
+
+module _ (last : List ℕ → Option LastLine) (names : List ℕ → Bool) (new : LastLine)
+    (before : (key : List ℕ) → IsBefore new.place (last key)) where
+  -- Returns the last line of each key: the new one for those that it names.
+  abbrev with_new : List ℕ → Option LastLine
+  with_new key = if names key then Some new else last key
+
+  -- The new line is the later one.
+  new_is_later : (found : Option LastLine) → IsBefore new.place found → later found (Some new) ≡ Some new
+  new_is_later None is = refl
+  new_is_later (Some one) is =
+      ap (λ (test : Bool). if test then Some one else Some new)
+      (le-ltb new.place one.place (le_of_lt (ltb-true one.place new.place is)))
+
+  -- A line before the new one is not later.
+  new_stays : (other : Option LastLine) → IsBefore new.place other → later (Some new) other ≡ Some new
+  new_stays None is = refl
+  new_stays (Some other) is = ap (λ (test : Bool). if test then Some new else Some other) is
+
+  -- The new line is not later than itself.
+  new_is_itself : (test : Bool) → (if test then Some new else Some new) ≡ Some new
+  new_is_itself true = refl
+  new_is_itself false = refl
+
+  -- Once the new line is found, it stays.
+  stays_at : (key : List ℕ) (named_so : Bool) → later (Some new) (if named_so then Some new else last key) ≡ Some new
+  stays_at key true = new_is_itself (nat_lt new.place new.place)
+  stays_at key false = new_stays (last key) (before key)
+
+  -- Returns the latest of the last lines of `messages` and the line found so far.
+  abbrev latest_from : (List ℕ → Option LastLine) → Option LastLine → List Named → Option LastLine
+  latest_from of found messages = fold (λ found message. later found (of message.key)) found messages
+
+  -- Once the new line is found, it is the latest.
+  stays : (messages : List Named) → latest_from with_new (Some new) messages ≡ Some new
+  stays [] = refl
+  stays (message ∷ messages) =
+      ap (λ (found : Option LastLine). latest_from with_new found messages) (stays_at message.key (names message.key))
+      ∙ stays messages
+
+  -- The day of the latest line is that of the new one if it names `message`, and else as it is of the other messages.
+  counts_at : (found : Option LastLine) → IsBefore new.place found → (message : Named) (messages : List Named)
+      → option_or (option_map (λ message. new.day) (find (λ message. names message.key) messages))
+      (day_of_line (latest_from last (later found (last message.key)) messages))
+      ≡ day_of_line (latest_from with_new (later found (last message.key)) messages)
+      → (named_so : Bool)
+      → option_or
+      (option_map (λ message. new.day) (cond named_so (Some message) (find (λ message. names message.key) messages)))
+      (day_of_line (latest_from last (later found (last message.key)) messages))
+      ≡ day_of_line (latest_from with_new (later found (if named_so then Some new else last message.key)) messages)
+  counts_at found is message messages others true =
+      sym (ap day_of_line
+      (ap (λ (so_far : Option LastLine). latest_from with_new so_far messages) (new_is_later found is) ∙ stays messages))
+  counts_at found is message messages others false = others
+
+  -- The day of the latest line is that of the new one, if it names one of the messages.
+  new_counts : (found : Option LastLine) → IsBefore new.place found → (messages : List Named)
+      → option_or (option_map (λ message. new.day) (find (λ message. names message.key) messages))
+      (day_of_line (latest_from last found messages))
+      ≡ day_of_line (latest_from with_new found messages)
+  new_counts found is [] = refl
+  new_counts found is (message ∷ messages) =
+      counts_at found is message messages
+      (new_counts (later found (last message.key)) (later_before new.place found (last message.key) is (before message.key))
+      messages)
+      (names message.key)
+
+-- ---- all lines
+
+module _ (messages : List Named) where
+  -- One more line changes the last day as it changes the day of the latest line.
+  line_counts : (place : ℕ) (last : List ℕ → Option LastLine) → ((key : List ℕ) → IsBefore place (last key))
+      → (says : Option Said) → option_or (says >>= day_said messages) (day_of_line (latest last messages))
+      ≡ day_of_line (latest (λ key. last_after key place says (last key)) messages)
+  line_counts place last before None = refl
+  line_counts place last before (Some says) =
+      ap (λ (names : List ℕ → Bool). option_or (option_map (λ message. says.day) (find (λ message. names message.key) messages))
+      (day_of_line (latest last messages))) (λ i key. same_key key says.message i)
+      ∙ new_counts last (λ key. bytes_eq says.message key) (record { place = place; day = says.day }) before None tt messages
+
+  -- The last day of all lines is the day of the latest line, if that is so of the lines so far.
+  lines_count : (place : ℕ) (last : List ℕ → Option LastLine) → ((key : List ℕ) → IsBefore place (last key))
+      → (day : Option Date) → day ≡ day_of_line (latest last messages) → (lines : List (List ℕ))
+      → fold (λ found line. option_or (day_told messages line) found) day lines
+      ≡ day_of_line (latest (λ key. (fold (with_line key) (place, last key) lines).1) messages)
+  lines_count place last before day is [] = is
+  lines_count place last before day is (line ∷ lines) =
+      lines_count (suc place) (λ key. last_after key place (said_by line) (last key))
+      (λ key. after_before key place (said_by line) (last key) (before key))
+      (option_or (day_told messages line) day)
+      (ap (option_or (day_told messages line)) is ∙ line_counts place last before (said_by line)) lines
+
+  -- The last day is the day of the latest of the last lines.
+  pub latest_counts : (lines : List (List ℕ)) → day_of_line (latest (last_named lines) messages) ≡ last_day messages lines
+  latest_counts lines = sym (lines_count 0 (λ key. None) (λ key. tt) None (none messages) lines)
+    where
+      none : (messages : List Named) → None ≡ day_of_line (latest (λ key. None) messages)
+      none [] = refl
+      none (message ∷ messages) = none messages
+
+-- ---- the lines that are kept
+
+module _ (lasts : Lasts) (lines : List (List ℕ)) (are : AreLasts lasts lines) where
+  -- The latest of the lines kept is the latest of the last lines, if that is so of the line found so far.
+  kept_from : (found : Option LastLine) (messages : List Message)
+      → fold (λ found message. later found (lookup (is_same_key message.key) lasts)) found messages
+      ≡ fold (λ found message. later found (last_named lines message.key)) found (map named messages)
+  kept_from found [] = refl
+  kept_from found (message ∷ messages) =
+      ap (λ (last : Option LastLine).
+      fold (λ found message. later found (lookup (is_same_key message.key) lasts)) (later found last) messages)
+      (are message.key)
+      ∙ kept_from (later found (last_named lines message.key.items)) messages
+
+  -- The day of the latest of the lines kept is the last day.
+  pub kept_counts : (messages : List Message)
+      → day_of_line (latest_among lasts messages) ≡ last_day (map named messages) lines
+  kept_counts messages = ap day_of_line (kept_from None messages) ∙ latest_counts (map named messages) lines

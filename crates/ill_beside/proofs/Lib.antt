@@ -1,0 +1,9 @@
+pub mod DiaryLaws
+pub mod DiaryLemmas
+pub mod KeyedDiaryLemmas
+pub mod NewsWordsLemmas
+pub mod NotesLaws
+pub mod NotesLemmas
+pub mod ReadLemmas
+pub mod SinceLaws
+pub mod TextLemmas

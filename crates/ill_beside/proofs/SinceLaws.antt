@@ -1,0 +1,34 @@
+-- Proves which line of a diary tells since when a loan stands as it does.
+use Rattle.std.proofs.Common.{◌≡◌, ℕ, List, [], ◌∷◌, ◌++◌, Option, Some, None, ap, ◌∙◌}
+use Rattle.std.specs.Prelude.{bytes_eq, find, option_map}
+use Rattle.std.specs.Option.{option_or}
+use Rattle.std.proofs.lemmas.List.Sums.{fold-append}
+use Rattle.ill_values.specs.Day.{Date}
+use Rattle.ill_words.specs.Words.{◌>>=◌}
+use Rattle.ill_beside.specs.Diary.{Named, Said, said_by}
+use Rattle.ill_beside.specs.Since.{day_said, day_told, last_day}
+
+-- After one more line, the last day is that of this line, or else the one so far.
+last_after : (messages : List Named) (lines : List (List ℕ)) (line : List ℕ)
+    → last_day messages (lines ++ line ∷ []) ≡ option_or (day_told messages line) (last_day messages lines)
+last_after messages lines line =
+    fold-append (λ (found : Option Date) line. option_or (day_told messages line) found) None lines (line ∷ [])
+
+-- The day of a line counts if it is the last one.
+pub last_counts : (messages : List Named) (lines : List (List ℕ)) (line : List ℕ) (day : Date)
+    → day_told messages line ≡ Some day → last_day messages (lines ++ line ∷ []) ≡ Some day
+last_counts messages lines line day tells =
+    last_after messages lines line ∙ ap (λ (told : Option Date). option_or told (last_day messages lines)) tells
+
+-- A line without a day changes nothing.
+pub others_stay : (messages : List Named) (lines : List (List ℕ)) (line : List ℕ) → day_told messages line ≡ None
+    → last_day messages (lines ++ line ∷ []) ≡ last_day messages lines
+others_stay messages lines line none =
+    last_after messages lines line ∙ ap (λ (told : Option Date). option_or told (last_day messages lines)) none
+
+-- A line tells its day if the record has its message.
+pub written_tells : (messages : List Named) (line : List ℕ) (says : Said) (message : Named) → said_by line ≡ Some says
+    → find (λ other. bytes_eq other.key says.message) messages ≡ Some message → day_told messages line ≡ Some says.day
+written_tells messages line says message is found =
+    ap (λ (said : Option Said). said >>= day_said messages) is
+    ∙ ap (λ (met : Option Named). option_map (λ message. says.day) met) found

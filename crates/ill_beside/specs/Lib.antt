@@ -1,0 +1,10 @@
+pub mod BadNotes
+pub mod Diary
+pub mod FileLines
+pub mod Heard
+pub mod Kept
+pub mod KeyedDiary
+pub mod NewsWords
+pub mod Notes
+pub mod Since
+pub mod StateWords

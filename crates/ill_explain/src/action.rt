@@ -270,11 +270,11 @@ fn tell_text(
     name: &str,
     words: &[&str],
 ) -> Result<(), OutOfMemory> {
-    let item = words.join(alloc, " ")?;
-    match Item::new(alloc, item.as_bytes()) {
+    let whole = words.join(alloc, " ")?;
+    match Item::new(alloc, whole.as_bytes()) {
         Ok(_) | Err(TextFault::Empty) => Ok(()),
-        Err(TextFault::TooLong) => tell_too_long(text, name, item.len()),
-        Err(TextFault::BadByte) => tell_control(text, name, item.as_str()),
+        Err(TextFault::TooLong) => tell_too_long(text, name, whole.len()),
+        Err(TextFault::BadByte) => tell_control(text, name, whole.as_str()),
         Err(TextFault::OutOfMemory) => Err(OutOfMemory),
     }
 }
@@ -287,10 +287,10 @@ fn tell_too_long(text: &mut String, name: &str, size: usize) -> Result<(), OutOf
     }
 }
 
-/// Appends the place of the first byte of `item`, a text of this name, that is a control character.
-fn tell_control(text: &mut String, name: &str, item: &str) -> Result<(), OutOfMemory> {
-    let shown = Shown::of(item);
-    for (place, byte) in (1_u64..).zip(item.bytes()) {
+/// Appends the place of the first byte of `whole`, a text of this name, that is a control character.
+fn tell_control(text: &mut String, name: &str, whole: &str) -> Result<(), OutOfMemory> {
+    let shown = Shown::of(whole);
+    for (place, byte) in (1_u64..).zip(whole.bytes()) {
         if byte.is_ascii_control() {
             return writeln!(
                 text,

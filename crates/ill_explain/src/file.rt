@@ -58,15 +58,8 @@ pub fn tell_fault_at<T: LockFiles>(
         ),
         DeskFault::NoRecord => tell_absent(rt, text, path),
         DeskFault::Store(StoreFault::Failed)
-            if has_mails && !is_at_work(rt, alloc, path) && is_open(rt, alloc, path) => {
-            writeln!(
-                text,
-                "  The line before tells which file or folder it is. Without one {shown} is not saved: look at"
-            )?;
-            writeln!(
-                text,
-                "  the permissions of its folder, and at the room on the disk."
-            )
+            if has_mails && !is_at_work(rt, alloc, path) && can_be_opened(rt, alloc, path) => {
+            tell_told_before(text, path)
         }
         DeskFault::Store(StoreFault::Failed) => tell_failed(rt, alloc, text, path),
         DeskFault::Store(StoreFault::TooLarge) => tell_too_large(rt, alloc, text, path),
@@ -87,6 +80,19 @@ pub fn tell_fault_at<T: LockFiles>(
     }
 }
 
+/// Appends that a line before tells what failed, or that the desk in the file at `path` is not saved.
+fn tell_told_before(text: &mut String, path: &str) -> Result<(), OutOfMemory> {
+    let shown = Shown::of(path);
+    writeln!(
+        text,
+        "  The line before tells which file or folder it is. Without one {shown} is not saved: look at"
+    )?;
+    writeln!(
+        text,
+        "  the permissions of its folder, and at the room on the disk."
+    )
+}
+
 /// Returns true if a command has a folder of mails. Such a command itself names a folder that fails.
 fn has_mails(matches: &ArgMatches<'_>) -> bool {
     matches.get_str(Argument::Folder.id()).is_some() || matches.get_str(Argument::In.id()).is_some()
@@ -101,7 +107,7 @@ fn is_at_work<T: LockFiles>(rt: &T, alloc: Global, path: &str) -> bool {
 }
 
 /// Returns true if the desk in the file at `path` can be opened.
-fn is_open<T: LockFiles>(rt: &T, alloc: Global, path: &str) -> bool {
+fn can_be_opened<T: LockFiles>(rt: &T, alloc: Global, path: &str) -> bool {
     open(rt, alloc, path).is_ok()
 }
 

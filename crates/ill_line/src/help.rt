@@ -1045,10 +1045,9 @@ pub const SIMULATE: &str = "\
 Perform a script of both sides of a loan, from standard input.
 
 The script, as in `ill simulate G1 T1 < FILE`, has at most 100,000 lines, of at
-most 1,024 bytes each. A line says one event; an empty one,
-and one that begins with `#`, says nothing. For each event a line is written to
-standard output: its number, what is seen of it, and how both sides stand after
-it.
+most 1,024 bytes each. A line says one event; an empty one, and one that begins
+with `#`, says nothing. For each event a line is written to standard output: its
+number, what is seen of it, and how both sides stand after it.
 
 The lines of a script:
   requester request EXPIRY ITEM

@@ -4,10 +4,9 @@ ghost use Rattle.std.specs.Prelude.{◌≡◌, bytes_eq};
 ghost use Rattle.std.specs.List.{list_any};
 ghost use Rattle.ill_line.specs.CommandLine.{word_of, name_read, id_of, is_option, name_in};
 
-use crate::entry::Entry;
 use crate::help;
 use crate::shape::Shape;
-use clap::{Arg, Command, Error};
+use clap::Arg;
 use std::alloc::Global;
 
 /// A command of `ill`.
@@ -662,7 +661,7 @@ impl Argument {
     }
 
     /// Returns the argument for `clap`. `is_on_shelf` is true of a command on a shelf.
-    fn arg<'a>(self, alloc: Global, is_on_shelf: bool) -> Arg<'a> {
+    pub(crate) fn arg<'a>(self, alloc: Global, is_on_shelf: bool) -> Arg<'a> {
         let arg = Arg::new(alloc, self.id()).help(self.line(is_on_shelf));
         let arg = match self.value(is_on_shelf) {
             Some(value) => arg.value_name(value),
@@ -734,53 +733,4 @@ fn is_among(name: &str, names: &[&str]) -> bool
     ensures { result ≡ list_any (λ other. bytes_eq other.now name.now) names.now }
 {
     names.iter().any(|other| *other == name)
-}
-
-/// Returns the command line of `ill`.
-pub fn command<'a>(alloc: Global) -> Result<Command<'a>, Error> {
-    let mut command = Command::new(alloc, "ill")
-        .about(ABOUT)
-        .version(help::VERSION)
-        .subcommand_required(true)
-        .after_long_help(help::ILL)
-        .arg(Argument::Explain.arg(alloc, false))?;
-    for name in NAMES.iter().filter(|name| !name.is_of_shelves()) {
-        command = command.subcommand(subcommand(alloc, &Entry::of(*name))?)?;
-    }
-    Ok(command.subcommand(shelf(alloc)?)?)
-}
-
-/// Returns the command line of the commands on a shelf.
-fn shelf<'a>(alloc: Global) -> Result<Command<'a>, Error> {
-    let mut command = subcommand(alloc, &Entry::SHELF)?.subcommand_required(true);
-    for name in &SHELF_NAMES {
-        command = command.subcommand(subcommand(alloc, &Entry::on_shelf(*name))?)?;
-    }
-    Ok(command)
-}
-
-/// Returns the command line of a command.
-fn subcommand<'a>(alloc: Global, entry: &Entry<'a>) -> Result<Command<'a>, Error> {
-    let mut command = Command::new(alloc, entry.word)
-        .about(entry.about)
-        .long_about(entry.help);
-    if let Some(example) = entry.example {
-        command = command.after_long_help(example);
-    }
-    command = with_arguments(alloc, command, entry.arguments, entry.is_on_shelf)?;
-    command = with_arguments(alloc, command, entry.further, entry.is_on_shelf)?;
-    Ok(command.arg(Argument::Explain.arg(alloc, false))?)
-}
-
-/// Returns the command line of a command with these arguments after its others.
-fn with_arguments<'a>(
-    alloc: Global,
-    mut command: Command<'a>,
-    arguments: &[Argument],
-    is_on_shelf: bool,
-) -> Result<Command<'a>, Error> {
-    for argument in arguments {
-        command = command.arg(argument.arg(alloc, is_on_shelf))?;
-    }
-    Ok(command)
 }

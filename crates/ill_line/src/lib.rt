@@ -4,6 +4,7 @@
 pub mod command_line;
 pub mod described;
 mod entry;
+pub mod grammar;
 pub mod guard;
 mod help;
 pub mod request;

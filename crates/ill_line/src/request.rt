@@ -12,7 +12,8 @@ ghost use Rattle.ill_line.specs.declared.command_line.Name.TheVariants as names;
 ghost use Rattle.ill_text.specs.Diary.{stamped};
 ghost use Rattle.ill_line.specs.Asked.{asks_for_help, dates_and_stamp_of, day_and_name_of, name_in, stamp_if, stamp_of, GivesId, ReadsValue, IsRefusal, asked_by, asked_in, asked_of, text_of, texts_of, role_of, loan_of, group_of, new_file_of, day_in, last_in, state_in, number_of_message, dates_of, outlet_of, is_set, which_of, form_of, wanted_of, wanted_on, ahead_in, due_in, day_or_days, days_on, day_given, span_of, asked, desk_at_stake, end_with_dashes, has_option, note_words_of, said_free, unless_option, deed_by, key_of_outlet};
 
-use crate::command_line::{Argument, Name, SHELF, command, is_option};
+use crate::command_line::{Argument, Name, SHELF, is_option};
+use crate::grammar::command;
 use clap::error::ErrorKind;
 use clap::{ArgMatches, Command, Error};
 use ill_beside::notes::{is_note, note_text};

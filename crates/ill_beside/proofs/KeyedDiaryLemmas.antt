@@ -1,6 +1,5 @@
 -- Proves that the day of the last line that names one of some messages is the day of the latest of their last lines.
-use Rattle.std.proofs.Common.{◌≡◌, ℕ, suc, ◌<◌, ◌≤◌, Bool, true, false, nat_lt, if◌then◌else◌, List, [], ◌∷◌, fold, map, Vec}
-use Rattle.std.proofs.Common.{Global}
+use Rattle.std.proofs.Common.{◌≡◌, ℕ, suc, Bool, true, false, nat_lt, if◌then◌else◌, List, [], ◌∷◌, fold, map}
 use Rattle.std.proofs.Common.{bytes_eq, Option, Some, None, IfSome, option_map, refl, sym, ap, ◌∙◌, lt_trans, le_of_lt}
 use Rattle.std.proofs.Common.{lt-suc_self}
 use Rattle.std.specs.Prelude.{cond, find}

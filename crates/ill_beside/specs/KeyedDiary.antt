@@ -1,6 +1,6 @@
 -- A diary by the keys of its messages: of each message the last line that names it, with the number of lines before that one.
-use Rattle.std.specs.Prelude.{◌≡◌, ℕ, suc, Bool, nat_lt, if◌then◌else◌, List, [], ◌∷◌, fold, map, bytes_eq, Vec}
-use Rattle.std.specs.Prelude.{Option, None, Some, option_map}
+use Rattle.std.specs.Prelude.{◌≡◌, ℕ, suc, Bool, nat_lt, if◌then◌else◌, List, fold, bytes_eq, Vec}
+use Rattle.std.specs.Prelude.{Option, None, Some}
 use Rattle.std.specs.Map.{lookup}
 use Rattle.std.specs.declared.alloc.Global.{Global}
 use Rattle.ill_beside.specs.declared.diary.Message.{Message}

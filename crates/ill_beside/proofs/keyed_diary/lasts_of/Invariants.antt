@@ -1,5 +1,5 @@
 -- States the loop invariant of `lasts_of` (`src/keyed_diary.rt`).
-use Rattle.std.proofs.Common.{◌≡◌, ℕ, List, map, take, fold, Vec, Global, None}
+use Rattle.std.proofs.Common.{◌≡◌, ℕ, map, take, fold, Vec, Global, None}
 use Rattle.std.specs.Map.{lookup}
 use Rattle.ill_beside.specs.KeyedDiary.{is_same_key, with_line}
 use Rattle.ill_beside.proofs.keyed_diary.lasts_of.Given as goal

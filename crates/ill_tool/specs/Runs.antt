@@ -134,6 +134,7 @@ EndsReading (Ok call) before after status = EndsCall call before status
 EndsReading (Err (Usage error)) before after status = TellsKind (kind_of error) before after status
 EndsReading (Err (Fault fault)) before after status = (status ≡ status_of fault) ⊎ (status ≡ status_of Write)
 
--- A command line has a reading, and ends with the exit status of that. No clause says which words have which reading.
+-- A command line has a reading, and ends with the exit status of that. Of `help --json` alone a clause says which reading
+-- it has.
 abbrev pub EndsLine : Option (List ℕ) → Option (List ℕ) → ℕ → Type 0
 EndsLine before after status = (reading : Result Call Refusal) × EndsReading reading before after status

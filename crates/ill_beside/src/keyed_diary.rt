@@ -32,7 +32,12 @@ pub struct KeyedDiary {
 }
 
 impl Model for KeyedDiary {
+    ghost use Rattle.std.specs.Prelude.{ℕ, List};
+
     ghost Value = { List (List ℕ) };
+
+    ghost use Rattle.ill_beside.specs.FileLines.{lines_of};
+    ghost use Rattle.ill_beside.specs.KeyedDiary.{AreLasts};
 
     ghost view = { λ diary. lines_of diary.lines };
 

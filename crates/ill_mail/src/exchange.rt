@@ -103,6 +103,7 @@ fn take_mails<T: Files, S: Store, W: Write, E: Write>(
     let place = MailPaths {
         file,
         folder: incoming.folder,
+        is_sorted: incoming.is_sorted,
         mail_box: &mail_box,
     };
     let mut room = HostRoom::at(machine.rt, machine.alloc, place, &found, false);
@@ -160,6 +161,7 @@ fn open_mail<T: Files, W: Write, E: Write>(
     let place = MailPaths {
         file,
         folder: incoming.folder,
+        is_sorted: incoming.is_sorted,
         mail_box: &mail_box,
     };
     let found = find_mails(machine, &place, incoming, role)?;
@@ -395,6 +397,7 @@ fn exchange_at<'a, T: Files, S: Store, W: Write, E: Write>(
     let place = MailPaths {
         file,
         folder: incoming.folder,
+        is_sorted: incoming.is_sorted,
         mail_box: &mail_box,
     };
     let again = ReopenedDiary::beside(machine.rt, machine.alloc, file);

@@ -1,6 +1,6 @@
-//! Folders that belong to the owner of a desk alone.
+//! Folders of mails, and their flush.
 
-use ill_files::durable::Owner;
+use ill_files::durable::{Owner, flush};
 use std::fs::DirBuilder;
 use std::io::ErrorKind;
 use std::os::unix::fs::{DirBuilderExt, PermissionsExt};
@@ -38,5 +38,30 @@ pub(crate) fn make_folder<T: Files>(rt: &T, path: &str, owner: Owner) -> io::Res
 pub(crate) fn make_new_folder<T: Files>(rt: &T, path: &str, owner: Owner) -> io::Result<()> {
     DirBuilder::new().mode(0o700).create(rt, path)?;
     owner.take(rt, path);
+    Ok(())
+}
+
+/// Flushes the folder at `path`. It counts as flushed if this user may not read it.
+pub(crate) fn flush_folder<T: Files>(rt: &T, path: &str) -> io::Result<()> {
+    match fs::open(rt, path) {
+        Ok(folder) => flush(&folder),
+        Err(error) if error.kind() == ErrorKind::PermissionDenied => Ok(()),
+        Err(error) => Err(error),
+    }
+}
+
+/// Flushes the folder at `path`, if it is there.
+fn flush_if_there<T: Files>(rt: &T, path: &str) -> io::Result<()> {
+    match flush_folder(rt, path) {
+        Err(error) if error.kind() != ErrorKind::NotFound => Err(error),
+        _ => Ok(()),
+    }
+}
+
+/// Flushes those of these folders that are there, in their order.
+pub(crate) fn flush_folders<T: Files>(rt: &T, paths: &[&str]) -> io::Result<()> {
+    for path in paths {
+        flush_if_there(rt, path)?;
+    }
     Ok(())
 }

@@ -2,7 +2,7 @@
 
 ghost use Rattle.ill_mailbox.specs.HostMails.{host_mails};
 
-use crate::folders::make_folder;
+use crate::folders::{flush_folder, make_folder};
 use ill_disk::{Disk, DiskFault, HostDisk, regular_file};
 use ill_files::durable::{Owner, flush};
 use ill_files::paths::folder_of;
@@ -26,6 +26,8 @@ pub struct HostMails<'r, T: Files> {
     alloc: Global,
     /// The owner of what is made, who alone may read it. Without one it is as the user makes it.
     owner: Option<Owner>,
+    /// Set if folders are flushed.
+    is_flushing: bool,
     /// The file that was made, until it is flushed.
     made: Option<Made<T::File>>,
 }
@@ -44,6 +46,18 @@ impl<'r, T: Files> HostMails<'r, T> {
             rt,
             alloc,
             owner,
+            is_flushing: true,
+            made: None,
+        }
+    }
+
+    /// Returns the files of mails, of which no folder is flushed. Touches no file.
+    pub fn unflushed(rt: &'r T, alloc: Global) -> HostMails<'r, T> {
+        HostMails {
+            rt,
+            alloc,
+            owner: None,
+            is_flushing: false,
             made: None,
         }
     }
@@ -82,12 +96,12 @@ impl<'r, T: Files> HostMails<'r, T> {
         }
     }
 
-    /// Flushes the folder of `path`. It counts as flushed if this user may not read it.
-    fn flush_folder(&self, path: &str) -> io::Result<()> {
-        match fs::open(self.rt, folder_of(path)) {
-            Ok(folder) => flush(&folder),
-            Err(error) if error.kind() == ErrorKind::PermissionDenied => Ok(()),
-            Err(error) => Err(error),
+    /// Flushes the folder of `path`, if folders are flushed.
+    fn flush_folder_of(&self, path: &str) -> io::Result<()> {
+        if self.is_flushing {
+            flush_folder(self.rt, folder_of(path))
+        } else {
+            Ok(())
         }
     }
 
@@ -203,7 +217,7 @@ impl<'r, T: Files> MailDisk for HostMails<'r, T> {
     }
 
     fn flush_name(&mut self, path: &[u8]) -> Result<(), DiskFault> {
-        answer_of(self.flush_folder(text_of(path)?))
+        answer_of(self.flush_folder_of(text_of(path)?))
     }
 
     fn make_folder(&mut self, path: &[u8]) -> Result<(), DiskFault> {

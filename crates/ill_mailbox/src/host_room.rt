@@ -3,7 +3,7 @@
 ghost use Rattle.ill_mailbox.specs.HostRoom.{host_room};
 
 use crate::mail::Mails;
-use crate::mail_box::{ClaimedMail, MailPaths, give_back, remove};
+use crate::mail_box::{ClaimedMail, MailPaths, give_back, give_back_durably, remove};
 use ill_night::person::tell_person;
 use ill_night::verdict::{Mail, Unfit, Verdict, push_unfit};
 use ill_room::room::Room;
@@ -30,6 +30,19 @@ pub struct HostRoom<'r, 'a, T: Files> {
     found: &'a Mails,
     /// Set if a line is written about each mail that wants a person.
     is_telling: bool,
+    /// How a mail is given back.
+    giving: Giving,
+}
+
+/// How a mail is given back to the folder from which it was claimed.
+#[derive(Clone, Copy)]
+enum Giving {
+    /// Mails of other desks have left that folder, too. So it is not flushed.
+    Unflushed,
+    /// It is flushed, once the mails that have left it are durable.
+    First,
+    /// It is flushed.
+    Flushed,
 }
 
 impl<'r, 'a, T: Files> HostRoom<'r, 'a, T> {
@@ -47,7 +60,25 @@ impl<'r, 'a, T: Files> HostRoom<'r, 'a, T> {
             place,
             found,
             is_telling,
+            giving: if place.is_sorted {
+                Giving::Unflushed
+            } else {
+                Giving::First
+            },
         }
+    }
+
+    /// Gives a claimed mail back.
+    fn give(&mut self, claimed: ClaimedMail<'_>) -> io::Result<()> {
+        match self.giving {
+            Giving::Unflushed => return give_back(self.rt, self.alloc, claimed),
+            Giving::First => {
+                self.place.mail_box.flush(self.rt, &self.found.runs)?;
+                self.giving = Giving::Flushed;
+            }
+            Giving::Flushed => {}
+        }
+        give_back_durably(self.rt, self.alloc, claimed)
     }
 
     /// Returns the mail of this number, and its file, if it was claimed.
@@ -96,7 +127,7 @@ impl<'r, 'a, T: Files> Room for HostRoom<'r, 'a, T> {
 
     fn give_back(&mut self, mail: usize) -> Result<(), ToolFault> {
         match self.claimed(mail) {
-            Some((_, claimed)) => Ok(give_back(self.rt, self.alloc, claimed)?),
+            Some((_, claimed)) => Ok(self.give(claimed)?),
             None => Ok(()),
         }
     }

@@ -4,12 +4,12 @@
 ghost use Rattle.std.specs.Prelude.{Ok, IfErr};
 ghost use Rattle.ill_text.specs.Fault.{IsOpenFault};
 
-use crate::folders::{make_folder, make_new_folder, make_own_folder};
+use crate::folders::{flush_folders, make_folder, make_new_folder, make_own_folder};
 use crate::host_mails::{HostMails, error_of};
 use crate::reserved::{is_reserved, is_within};
 use ill_disk::DiskFault;
 use ill_files::durable::{Owner, error_of_store};
-use ill_files::paths::{MAIL, path_of};
+use ill_files::paths::{MAIL, folder_of, path_of};
 use ill_mail_disk::{MailDisk, Paths, Spot, clear, give_mail_back, put_mail_aside, write_anew};
 use ill_saved::{FileStore, RECORD_LIMIT, Store};
 use ill_text::fault::ToolFault;
@@ -50,6 +50,8 @@ pub struct MailBox {
 pub struct MailPaths<'a> {
     pub file: &'a str,
     pub folder: &'a str,
+    /// Set if a shelf has sorted the mails of the folder.
+    pub is_sorted: bool,
     pub mail_box: &'a MailBox,
 }
 
@@ -173,6 +175,20 @@ impl MailBox {
         }
     }
 
+    /// Flushes the folders of this mail, so that a crash leaves what was put aside and what was claimed into `runs`.
+    ///
+    /// A folder that has lost a name to another is flushed after that. So the mails that were put aside come first.
+    pub fn flush<T: Files>(&self, rt: &T, runs: &[String]) -> io::Result<()> {
+        let alloc = *self.path.allocator();
+        let aside = format!(in alloc; "{}/aside", self.path)?;
+        flush_folders(rt, &[aside.as_str()])?;
+        for run in runs {
+            flush_folders(rt, &[run.as_str()])?;
+        }
+        let path = self.path.as_str();
+        flush_folders(rt, &[self.claimed(), path, folder_of(path)])
+    }
+
     /// Returns true once a month for each `name`: if it did so more than a month before the folder `run` was made, or
     /// never. The file `told/NAME` has the time when it did.
     pub fn is_to_tell<T: Files>(
@@ -249,12 +265,29 @@ const NOT_ASIDE: AsidePaths<'static> = AsidePaths {
 
 /// Gives `mail` back to the folder from which it was claimed. If another mail with its name has come there, it remains
 /// claimed, and the next run takes it first.
+///
+/// That folder is not flushed. Other mails have left it for folders that may not be flushed either. So it is trusted that
+/// a system does not lose the second name alone.
 pub fn give_back<T: Files>(rt: &T, alloc: Global, mail: ClaimedMail<'_>) -> io::Result<()> {
-    let mut disk = HostMails::at(rt, alloc, None);
-    match mail.spot(alloc, &mut disk, NOT_ASIDE)? {
-        Some(spot) => done(give_mail_back(&mut disk, &spot)),
+    give_back_on(&mut HostMails::unflushed(rt, alloc), alloc, mail)
+}
+
+/// Gives a mail back on this disk.
+fn give_back_on<T: Files>(
+    disk: &mut HostMails<'_, T>,
+    alloc: Global,
+    mail: ClaimedMail<'_>,
+) -> io::Result<()> {
+    match mail.spot(alloc, disk, NOT_ASIDE)? {
+        Some(spot) => done(give_mail_back(disk, &spot)),
         None => Ok(()),
     }
+}
+
+/// Gives `mail` back as `give_back` does, and flushes the folder from which it was claimed before its claimed name goes.
+/// All mails that have left that folder are durable elsewhere.
+pub fn give_back_durably<T: Files>(rt: &T, alloc: Global, mail: ClaimedMail<'_>) -> io::Result<()> {
+    give_back_on(&mut HostMails::at(rt, alloc, None), alloc, mail)
 }
 
 /// Removes `mail`, if its file is there.

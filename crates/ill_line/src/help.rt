@@ -589,7 +589,8 @@ is told.
 
 With --mine and --since DAY the list is one of a morning: a line for each loan
 that wants a hand or has news. It has no state. Before the title stand the news,
-with semicolons between them, or `-`.
+with semicolons between them, or `-`. Loans that want no hand come last, without
+a heading. Their lines begin with `news:` in place of the due date.
 
 The last line counts all loans of the desk, whichever are listed. It says how
 many want a hand, to do, and for how many more there is room. From 900 loans on

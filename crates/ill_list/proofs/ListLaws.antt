@@ -6,9 +6,9 @@ use Rattle.ill_list.specs.declared.row.Columns.{Columns}
 use Rattle.ill_list.specs.declared.wanted.Wanted.{Wanted}
 use Rattle.ill_list.specs.ListedNews.{listed_news}
 use Rattle.ill_list.specs.List.{columns_of, counts_line, counts_of, has_work}
-use Rattle.ill_list.specs.Listing.{chosen_of, lines_text, list_lines, listed_desk, morning_lines, note_shown}
+use Rattle.ill_list.specs.Listing.{chosen_of, lines_text, list_lines, listed_desk, morning_heading, morning_lines}
 use Rattle.ill_rows.specs.Heading.{heading}
-use Rattle.ill_list.specs.Listing.{noted_row, section, since_shown, told_morning, told_row, work_heading, work_lines}
+use Rattle.ill_list.specs.Listing.{note_shown, noted_row, section, since_shown, told_morning, told_row, work_heading, work_lines}
 use Rattle.ill_list.specs.Morning.{is_morning, morning_columns, morning_row}
 use Rattle.ill_list.specs.declared.morning.MorningColumns.{MorningColumns}
 use Rattle.ill_beside.specs.Since.{AnnexRead, notes_alone, since_line, since_of}
@@ -57,7 +57,7 @@ module _ (wanted : Wanted) (off : wanted.has_since ≡ false) where
       → morning_lines columns annex wanted work sides ≡ morning_lines columns (notes_alone annex) wanted work sides
   morning_stays columns annex work [] = refl
   morning_stays columns annex work (first ∷ others) =
-      ap (λ (rows : List ℕ). work_heading work (length (first ∷ others)) ++ rows)
+      ap (λ (rows : List ℕ). morning_heading work (length (first ∷ others)) ++ rows)
       (same_texts (told_morning columns annex wanted) (told_morning columns (notes_alone annex) wanted) (first ∷ others)
       (morning_row_stays columns annex))
 

@@ -117,15 +117,20 @@ widened today columns side = record {
 abbrev pub columns_of : Wanted → List Side → Columns
 columns_of wanted listed = fold (widened wanted.today) (no_columns wanted.has_actions) listed
 
--- Returns the columns of the due date of a loan, of its name, and of its actions on the day `today` if the list has them.
-unfoldable pub due_and_name : Columns → Option Date → Side → List ℕ
-due_and_name columns today side =
-    cell 8 (due_text (due_date_of side)) ++ cell columns.group (column (txn_of side).group)
-    ++ cell columns.transaction (column (txn_of side).transaction) ++ actions_cell columns today side
+-- Returns the column of the due date of a loan.
+abbrev pub due_cell : Side → List ℕ
+due_cell side = cell 8 (due_text (due_date_of side))
 
--- Returns the columns of a loan before its title: its state, and then those that `due_and_name` returns.
+-- Returns the columns of the name of a loan, and of its actions on the day `today` if the list has them.
+unfoldable pub name_cells : Columns → Option Date → Side → List ℕ
+name_cells columns today side =
+    cell columns.group (column (txn_of side).group) ++ cell columns.transaction (column (txn_of side).transaction)
+    ++ actions_cell columns today side
+
+-- Returns the columns of a loan before its title: its state, its due date, and then those that `name_cells` returns.
 unfoldable pub standing : Columns → Option Date → Side → List ℕ
-standing columns today side = cell columns.state (state_name (state_of side)) ++ due_and_name columns today side
+standing columns today side =
+    cell columns.state (state_name (state_of side)) ++ due_cell side ++ name_cells columns today side
 
 -- Returns the line of a loan: its columns and its title.
 unfoldable pub row : Columns → Option Date → Side → List ℕ

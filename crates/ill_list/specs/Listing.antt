@@ -15,7 +15,7 @@ use Rattle.ill_list.specs.declared.morning.MorningColumns.{MorningColumns}
 use Rattle.ill_list.specs.declared.list.Rows.TheVariants as rows
 use Rattle.ill_words.specs.Waiting.{most_urgent_first}
 use Rattle.ill_work.specs.declared.work.Work.{Work}
-use Rattle.ill_work.specs.Work.{all_work, work_words}
+use Rattle.ill_work.specs.Work.{all_work, wants_a_hand, work_words}
 use Rattle.ill_list.specs.List.{columns_of, row, has_work, listed_of, counts_of, counts_line}
 use Rattle.ill_list.specs.ListObjects.{row_object, counts_object}
 use Rattle.ill_list.specs.Seeking.{Seeking, found_of}
@@ -62,12 +62,16 @@ abbrev pub told_morning : MorningColumns → AnnexRead → Wanted → Side → L
 told_morning columns annex wanted side =
     morning_row columns annex.news wanted side ++ (note_shown annex.notes wanted side ++ since_shown annex wanted side)
 
+-- Returns the heading of a kind of work with `count` loans in a morning's list: none if that work wants no hand.
+abbrev pub morning_heading : Work → ℕ → List ℕ
+morning_heading work count = if wants_a_hand work then work_heading work count else []
+
 -- Returns the lines of the loans with this work in a morning's list: a heading, and those of each. Without a loan there
 -- is no line.
 abbrev pub morning_lines : MorningColumns → AnnexRead → Wanted → Work → List Side → List ℕ
 morning_lines columns annex wanted work [] = []
 morning_lines columns annex wanted work (first ∷ others) =
-    work_heading work (length (first ∷ others)) ++ flat_map (told_morning columns annex wanted) (first ∷ others)
+    morning_heading work (length (first ∷ others)) ++ flat_map (told_morning columns annex wanted) (first ∷ others)
 
 -- Returns the objects of the loans with this work.
 abbrev pub work_objects : Option (List ℕ) → AnnexRead → Wanted → Work → List Side → List ℕ

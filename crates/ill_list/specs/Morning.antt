@@ -1,5 +1,5 @@
 -- The list of a morning: a line for each loan that wants a hand, or to which something came since a day.
-use Rattle.std.specs.Prelude.{ℕ, max, Bool, ◌&&◌, List, [], ◌++◌, length, fold, codes, Option, Some, None, is_some}
+use Rattle.std.specs.Prelude.{ℕ, max, Bool, ◌&&◌, if◌then◌else◌, List, [], ◌++◌, length, fold, codes, Option, Some, None, is_some}
 use Rattle.ill_values.specs.declared.apdu.Apdu.{Apdu}
 use Rattle.ill_record.specs.declared.side.Side.{Side}
 use Rattle.ill_record.specs.Side.{txn_of}
@@ -7,7 +7,7 @@ use Rattle.ill_words.specs.Possible.{request_of, item_asked}
 use Rattle.ill_list.specs.declared.morning.MorningColumns.{MorningColumns}
 use Rattle.ill_list.specs.declared.wanted.Wanted.{Wanted}
 use Rattle.ill_rows.specs.Cells.{cell, title_text}
-use Rattle.ill_list.specs.List.{columns_of, is_mine, due_and_name}
+use Rattle.ill_list.specs.List.{columns_of, due_cell, is_mine, is_to_do, name_cells}
 use Rattle.ill_beside.specs.Kept.{kept_of}
 use Rattle.ill_beside.specs.NewsWords.{told_words}
 
@@ -53,8 +53,12 @@ morning_columns wanted news listed = record {
   news = widest (λ side. text_or_dash (news_text news side)) listed;
 }
 
--- Returns the line of a loan: its due date and its name, its news and its title.
+-- Returns the beginning of the line of a loan: its due date if it wants a hand, and else the word that it has news alone.
+abbrev pub due_or_news : Wanted → Side → List ℕ
+due_or_news wanted side = if is_to_do wanted side then codes "  " ++ due_cell side else cell 10 (codes "news:")
+
+-- Returns the line of a loan: its beginning and its name, its news and its title.
 unfoldable pub morning_row : MorningColumns → (news : Option (List Apdu)) → Wanted → Side → List ℕ
 morning_row columns news wanted side =
-    codes "  " ++ due_and_name columns.row wanted.today side
+    due_or_news wanted side ++ name_cells columns.row wanted.today side
     ++ cell columns.news (text_or_dash (news_text news side)) ++ title_text (item_asked (request_of side)) ++ codes "\n"

@@ -10,7 +10,7 @@ ghost use Rattle.ill_list.specs.Morning.{is_morning, morning_columns};
 ghost use Rattle.ill_beside.specs.FileLines.{lines_of};
 ghost use Rattle.ill_beside.specs.Since.{annex_of};
 ghost use Rattle.ill_rows.specs.Heading.{between, file_told, gap, heading};
-ghost use Rattle.ill_list.specs.Listing.{chosen_of, counts_text, dated_row, list_lines, list_objects, listed_desk, morning_lines, note_shown, noted_row, ordered_lines, section, sections, since_shown, told_morning, told_row, work_heading, work_lines, work_objects, work_text};
+ghost use Rattle.ill_list.specs.Listing.{chosen_of, counts_text, dated_row, list_lines, list_objects, listed_desk, morning_heading, morning_lines, note_shown, noted_row, ordered_lines, section, sections, since_shown, told_morning, told_row, work_heading, work_lines, work_objects, work_text};
 
 use crate::counts::Counts;
 use crate::list_objects::{RowObjects, push_counts_object, push_row_object};
@@ -67,8 +67,8 @@ pub(crate) struct RowLines<'a> {
 
 /// Writes a line or an object of JSON for each wanted loan of `desk`, and one that counts all of its loans. Lines stand
 /// after a heading with the path of the desk, if that is written; each object has it. The most pressing work comes first.
-/// In lines each kind of work has a heading. Within a kind the loans are in the order of their deadlines. A loan is left out if it has not the
-/// words that are sought.
+/// In lines each kind of work has a heading, but in the list of a morning those that want no hand have none. Within a kind
+/// the loans are in the order of their deadlines. A loan is left out if it has not the words that are sought.
 pub fn run_desk_list<S: Store, W: Write>(
     alloc: Global,
     desk: &Desk<S>,
@@ -445,8 +445,18 @@ fn push_morning_lines(
     if sides.is_empty() {
         return Ok(());
     }
-    push_work_heading(lines, work, sides.len())?;
+    push_morning_heading(lines, work, sides.len())?;
     push_morning_rows(lines, rows, wanted, sides)
+}
+
+/// Appends the heading of a kind of work with `count` loans in the list of a morning, if that work wants a hand.
+fn push_morning_heading(lines: &mut Vec<u8>, work: Work, count: usize) -> Result<(), OutOfMemory>
+    ensures { OnOk result (lines.new.items ≡ lines.old.items ++ morning_heading work count) }
+{
+    if work.wants_a_hand() {
+        return push_work_heading(lines, work, count);
+    }
+    Ok(())
 }
 
 /// Appends a line for each loan of `sides` in the list of a morning, and those of its note and its day if the list has them.

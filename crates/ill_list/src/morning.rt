@@ -3,10 +3,10 @@
 ghost use Rattle.std.specs.Prelude.{◌≡◌, ◌++◌, [], map, fold, IfOk, OnOk};
 ghost use Rattle.std.specs.List.{flat_map};
 ghost use Rattle.ill_beside.specs.Since.{annex_of};
-ghost use Rattle.ill_list.specs.Morning.{break_after, is_morning, morning_columns, morning_row, news_text, text_or_dash, widest, with_words, words_of};
+ghost use Rattle.ill_list.specs.Morning.{break_after, due_or_news, is_morning, morning_columns, morning_row, news_text, text_or_dash, widest, with_words, words_of};
 
-use crate::row::{Columns, push_due_and_name};
-use crate::wanted::Wanted;
+use crate::row::{Columns, push_due, push_name_cells};
+use crate::wanted::{Wanted, is_to_do};
 use ill_beside::annex::Annex;
 use ill_beside::kept::kept_of;
 use ill_beside::news_words::told_words;
@@ -14,6 +14,9 @@ use ill_rows::cells::{push_cell, push_title};
 use ill_saved::Side;
 use ill_values::{Apdu, OutOfMemory};
 use std::alloc::Global;
+
+/// The width of the column of a day after two spaces.
+const BEGINNING: usize = 10;
 
 /// The columns of a morning's list.
 #[derive(Clone, Copy)]
@@ -114,7 +117,7 @@ fn push_break(text: &mut Vec<u8>) -> Result<(), OutOfMemory>
     text.extend_from_slice(b"; ")
 }
 
-/// Appends the line of the loan of `side`: its due date and its name, its news and its title.
+/// Appends the line of the loan of `side`: its beginning and its name, its news and its title.
 #[tactic(auto, unfolding(crate::specs::Morning::morning_row))]
 pub(crate) fn push_morning_row(
     lines: &mut Vec<u8>,
@@ -126,12 +129,24 @@ pub(crate) fn push_morning_row(
         ++ morning_row rows.now.columns (annex_of rows.now.annex.now).news wanted.now side.now) }
 {
     let news = news_text(*lines.allocator(), rows.annex, side)?;
-    lines.extend_from_slice(b"  ")?;
-    push_due_and_name(lines, &rows.columns.row, wanted.today, side)?;
+    push_due_or_news(lines, wanted, side)?;
+    push_name_cells(lines, &rows.columns.row, wanted.today, side)?;
     push_cell(lines, rows.columns.news, &news)?;
     push_title(lines, side)?;
     lines.push(b'\n')?;
     Ok(())
+}
+
+/// Appends the beginning of the line of the loan of `side`: its due date if it wants a hand, and else the word that it has
+/// news alone.
+fn push_due_or_news(lines: &mut Vec<u8>, wanted: &Wanted, side: &Side) -> Result<(), OutOfMemory>
+    ensures { OnOk result (lines.new.items ≡ lines.old.items ++ due_or_news wanted.now side.now) }
+{
+    if is_to_do(wanted, side) {
+        lines.extend_from_slice(b"  ")?;
+        return push_due(lines, side);
+    }
+    push_cell(lines, BEGINNING, b"news:")
 }
 
 /// The columns of the lines of a morning's list, and the annex of the desk.

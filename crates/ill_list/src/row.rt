@@ -1,10 +1,8 @@
 //! The line of a loan in a list.
 
 ghost use Rattle.std.specs.Prelude.{◌≡◌, ◌++◌, map, length, string_bytes, codes, IfOk, OnOk};
-ghost use Rattle.ill_record.specs.Side.{due_date_of};
-ghost use Rattle.ill_words.specs.Shown.{due_text};
-ghost use Rattle.ill_rows.specs.Cells.{cell, column};
-ghost use Rattle.ill_list.specs.List.{columns_of, actions_cell, actions_text, due_and_name, no_columns, row, standing, verbs_text, widened};
+ghost use Rattle.ill_rows.specs.Cells.{column};
+ghost use Rattle.ill_list.specs.List.{columns_of, actions_cell, actions_text, due_cell, name_cells, no_columns, row, standing, verbs_text, widened};
 
 use crate::wanted::Wanted;
 use ill_rows::cells::{column, push_cell, push_title};
@@ -113,21 +111,20 @@ fn push_standing(
     ensures { OnOk result (lines.new.items ≡ lines.old.items ++ standing columns.now today side.now) }
 {
     push_cell(lines, columns.state, side.state().name().as_bytes())?;
-    push_due_and_name(lines, columns, today, side)
+    push_due(lines, side)?;
+    push_name_cells(lines, columns, today, side)
 }
 
-/// Appends the columns of the due date of `side` and of its name, with its actions on the day `today` if the list has
-/// them.
-#[tactic(auto, unfolding(crate::specs::List::due_and_name))]
-pub(crate) fn push_due_and_name(
+/// Appends the columns of the name of `side`, with its actions on the day `today` if the list has them.
+#[tactic(auto, unfolding(crate::specs::List::name_cells))]
+pub(crate) fn push_name_cells(
     lines: &mut Vec<u8>,
     columns: &Columns,
     today: Option<Day>,
     side: &Side,
 ) -> Result<(), OutOfMemory>
-    ensures { OnOk result (lines.new.items ≡ lines.old.items ++ due_and_name columns.now today side.now) }
+    ensures { OnOk result (lines.new.items ≡ lines.old.items ++ name_cells columns.now today side.now) }
 {
-    push_due(lines, side)?;
     let alloc = *lines.allocator();
     push_cell(lines, columns.group, &column(alloc, side.txn().group())?)?;
     push_cell(
@@ -139,8 +136,8 @@ pub(crate) fn push_due_and_name(
 }
 
 /// Appends the column of the due date, with a dash if there is none.
-fn push_due(lines: &mut Vec<u8>, side: &Side) -> Result<(), OutOfMemory>
-    ensures { OnOk result (lines.new.items ≡ lines.old.items ++ cell 8 (due_text (due_date_of side.now))) }
+pub(crate) fn push_due(lines: &mut Vec<u8>, side: &Side) -> Result<(), OutOfMemory>
+    ensures { OnOk result (lines.new.items ≡ lines.old.items ++ due_cell side.now) }
 {
     match side.due() {
         None => push_cell(lines, DUE, b"-"),

@@ -226,16 +226,16 @@ def list_lines(sides, flag, today=None, due_before=None, state=None, ahead=AHEAD
 def morning_lines(sides, today, news, notes=None, days=None):
     """Returns the lines of `list --mine --since DAY`."""
     rows = list(listed(sides, "--mine", today, news=news))
-    cells = [[side.due or "-", column(side.txn[0]), column(side.txn[1]),
-              "; ".join(words for _, words in news[tuple(side.txn)]) or "-"] for _, side in rows]
+    cells = [["  " + (side.due or "-") if name in HANDS else "news:", column(side.txn[0]), column(side.txn[1]),
+              "; ".join(words for _, words in news[tuple(side.txn)]) or "-"] for name, side in rows]
     widths = [max(map(len, texts)) for texts in zip(*cells)]
-    widths[:1] = [8] if widths else []
+    widths[:1] = [10] if widths else []
     lines, headed = [], None
     for (name, side), texts in zip(rows, cells):
-        if name != headed:
+        if name != headed and name in HANDS:
             lines.append(f"{name} ({sum(other == name for other, _ in rows)}):")
             headed = name
-        lines.append("  " + "".join(map(padded, texts, widths)) + shown(side.asked()["item"]))
+        lines.append("".join(map(padded, texts, widths)) + shown(side.asked()["item"]))
         lines += [f"    note {notes[tuple(side.txn)]}"] if tuple(side.txn) in (notes or {}) else []
         lines += [f"    since {days[tuple(side.txn)]}"] if tuple(side.txn) in (days or {}) else []
     return [*lines, "loans {loans}, open {open}, to do {todo}, room for {room}".format(**counts(sides, today))]

@@ -593,6 +593,7 @@ def compare_words(named_texts, words, arguments):
     sent = {f"{word} N" for word in re.findall(r'"(\w+) \{\w+\}\\n"', read(f"{INBOX}/objects.rt"))}
     told = {text for text, _ in told_faults()}
     told |= set(re.findall(r'b"(changed) "', read("crates/ill_desk/src/act_as.rt")))
+    told |= set(re.findall(r'b"(news:)"', read(f"{LIST}/morning.rt")))
     known = words | labels | counted | staying | sent | verbs_known | set(arguments) | told | set(files) | {
         "done", "none", "-", "--", "--today", "--explain", "--help", "ill --help", "#", "+N", "ill: ",
         "ill COMMAND --help", "act --new-group", "_", "%", "PATH:", "letter-"}

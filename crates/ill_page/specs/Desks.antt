@@ -12,8 +12,9 @@ use Rattle.ill_text.specs.Html.{html_escaped, html_text}
 use Rattle.ill_report.specs.Report.{PageShown, desk_text, page_head_with}
 use Rattle.ill_beside.specs.Since.{AnnexRead, annex_of}
 use Rattle.ill_page.specs.declared.desks.DeskShown.{DeskShown}
-use Rattle.ill_page.specs.declared.parts.TheConstants.{BEGIN, BEGIN_END, BEGUN, END, FIGURES, FORM, FOUND, FOUND_END, GROUP}
-use Rattle.ill_page.specs.declared.parts.TheConstants.{NUMBER, SEARCH, SEARCH_END, STYLE}
+use Rattle.ill_page.specs.declared.parts.TheConstants.{BEGUN, END, FORM, STYLE}
+use Rattle.ill_page.specs.declared.words.TheConstants.{BEGIN, BEGIN_END, FIGURES, FOUND, FOUND_END}
+use Rattle.ill_page.specs.declared.words.TheConstants.{GROUP, NUMBER, SEARCH, SEARCH_END}
 use Rattle.ill_page.specs.Forms.{act_fields, hidden_text}
 
 -- ---- the search

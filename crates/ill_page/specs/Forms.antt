@@ -10,7 +10,8 @@ use Rattle.ill_report.specs.Link.{PlaceShown, place_shown}
 use Rattle.ill_page.specs.declared.forms.FormView.{FormView}
 use Rattle.ill_page.specs.declared.forms.TheConstants.{LOAN_DAYS}
 use Rattle.ill_page.specs.declared.parts.Inputs.{Inputs}
-use Rattle.ill_page.specs.declared.parts.TheConstants.{FORM, FORM_END, HIDDEN, VALUE, HIDDEN_END, NOTE, PURPOSE, PURPOSE_END}
+use Rattle.ill_page.specs.declared.parts.TheConstants.{FORM, FORM_END, HIDDEN, VALUE, HIDDEN_END, PURPOSE, PURPOSE_END}
+use Rattle.ill_page.specs.declared.words.TheConstants.{NOTE}
 use Rattle.ill_page.specs.Parts.{after, before, has_day, inputs_of, meaning}
 
 -- What all forms of a loan have: the loan, its stamp, and the day of the page.

@@ -10,8 +10,8 @@ use Rattle.ill_beside.specs.StateWords.{state_words}
 use Rattle.ill_report.specs.Link.{PlaceShown, place_text}
 use Rattle.ill_report.specs.Report.{page_head_with}
 use Rattle.ill_page.specs.declared.page.LoanShown.{LoanShown}
-use Rattle.ill_page.specs.declared.parts.TheConstants.{ALL, ALERT, ALERT_END, COUNTED, COUNTED_END, END, KNOWN, KNOWN_END, LOAN}
-use Rattle.ill_page.specs.declared.parts.TheConstants.{POSSIBLE, SLIP, SLIP_END, STATE, STYLE}
+use Rattle.ill_page.specs.declared.parts.TheConstants.{ALERT, ALERT_END, COUNTED_END, END, KNOWN_END, LOAN, SLIP, STATE, STYLE}
+use Rattle.ill_page.specs.declared.words.TheConstants.{ALL, COUNTED, KNOWN, POSSIBLE, SLIP_END}
 use Rattle.ill_page.specs.Forms.{forms_text, note_text}
 
 -- A loan that is shown: the day, the text for its desk, the side of this library, its stamp, and the lines of all that is

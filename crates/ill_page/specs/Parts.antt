@@ -1,10 +1,13 @@
 -- The constant texts of forms.
-use Rattle.std.specs.Prelude.{ℕ, Bool, true, false, List, [], ◌∷◌, codes}
+use Rattle.std.specs.Prelude.{ℕ, Bool, true, false, List, [], ◌∷◌}
 use Rattle.ill_core.specs.declared.verb.Verb.{Verb}
 use Rattle.ill_core.specs.declared.verb.Verb.TheVariants as verbs
 use Rattle.ill_page.specs.declared.parts.Inputs.{Inputs}
 use Rattle.ill_page.specs.declared.parts.Inputs.TheVariants as inputs
-use Rattle.ill_page.specs.declared.parts.TheConstants.{BARE, YES_NO, WISHED, DUE, DUE_END, GRANT, GRANT_END, DENY, RESULT}
+use Rattle.ill_page.specs.declared.words.TheConstants.{BARE, YES_NO, WISHED, DUE, DUE_END, GRANT, GRANT_END, DENY, RESULT}
+use Rattle.ill_page.specs.declared.words.TheConstants.{TO_REQUEST, TO_CANCEL, TO_REPLY, TO_RECEIVE}
+use Rattle.ill_page.specs.declared.words.TheConstants.{TO_RENEW, TO_RETURN, TO_ANSWER, TO_CANCEL_REPLY}
+use Rattle.ill_page.specs.declared.words.TheConstants.{TO_SHIP, TO_RENEW_ANSWER, TO_OVERDUE, TO_RECALL, TO_CHECK_IN, TO_EXPIRE}
 
 -- Returns the text of inputs before the day that is proposed. If none is, this is all text.
 abbrev pub before : Inputs → List ℕ
@@ -41,17 +44,17 @@ inputs_of other = inputs.Bare ∷ []
 
 -- Returns the meaning of an action, for people.
 abbrev pub meaning : Verb → List ℕ
-meaning verbs.Request = codes "Ask for an item"
-meaning verbs.Cancel = codes "Ask to cancel the request"
-meaning verbs.Reply = codes "Accept the conditions?"
-meaning verbs.Receive = codes "The item has come"
-meaning verbs.Renew = codes "Ask to keep the item longer"
-meaning verbs.Return = codes "The item is sent back"
-meaning verbs.Answer = codes "Answer the request"
-meaning verbs.CancelReply = codes "Agree to cancel?"
-meaning verbs.Ship = codes "The item is sent"
-meaning verbs.RenewAnswer = codes "Let the item be kept longer?"
-meaning verbs.Overdue = codes "Say that the item is overdue"
-meaning verbs.Recall = codes "Ask for the item back"
-meaning verbs.CheckIn = codes "The item is back"
-meaning verbs.Expire = codes "End the request: its last day is past"
+meaning verbs.Request = TO_REQUEST.now
+meaning verbs.Cancel = TO_CANCEL.now
+meaning verbs.Reply = TO_REPLY.now
+meaning verbs.Receive = TO_RECEIVE.now
+meaning verbs.Renew = TO_RENEW.now
+meaning verbs.Return = TO_RETURN.now
+meaning verbs.Answer = TO_ANSWER.now
+meaning verbs.CancelReply = TO_CANCEL_REPLY.now
+meaning verbs.Ship = TO_SHIP.now
+meaning verbs.RenewAnswer = TO_RENEW_ANSWER.now
+meaning verbs.Overdue = TO_OVERDUE.now
+meaning verbs.Recall = TO_RECALL.now
+meaning verbs.CheckIn = TO_CHECK_IN.now
+meaning verbs.Expire = TO_EXPIRE.now

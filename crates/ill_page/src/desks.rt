@@ -6,9 +6,9 @@ ghost use Rattle.ill_beside.specs.Since.{annex_of};
 ghost use Rattle.ill_page.specs.Desks.{begin_form, begin_text, desk_part, desk_seen, desks_begin, desks_end, known_group, new_text, next_number, proposed_text, search_text, sought_text};
 
 use crate::forms::{push_act, push_hidden};
-use crate::parts::{
-    BEGIN, BEGIN_END, BEGUN, END, FIGURES, FORM, FOUND, FOUND_END, GROUP, NUMBER, SEARCH,
-    SEARCH_END, STYLE,
+use crate::parts::{BEGUN, END, FORM, STYLE};
+use crate::words::{
+    BEGIN, BEGIN_END, FIGURES, FOUND, FOUND_END, GROUP, NUMBER, SEARCH, SEARCH_END,
 };
 use ill_beside::annex::Annex;
 use ill_core::Verb;

@@ -5,9 +5,9 @@ ghost use Rattle.ill_report.specs.Link.{place_shown};
 ghost use Rattle.ill_page.specs.Forms.{act_fields, day_proposed, form_text, form_shown, forms_text, hidden_text, inputs_text, loan_fields, note_text, shown_text, verb_text};
 
 use crate::parts::{
-    FORM, FORM_END, HIDDEN, HIDDEN_END, Inputs, NOTE, PURPOSE, PURPOSE_END, VALUE, inputs_of,
-    meaning,
+    FORM, FORM_END, HIDDEN, HIDDEN_END, Inputs, PURPOSE, PURPOSE_END, VALUE, inputs_of, meaning,
 };
+use crate::words::NOTE;
 use ill_core::Verb;
 use ill_report::link::Place;
 use ill_text::html::push_html;

@@ -7,10 +7,8 @@ ghost use Rattle.ill_report.specs.Link.{place_shown, place_text};
 ghost use Rattle.ill_page.specs.Page.{begun_text, figures_page, known_text, lines_text, loan_page, loan_seen, notice_page, notice_text, place_of, possible_text, slip_text, title_text, ways_text};
 
 use crate::forms::{FormView, push_forms, push_note};
-use crate::parts::{
-    ALERT, ALERT_END, ALL, COUNTED, COUNTED_END, END, KNOWN, KNOWN_END, LOAN, POSSIBLE, SLIP,
-    SLIP_END, STATE, STYLE,
-};
+use crate::parts::{ALERT, ALERT_END, COUNTED_END, END, KNOWN_END, LOAN, SLIP, STATE, STYLE};
+use crate::words::{ALL, COUNTED, KNOWN, POSSIBLE, SLIP_END};
 use ill_beside::state_words::words_of;
 use ill_report::link::{Place, push_place};
 use ill_report::report::push_head_with;

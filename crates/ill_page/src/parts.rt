@@ -1,8 +1,13 @@
-//! The constant texts of the pages. No text here is written by a user.
+//! The markup of the pages, and the words of each form. No text here is written by a user.
 
 ghost use Rattle.std.specs.Prelude.{◌≡◌};
 ghost use Rattle.ill_page.specs.Parts.{after, before, has_day, inputs_of, meaning};
 
+use crate::words::{
+    BARE, DENY, DUE, DUE_END, GRANT, GRANT_END, RESULT, TO_ANSWER, TO_CANCEL, TO_CANCEL_REPLY,
+    TO_CHECK_IN, TO_EXPIRE, TO_OVERDUE, TO_RECALL, TO_RECEIVE, TO_RENEW, TO_RENEW_ANSWER, TO_REPLY,
+    TO_REQUEST, TO_RETURN, TO_SHIP, WISHED, YES_NO,
+};
 use ill_core::Verb;
 
 /// The text before the fields of a form.
@@ -49,57 +54,11 @@ pre { overflow-wrap: anywhere; white-space: pre-wrap; font: .9375rem/1.4 ui-mono
 }
 ";
 
-/// The text before the words that are sought, in their form.
-pub(crate) const SEARCH: &str = "\
-<form method=\"get\" action=\"?\" role=\"search\">\
-<label>Title, number or note <input type=\"search\" name=\"find\" dir=\"auto\" value=\"";
-
-/// The text after them.
-pub(crate) const SEARCH_END: &str = "\"></label> <button>Search</button></form>\n";
-
-/// The text before the words that are sought, in the line that names them.
-pub(crate) const FOUND: &str = "<p role=\"status\">Only loans with <b dir=\"auto\">";
-
-/// The text after them.
-pub(crate) const FOUND_END: &str = "</b> are shown. <a href=\"?\">All loans</a></p>\n";
-
-/// The text before the file of a desk at which a loan may begin.
-pub(crate) const BEGIN: &str = "<details>\n<summary>New request at <bdi>";
-
 /// The text after the file of the desk, before the form of a new loan.
 pub(crate) const BEGUN: &str = "</bdi></summary>\n";
 
-/// The text before the group that is proposed for a new loan.
-pub(crate) const GROUP: &str = "\
-<label>Group <input name=\"group\" required maxlength=\"64\" pattern=\"[ -~]+\" value=\"";
-
-/// The text before the number that is proposed for a new loan.
-pub(crate) const NUMBER: &str = "\
-\"></label> <label>Number <input name=\"transaction\" required maxlength=\"64\" pattern=\"[ -~]+\" value=\"";
-
-/// The text after the number of a new loan: the other inputs of its form, and the end.
-pub(crate) const BEGIN_END: &str = "\
-\"></label> \
-<label>Last day, if there is one <input type=\"date\" name=\"day\"></label> \
-<label>Title <input name=\"word\" required maxlength=\"200\" size=\"40\" dir=\"auto\"></label> \
-<button>Request it</button></form>\n</details>\n";
-
-/// The form that asks for figures.
-pub(crate) const FIGURES: &str = "\
-<form method=\"get\" action=\"?\">\
-<fieldset><legend>Figures</legend>\
-<label>From <input type=\"date\" name=\"from\" required></label> \
-<label>To <input type=\"date\" name=\"to\" required></label> \
-<button>Show figures</button></fieldset></form>\n";
-
-/// The text before the figures.
-pub(crate) const COUNTED: &str = "<section>\n<h2>Figures</h2>\n<pre>";
-
 /// The text after the figures.
 pub(crate) const COUNTED_END: &str = "</pre>\n</section>\n";
-
-/// The link to the page of all loans.
-pub(crate) const ALL: &str = "<nav><a href=\"?\">All loans</a></nav>\n";
 
 /// The text before a notice.
 pub(crate) const ALERT: &str = "<p role=\"alert\"><strong>";
@@ -113,28 +72,14 @@ pub(crate) const LOAN: &str = "<section>\n<h2 dir=\"auto\">";
 /// The text after the title of a loan, before its state.
 pub(crate) const STATE: &str = "</h2>\n<p>";
 
-/// The text after the state of a loan, before the forms of its actions.
-pub(crate) const POSSIBLE: &str = "</p>\n<div class=\"now\">\n<h3>What may be done now</h3>\n";
-
-/// The text after the forms, before the lines of what is known.
-pub(crate) const KNOWN: &str = "</div>\n<h3>What is known</h3>\n<pre dir=\"auto\">";
-
 /// The text after these lines.
 pub(crate) const KNOWN_END: &str = "</pre>\n</section>\n";
 
 /// The text after the content of each page.
 pub(crate) const END: &str = "</body>\n</html>\n";
 
-/// The text before the words of the note on a loan, in its form.
-pub(crate) const NOTE: &str = "\
-<fieldset><legend>A note for staff: it leaves no message</legend>\
-<label>Note <input name=\"note\" maxlength=\"200\" size=\"40\" dir=\"auto\"></label> <button>Keep the note</button>";
-
 /// The text before the URL of the slip of a loan.
 pub(crate) const SLIP: &str = "<p><a href=\"";
-
-/// The text after the URL of the slip of a loan.
-pub(crate) const SLIP_END: &str = "&amp;page=slip\">A slip to lay in the item</a></p>\n";
 
 /// The inputs of a form of an action.
 #[derive(Clone, Copy)]
@@ -190,42 +135,6 @@ impl Inputs {
     }
 }
 
-/// The inputs of an action without words of its own.
-pub(crate) const BARE: &str = "<button>Confirm</button>";
-
-/// The inputs of an action that is yes or no.
-pub(crate) const YES_NO: &str = "\
-<button name=\"word\" value=\"yes\">Yes</button> <button name=\"word\" value=\"no\">No</button>";
-
-/// The inputs of a wish to keep an item.
-pub(crate) const WISHED: &str = "\
-<label>Until, if you wish a day <input type=\"date\" name=\"day\"></label> <button>Ask</button>";
-
-/// The inputs of a shipment, before the day that is proposed.
-pub(crate) const DUE: &str =
-    "<label>Due back on <input type=\"date\" name=\"day\" required value=\"";
-
-/// The inputs of the answer that lets an item be kept longer, before the day that is proposed.
-pub(crate) const GRANT: &str = "\
-<input type=\"hidden\" name=\"word\" value=\"yes\">\
-<label>New due date <input type=\"date\" name=\"day\" required value=\"";
-
-/// The inputs of the answer that does not.
-pub(crate) const DENY: &str =
-    "<input type=\"hidden\" name=\"word\" value=\"no\"><button>No</button>";
-
-/// The inputs of an answer to a request.
-pub(crate) const RESULT: &str = "\
-<label>With <select name=\"word\">\
-<option>conditional<option>retry<option>unfilled<option>locations-provided\
-<option>will-supply<option>hold-placed<option>estimate</select></label> <button>Answer</button>";
-
-/// The text after the day on which an item is due.
-pub(crate) const DUE_END: &str = "\"></label> <button>It is sent</button>";
-
-/// The text after a new due date.
-pub(crate) const GRANT_END: &str = "\"></label> <button>Yes, until this day</button>";
-
 /// Returns the inputs of each form of `verb`. Each form names an action of this verb, with all that it wants. A request
 /// has its own form.
 pub(crate) fn inputs_of(verb: Verb) -> &'static [Inputs]
@@ -253,19 +162,19 @@ pub(crate) fn meaning(verb: Verb) -> &'static str
     ensures { result.now ≡ meaning verb }
 {
     match verb {
-        Verb::Request => "Ask for an item",
-        Verb::Cancel => "Ask to cancel the request",
-        Verb::Reply => "Accept the conditions?",
-        Verb::Receive => "The item has come",
-        Verb::Renew => "Ask to keep the item longer",
-        Verb::Return => "The item is sent back",
-        Verb::Answer => "Answer the request",
-        Verb::CancelReply => "Agree to cancel?",
-        Verb::Ship => "The item is sent",
-        Verb::RenewAnswer => "Let the item be kept longer?",
-        Verb::Overdue => "Say that the item is overdue",
-        Verb::Recall => "Ask for the item back",
-        Verb::CheckIn => "The item is back",
-        Verb::Expire => "End the request: its last day is past",
+        Verb::Request => TO_REQUEST,
+        Verb::Cancel => TO_CANCEL,
+        Verb::Reply => TO_REPLY,
+        Verb::Receive => TO_RECEIVE,
+        Verb::Renew => TO_RENEW,
+        Verb::Return => TO_RETURN,
+        Verb::Answer => TO_ANSWER,
+        Verb::CancelReply => TO_CANCEL_REPLY,
+        Verb::Ship => TO_SHIP,
+        Verb::RenewAnswer => TO_RENEW_ANSWER,
+        Verb::Overdue => TO_OVERDUE,
+        Verb::Recall => TO_RECALL,
+        Verb::CheckIn => TO_CHECK_IN,
+        Verb::Expire => TO_EXPIRE,
     }
 }

@@ -1,5 +1,5 @@
 -- What a form does: an act at one desk, under the lock of its file, or a note beside it.
-use Rattle.std.specs.Prelude.{◌≡◌, ◌⊎◌, ℕ, Bool, true, false, List, [], ◌++◌, codes, Option, Some, None, Result, Ok, Err}
+use Rattle.std.specs.Prelude.{◌≡◌, ◌⊎◌, ℕ, Bool, true, false, List, [], ◌++◌, Option, Some, None, Result, Ok, Err}
 use Rattle.std.specs.Prelude.{IsErrAnd}
 use Rattle.std.specs.Prelude.{length, IsUtf8, ◌==◌, ◌||◌, ◌+◌, ◌∷◌, if◌then◌else◌}
 use Rattle.ill_values.specs.Day.{Date}
@@ -19,6 +19,7 @@ use Rattle.ill_post.specs.declared.answer.Posted.TheVariants as posteds
 use Rattle.ill_post.specs.Post.{AnswersPost, DeskState, FormShown}
 use Rattle.ill_page.specs.declared.reply.Status.{Status}
 use Rattle.ill_page.specs.declared.reply.Status.TheVariants as statuses
+use Rattle.ill_page.specs.declared.words.TheConstants.{NOTHING_DONE, FAULT_END, NO_ACTION, CHANGED}
 use Rattle.ill_page.specs.Reply.{seen_reply}
 use Rattle.ill_web.specs.declared.trouble.Trouble.{Trouble}
 use Rattle.ill_web.specs.declared.trouble.Trouble.TheVariants as troubles
@@ -63,13 +64,15 @@ abbrev pub status_of : Posted → Status
 status_of posteds.NoAction = statuses.Bad
 status_of other = statuses.Conflict
 
+-- The notice has the words of a fault.
+abbrev pub IsRefusal : (notice : List ℕ) → Type 0
+IsRefusal notice = (words : List ℕ) × (notice ≡ NOTHING_DONE.now ++ (words ++ FAULT_END.now))
+
 -- The notice says why a form was not done.
 abbrev pub IsNotice : Posted → (notice : List ℕ) → Type 0
-IsNotice (posteds.Refused fault) notice =
-    (words : List ℕ) × (notice ≡ codes "Nothing was done: " ++ (words ++ codes "."))
-IsNotice posteds.NoAction notice = notice ≡ codes "Nothing was done: a field of the form is missing or wrong."
-IsNotice other notice =
-    notice ≡ codes "Nothing was done: the loan has changed since your page showed it. This is how it is now."
+IsNotice (posteds.Refused fault) notice = IsRefusal notice
+IsNotice posteds.NoAction notice = notice ≡ NO_ACTION.now
+IsNotice other notice = notice ≡ CHANGED.now
 
 -- The reply shows the loan as it is now, and says why a form was not done.
 abbrev pub TellsWhy : Date → LoanAsked → Posted → Result (List ℕ) Trouble → Type 0

@@ -1,5 +1,5 @@
 -- Why a request gets no page of a loan, and what a reader is told then.
-use Rattle.std.specs.Prelude.{ℕ, List, codes}
+use Rattle.std.specs.Prelude.{ℕ, List}
 use Rattle.ill_values.specs.Day.{Date}
 use Rattle.ill_saved.specs.declared.fault.DeskFault.TheVariants.{NoSuchTransaction, Store}
 use Rattle.ill_text.specs.declared.fault.ToolFault.{ToolFault}
@@ -8,6 +8,9 @@ use Rattle.ill_browser.specs.declared.fault.VisitFault.{VisitFault}
 use Rattle.ill_browser.specs.declared.fault.VisitFault.TheVariants as visits
 use Rattle.ill_page.specs.declared.reply.Status.{Status}
 use Rattle.ill_page.specs.declared.reply.Status.TheVariants as statuses
+use Rattle.ill_page.specs.declared.words.TheConstants.{NO_PAGE, METHOD, FOREIGN, NO_USER, NO_FORM, NO_LENGTH, TOO_LONG}
+use Rattle.ill_page.specs.declared.words.TheConstants.{CUT, FIELDS, NO_DESK, NO_NAME, NO_SPAN, NO_NOTE, OTHER_GROUP}
+use Rattle.ill_page.specs.declared.words.TheConstants.{NO_LOAN, BUSY, NO_DESK_FILE, OUT_OF_MEMORY}
 use Rattle.ill_page.specs.Page.{notice_page}
 use Rattle.ill_page.specs.Reply.{page_reply}
 use Rattle.ill_web.specs.declared.told.Told.{Told}
@@ -29,24 +32,23 @@ tells status notice = record { status = status; notice = notice }
 
 -- Returns what is told of a request that was refused.
 abbrev pub refused : VisitFault → Telling
-refused visits.NoPage = tells statuses.NoPage (codes "There is no such page.")
-refused visits.Method = tells statuses.Method (codes "A page is for GET, and a form for POST.")
-refused visits.Foreign = tells statuses.Foreign (codes "No page of this program sent the form.")
-refused visits.NoUser = tells statuses.Foreign (codes "Nobody is named who sent the form.")
-refused visits.NoForm = tells statuses.NoForm (codes "The body is no form.")
-refused visits.NoLength = tells statuses.NoLength (codes "The length of the form is missing.")
-refused visits.TooLong = tells statuses.TooLong (codes "The form is too long.")
-refused visits.Cut = tells statuses.Bad (codes "The form broke off.")
-refused visits.Fields = tells statuses.Bad (codes "The fields name no page, no loan or no action.")
-refused visits.OutOfMemory = tells statuses.Failed (codes "Memory ran out.")
+refused visits.NoPage = tells statuses.NoPage NO_PAGE.now
+refused visits.Method = tells statuses.Method METHOD.now
+refused visits.Foreign = tells statuses.Foreign FOREIGN.now
+refused visits.NoUser = tells statuses.Foreign NO_USER.now
+refused visits.NoForm = tells statuses.NoForm NO_FORM.now
+refused visits.NoLength = tells statuses.NoLength NO_LENGTH.now
+refused visits.TooLong = tells statuses.TooLong TOO_LONG.now
+refused visits.Cut = tells statuses.Bad CUT.now
+refused visits.Fields = tells statuses.Bad FIELDS.now
+refused visits.OutOfMemory = tells statuses.Failed OUT_OF_MEMORY.now
 
 -- Returns what is told of a desk with this fault.
 abbrev pub failed : ToolFault → Telling
-failed (tools.Desk NoSuchTransaction) = tells statuses.NoPage (codes "This desk has no such loan.")
-failed (tools.Desk (Store fault)) =
-    tells statuses.Busy (codes "The file of the desk is busy, or could not be read or written. Look again before you act.")
-failed tools.OutOfMemory = tells statuses.Failed (codes "Memory ran out.")
-failed other = tells statuses.Failed (codes "The file of the desk is no desk: see ill verify.")
+failed (tools.Desk NoSuchTransaction) = tells statuses.NoPage NO_LOAN.now
+failed (tools.Desk (Store fault)) = tells statuses.Busy BUSY.now
+failed tools.OutOfMemory = tells statuses.Failed OUT_OF_MEMORY.now
+failed other = tells statuses.Failed NO_DESK_FILE.now
 
 -- Memory ran out.
 abbrev pub no_memory : Trouble
@@ -56,12 +58,11 @@ no_memory = troubles.Desk tools.OutOfMemory
 abbrev pub trouble_told : Trouble → Telling
 trouble_told (troubles.Refused fault) = refused fault
 trouble_told (troubles.Desk fault) = failed fault
-trouble_told troubles.NoDesk = tells statuses.NoPage (codes "There is no such desk here.")
-trouble_told troubles.NoName = tells statuses.Foreign (codes "Nothing was done: a diary cannot name this user.")
-trouble_told troubles.NoNote = tells statuses.Bad (codes "A note has at most 200 bytes, and no control characters.")
-trouble_told troubles.OtherGroup =
-    tells statuses.Bad (codes "Nothing was done: this desk takes loans of another group.")
-trouble_told troubles.NoSpan = tells statuses.Bad (codes "The last day of the figures is before the first one.")
+trouble_told troubles.NoDesk = tells statuses.NoPage NO_DESK.now
+trouble_told troubles.NoName = tells statuses.Foreign NO_NAME.now
+trouble_told troubles.NoNote = tells statuses.Bad NO_NOTE.now
+trouble_told troubles.OtherGroup = tells statuses.Bad OTHER_GROUP.now
+trouble_told troubles.NoSpan = tells statuses.Bad NO_SPAN.now
 
 -- Returns the reply when something is wrong.
 abbrev pub trouble_reply : Date → Trouble → List ℕ

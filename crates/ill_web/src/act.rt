@@ -1,6 +1,6 @@
 //! One act of a form, at a desk in a file, under its lock.
 
-ghost use Rattle.std.specs.Prelude.{◌≡◌, ◌⊎◌, ◌++◌, ℕ, List, codes, map, option_map, string_bytes, Option, Some, Result, Err, IfErr, IfOk};
+ghost use Rattle.std.specs.Prelude.{◌≡◌, ◌⊎◌, map, option_map, string_bytes, Option, Some, Result, Err, IfErr, IfOk};
 ghost use Rattle.ill_browser.specs.Wanted.{loan_asked};
 ghost use Rattle.ill_post.specs.Post.{AnswersPost, form_shown, state_of};
 ghost use Rattle.ill_post.specs.declared.answer.Posted.{Posted};
@@ -9,7 +9,7 @@ ghost use Rattle.ill_record.specs.declared.side.Action.TheVariants.{Deed};
 ghost use Rattle.ill_text.specs.Fault.{IsOpenFault};
 ghost use Rattle.ill_words.specs.Words.{deed_of};
 ghost use Rattle.ill_web.specs.Actions.{action_of};
-ghost use Rattle.ill_web.specs.Acts.{ActsIf, ActsIn, AnswersSent, IsEarly, IsNotice, IsTurnLine, IsVerbLine, TellsAnswer, TellsPosted, TellsWhy, Turn, may_act, of_post, status_of, user_named};
+ghost use Rattle.ill_web.specs.Acts.{ActsIf, ActsIn, AnswersSent, IsEarly, IsNotice, IsRefusal, IsTurnLine, IsVerbLine, TellsAnswer, TellsPosted, TellsWhy, Turn, may_act, of_post, status_of, user_named};
 ghost use Rattle.ill_web.specs.Pages.{asked_at, said};
 ghost use Rattle.ill_web.specs.Replies.{ActsHere, house_shown};
 ghost use Rattle.ill_web.specs.Sent.{sent_form};
@@ -24,6 +24,7 @@ use ill_commands::late_diary::late_entry;
 use ill_files::open::open_locked;
 use ill_files::paths::folder_of;
 use ill_files::shelf::{desk_name, is_named_on_shelf, is_shelf};
+use ill_page::words::{CHANGED, FAULT_END, NO_ACTION, NOTHING_DONE};
 use ill_page::{Status, seen_reply};
 use ill_post::{Form, Posted, post};
 use ill_report::link::Place;
@@ -293,26 +294,19 @@ fn notice_of(alloc: Global, posted: Posted) -> Result<String, OutOfMemory>
 {
     match posted {
         Posted::Refused(fault) => refusal_notice(alloc, fault.into()),
-        Posted::NoAction => String::from_str(
-            alloc,
-            "Nothing was done: a field of the form is missing or wrong.",
-        ),
-        Posted::Changed | Posted::Done => String::from_str(
-            alloc,
-            "Nothing was done: the loan has changed since your page showed it. This is how it is now.",
-        ),
+        Posted::NoAction => String::from_str(alloc, NO_ACTION),
+        Posted::Changed | Posted::Done => String::from_str(alloc, CHANGED),
     }
 }
 
 /// Returns the words for a form that was refused.
 fn refusal_notice(alloc: Global, fault: ToolFault) -> Result<String, OutOfMemory>
-    ensures { IfOk result (λ notice. (words : List ℕ)
-        × (string_bytes notice ≡ codes "Nothing was done: " ++ (words ++ codes "."))) }
+    ensures { IfOk result (λ notice. IsRefusal (string_bytes notice)) }
 {
     let words = format!(in alloc; "{fault}")?;
-    let mut notice = String::from_str(alloc, "Nothing was done: ")?;
+    let mut notice = String::from_str(alloc, NOTHING_DONE)?;
     notice.push_str(words.as_str())?;
-    notice.push_str(".")?;
+    notice.push_str(FAULT_END)?;
     Ok(notice)
 }
 

@@ -7,6 +7,10 @@ ghost use Rattle.ill_web.specs.declared.trouble.Trouble.TheVariants as troubles;
 use crate::told::Told;
 use ill_browser::VisitFault;
 use ill_page::Status;
+use ill_page::words::{
+    BUSY, CUT, FIELDS, FOREIGN, METHOD, NO_DESK, NO_DESK_FILE, NO_FORM, NO_LENGTH, NO_LOAN,
+    NO_NAME, NO_NOTE, NO_PAGE, NO_SPAN, NO_USER, OTHER_GROUP, OUT_OF_MEMORY, TOO_LONG,
+};
 use ill_saved::DeskFault;
 use ill_text::fault::ToolFault;
 use ill_values::OutOfMemory;
@@ -62,23 +66,11 @@ impl Trouble {
         match self {
             Trouble::Refused(fault) => refused(fault),
             Trouble::Desk(fault) => failed(fault),
-            Trouble::NoDesk => tells(Status::NoPage, "There is no such desk here."),
-            Trouble::NoName => tells(
-                Status::Foreign,
-                "Nothing was done: a diary cannot name this user.",
-            ),
-            Trouble::NoSpan => tells(
-                Status::Bad,
-                "The last day of the figures is before the first one.",
-            ),
-            Trouble::NoNote => tells(
-                Status::Bad,
-                "A note has at most 200 bytes, and no control characters.",
-            ),
-            Trouble::OtherGroup => tells(
-                Status::Bad,
-                "Nothing was done: this desk takes loans of another group.",
-            ),
+            Trouble::NoDesk => tells(Status::NoPage, NO_DESK),
+            Trouble::NoName => tells(Status::Foreign, NO_NAME),
+            Trouble::NoSpan => tells(Status::Bad, NO_SPAN),
+            Trouble::NoNote => tells(Status::Bad, NO_NOTE),
+            Trouble::OtherGroup => tells(Status::Bad, OTHER_GROUP),
         }
     }
 }
@@ -95,19 +87,16 @@ fn refused(fault: VisitFault) -> Told<'static>
     ensures { telling result ≡ refused fault }
 {
     match fault {
-        VisitFault::NoPage => tells(Status::NoPage, "There is no such page."),
-        VisitFault::Method => tells(Status::Method, "A page is for GET, and a form for POST."),
-        VisitFault::Foreign => tells(Status::Foreign, "No page of this program sent the form."),
-        VisitFault::NoUser => tells(Status::Foreign, "Nobody is named who sent the form."),
-        VisitFault::NoForm => tells(Status::NoForm, "The body is no form."),
-        VisitFault::NoLength => tells(Status::NoLength, "The length of the form is missing."),
-        VisitFault::TooLong => tells(Status::TooLong, "The form is too long."),
-        VisitFault::Cut => tells(Status::Bad, "The form broke off."),
-        VisitFault::Fields => tells(
-            Status::Bad,
-            "The fields name no page, no loan or no action.",
-        ),
-        VisitFault::OutOfMemory => tells(Status::Failed, "Memory ran out."),
+        VisitFault::NoPage => tells(Status::NoPage, NO_PAGE),
+        VisitFault::Method => tells(Status::Method, METHOD),
+        VisitFault::Foreign => tells(Status::Foreign, FOREIGN),
+        VisitFault::NoUser => tells(Status::Foreign, NO_USER),
+        VisitFault::NoForm => tells(Status::NoForm, NO_FORM),
+        VisitFault::NoLength => tells(Status::NoLength, NO_LENGTH),
+        VisitFault::TooLong => tells(Status::TooLong, TOO_LONG),
+        VisitFault::Cut => tells(Status::Bad, CUT),
+        VisitFault::Fields => tells(Status::Bad, FIELDS),
+        VisitFault::OutOfMemory => tells(Status::Failed, OUT_OF_MEMORY),
     }
 }
 
@@ -116,17 +105,9 @@ fn failed(fault: ToolFault) -> Told<'static>
     ensures { telling result ≡ failed fault }
 {
     match fault {
-        ToolFault::Desk(DeskFault::NoSuchTransaction) => {
-            tells(Status::NoPage, "This desk has no such loan.")
-        }
-        ToolFault::Desk(DeskFault::Store(_)) => tells(
-            Status::Busy,
-            "The file of the desk is busy, or could not be read or written. Look again before you act.",
-        ),
-        ToolFault::OutOfMemory => tells(Status::Failed, "Memory ran out."),
-        _ => tells(
-            Status::Failed,
-            "The file of the desk is no desk: see ill verify.",
-        ),
+        ToolFault::Desk(DeskFault::NoSuchTransaction) => tells(Status::NoPage, NO_LOAN),
+        ToolFault::Desk(DeskFault::Store(_)) => tells(Status::Busy, BUSY),
+        ToolFault::OutOfMemory => tells(Status::Failed, OUT_OF_MEMORY),
+        _ => tells(Status::Failed, NO_DESK_FILE),
     }
 }

@@ -1,7 +1,8 @@
 -- Answers the contract of `push_begin` (`src/desks.rt`).
 use Rattle.std.proofs.Common.{◌++◌, ap, ◌∙◌}
 use Rattle.ill_text.specs.Html.{html_text}
-use Rattle.ill_page.specs.declared.parts.TheConstants.{BEGIN, BEGUN}
+use Rattle.ill_page.specs.declared.parts.TheConstants.{BEGUN}
+use Rattle.ill_page.specs.declared.words.TheConstants.{BEGIN}
 use Rattle.ill_page.specs.Desks.{begin_form, begin_text}
 use Rattle.ill_page.proofs.TextLemmas.{four_added}
 use Rattle.ill_page.proofs.desks.push_begin.Goals as goal

@@ -2,7 +2,7 @@
 use Rattle.std.proofs.Common.{◌++◌, ap, ◌∙◌}
 use Rattle.ill_text.specs.Html.{html_escaped}
 use Rattle.ill_report.proofs.ReportLemmas.{three_added}
-use Rattle.ill_page.specs.declared.parts.TheConstants.{SEARCH, SEARCH_END}
+use Rattle.ill_page.specs.declared.words.TheConstants.{SEARCH, SEARCH_END}
 use Rattle.ill_page.specs.Desks.{search_text}
 use Rattle.ill_page.proofs.desks.push_search.Goals as goal
 

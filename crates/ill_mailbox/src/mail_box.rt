@@ -170,7 +170,10 @@ impl MailBox {
             reason: reason.as_bytes(),
         };
         match mail.spot(alloc, &mut disk, aside)? {
-            Some(spot) => done(put_mail_aside(&mut disk, &spot, why)),
+            Some(spot) => {
+                done(put_mail_aside(&mut disk, &spot, why))?;
+                end_if_aside(&mut disk, &spot)
+            }
             None => Ok(()),
         }
     }
@@ -270,6 +273,16 @@ const NOT_ASIDE: AsidePaths<'static> = AsidePaths {
 /// a system does not lose the second name alone.
 pub fn give_back<T: Files>(rt: &T, alloc: Global, mail: ClaimedMail<'_>) -> io::Result<()> {
     give_back_on(&mut HostMails::unflushed(rt, alloc), alloc, mail)
+}
+
+/// Removes the claimed name of a mail whose file stands aside. A crash may have left both names, and a rename from one to
+/// the other does nothing.
+fn end_if_aside<T: Files>(disk: &mut HostMails<'_, T>, spot: &Spot) -> io::Result<()> {
+    match disk.find(spot.aside()) {
+        Ok(Some(found)) if found.file == spot.file() => done(clear(disk, spot.claimed())),
+        Ok(_) => Ok(()),
+        Err(fault) => Err(error_of(fault)),
+    }
 }
 
 /// Gives a mail back on this disk.

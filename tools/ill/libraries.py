@@ -16,7 +16,7 @@ from ill.morning import Loan, Morning
 from ill.records import desk_record
 from ill.screen import shown
 from ill.serving import USERS, Servers
-from ill.tidings import iso, words_of
+from ill.tidings import is_open, iso, words_of
 
 # What the page of the desks shows: of each desk its counts, and its tables with their rows.
 DESKS = """
@@ -79,6 +79,11 @@ class Books:
             what = apdu["apdu"], apdu["number"]
             self.news[side.txn] += [words_of(side, apdu)] * ((side.txn, *what) not in self.days)
             self.enter(side.txn, *what, day)
+
+    def told(self, side):
+        """Returns the words of what is told of a loan: an open answer of an earlier day, and what came on this day."""
+        left = [words_of(side, apdu) for apdu in side.came if is_open(apdu, self.notes.get(side.txn, ""))]
+        return [words for words in left if words not in self.news[side.txn]] + self.news[side.txn]
 
     def keep_dates(self, day):
         """Issues what a date makes due."""
@@ -225,7 +230,7 @@ class Library:
 
     def row(self, txn, side, morning):
         """Returns the row of a loan that the model wants on the page of the desks."""
-        notes, news = [self.books.notes[txn]] if txn in self.books.notes else [], self.books.news[txn]
+        notes, news = [self.books.notes[txn]] if txn in self.books.notes else [], self.books.told(side)
         date = f"due {iso(side.due)}" if side.due else f"expires {iso(side.expiry())}" if side.expiry() else ""
         return {"title": shown(side.asked()["item"]), "loan": list(txn), "state": morning.state(Loan.of(side)), "date": date,
                 "small": [*notes, f"since {iso(self.books.last[txn])}", *(f"news: {it}" for it in news)],

@@ -12,6 +12,8 @@ from ill.texts import news
 
 # What dates make due at a responder, with the verbs by which a diary names it.
 DUE = {"Overdue": "overdue", "Expired": "expire"}
+# What an answer says that ends a loan and asks staff for something, until its note begins with this word.
+ASKING, DONE = ("retry", "estimate", "locations-provided"), re.compile("(?i:done)(?![A-Za-z0-9])")
 # What the help says after a type whose date may be missing.
 DATED = {"ILL-Request": " with an expiry day", "Renew": " with a wished day"}
 
@@ -50,6 +52,11 @@ def is_own(side, apdu):
     return side.role == RESPONDER and apdu["apdu"] in DUE
 
 
+def is_open(apdu, note):
+    """Returns True if a message ended a loan and asks staff for something, and the note does not say `done`."""
+    return apdu.get("result") in ASKING and not DONE.match(note)
+
+
 def came_bytes(sides):
     """Returns the bytes of all that came to these sides."""
     return b"".join(encoded(side.txn, apdu) for side in sides for apdu in side.came)
@@ -57,10 +64,10 @@ def came_bytes(sides):
 
 class Since:
     """A day since which news are told. `days` has the days of the lines that name a message, by its transaction, the word for it
-    and its number. `again` has what came once more after all else."""
+    and its number. `again` has what came once more after all else, and `notes` the notes of loans."""
 
-    def __init__(self, day, days, again=()):
-        self.day, self.days, self.again = day, days, list(again)
+    def __init__(self, day, days, again=(), notes=None):
+        self.day, self.days, self.again, self.notes = day, days, list(again), notes or {}
 
     def days_of(self, side, apdu):
         """Returns the days of the lines that name a message."""
@@ -76,13 +83,20 @@ class Since:
         return min(self.days_of(*message), default=self.day) >= self.day
 
     def of(self, sides, messages):
-        """Returns what is new after the last message that is older, each once, and then what dates have made due."""
+        """Returns open answers, what is new after the last message that is older, and then what dates have made due. Each message is
+        there once."""
         came = messages + self.again
         older = [place for place, message in enumerate(came) if self.is_older(message)]
-        news = filter(self.is_new, came[older[-1] + 1:] if older else came)
+        news = by_name(filter(self.is_new, came[older[-1] + 1:] if older else came))
+        left = by_name((side, apdu) for side, apdu in came if is_open(apdu, self.notes.get(tuple(side.txn), "")))
         own = [(side, apdu) for side in sides for apdu in side.issued if is_own(side, apdu)]
-        return [*{(tuple(side.txn), apdu["number"]): (side, apdu) for side, apdu in news}.values(),
+        return [*(message for name, message in left.items() if name not in news), *news.values(),
                 *(message for message in own if self.days_of(*message) and self.is_new(message))]
+
+
+def by_name(messages):
+    """Returns each of these messages once, by its transaction and its number."""
+    return {(tuple(side.txn), apdu["number"]): (side, apdu) for side, apdu in messages}
 
 
 def told(sides, last=None, since=None):

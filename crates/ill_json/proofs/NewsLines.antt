@@ -20,7 +20,8 @@ use Rattle.ill_news.specs.News.{heard_at, is_told, last_of, news_desk, news_fiel
 use Rattle.ill_news.specs.News.{words_at}
 use Rattle.ill_news.specs.CameSince.{came_since, is_new}
 use Rattle.ill_news.specs.Deeds.{deeds_at, deeds_since, is_deed_since}
-use Rattle.ill_news.specs.Told.{told_since}
+use Rattle.ill_news.specs.OpenAnswers.{is_left, left_open}
+use Rattle.ill_news.specs.Told.{recent_of, told_since, with_open}
 use Rattle.ill_rows.specs.Heading.{file_fields}
 use Rattle.ill_json.specs.Lines.{fields_of_news}
 use Rattle.ill_json.specs.Objects.{AreObjectLines, IsObjectLine}
@@ -123,10 +124,14 @@ deeds_each (Some day) lines (side ∷ sides) each =
     (deeds_at_each day lines side each.0) (deeds_each (Some day) lines sides each.1)
 
 -- What is told of a desk are messages.
-pub told_each : (since : Option Date) (lines : List (List ℕ)) (held : SidesOf) (came : List Apdu) → AreSides held
-    → Each IsApdu came → Each IsApdu (told_since since lines held.sides came)
+pub told_each : (since : Option Date) (notes lines : List (List ℕ)) (held : SidesOf) (came : List Apdu) → AreSides held
+    → Each IsApdu came → Each IsApdu (told_since since notes lines held.sides came)
 unfolding Each
-told_each since lines held came are each =
-    each_append IsApdu (news_of held.sides (came_since since lines came)) (deeds_since since lines held.sides)
-    (news_each IsApdu held.sides [] (came_since since lines came) tt (since_each since lines came each))
+told_each since notes lines held came are each =
+    let recent = recent_of since lines held.sides came in
+    let left = left_open notes recent came in
+    each_append IsApdu (with_open notes held.sides recent came) (deeds_since since lines held.sides)
+    (each_append IsApdu (news_of held.sides left) recent
+    (news_each IsApdu held.sides [] left tt (filter_each IsApdu (is_left notes recent) came each))
+    (news_each IsApdu held.sides [] (came_since since lines came) tt (since_each since lines came each)))
     (deeds_each since lines held.sides are.each)

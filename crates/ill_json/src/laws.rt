@@ -64,8 +64,8 @@ pub fn news_is_json()
 
 /// What is told of a desk are messages, if what came to it are messages. So it has lines of JSON.
 pub fn news_are_messages()
-    ensures { (since : Option Date) (lines : List (List ℕ)) (held : SidesOf) (came : List Apdu) →
-        AreSides held → Each IsApdu came → Each IsApdu (told_since since lines held.sides came) }
+    ensures { (since : Option Date) (notes lines : List (List ℕ)) (held : SidesOf) (came : List Apdu) →
+        AreSides held → Each IsApdu came → Each IsApdu (told_since since notes lines held.sides came) }
 {}
 
 /// Each line of `status` is an object of JSON with the fields of a side.

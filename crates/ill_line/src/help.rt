@@ -679,6 +679,12 @@ told with those around it. A message that came on an earlier day, too, is not
 told again. Last come an Overdue and an Expired that the desk itself has sent.
 Such a message is told if FILE.diary has it on DAY or later, and not before.
 
+First of all come open answers of earlier days, whatever DAY is. They have ended
+a loan and ask staff for something: to try again later, or to read a letter that
+tells a price or other libraries. An answer is open until the note of its loan
+begins with the word `done`: `ill note DESK GROUP TRANSACTION done: too dear`.
+From then on it is told as any other message.
+
 With --last only the last N messages are told, 1 to 255. The last line counts
 the messages, and those of them that are shown.
 
@@ -894,6 +900,9 @@ that was sent. It never leaves the library: no message, no date and no slip
 depends on it. A loan has one note, and a new one replaces it. `ill list
 --notes`, `ill loan` and `ill report` show it, and `ill list --find` looks for
 words in it.
+
+An answer that asks staff for something stays news until the note begins with
+the word `done`, in capitals or not: `ill news --help` tells which answers.
 
 The note is all WORDS, the words that remain, of 200 bytes at most, without a
 control character. An empty one, '', removes the note of the loan. Among WORDS

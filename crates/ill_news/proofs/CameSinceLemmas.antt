@@ -168,7 +168,7 @@ named_told day lines a named = go (is_named (came_key a) lines)
 -- ---- repeats
 
 -- If the second of two fails, not both hold.
-second_off : (one other : Bool) → other ≡ false → (one && other) ≡ false
+pub second_off : (one other : Bool) → other ≡ false → (one && other) ≡ false
 second_off true other off = off
 second_off false other off = refl
 
@@ -186,7 +186,7 @@ unnamed_before day key (line ∷ lines) none =
     rw (not_before day key (said_by line) both.0, unnamed_before day key lines both.1) refl
 
 -- No item that passes one test is among those that pass another, if none passes both.
-none_kept : {X : Type 0} (f p : X → Bool) (xs : List X) → ((x : X) → f x ≡ true → p x ≡ false)
+pub none_kept : {X : Type 0} (f p : X → Bool) (xs : List X) → ((x : X) → f x ≡ true → p x ≡ false)
     → list_any f (filter p xs) ≡ false
 none_kept f p [] apart = refl
 none_kept f p (x ∷ xs) apart = go (p x) (f x) refl refl (none_kept f p xs apart)

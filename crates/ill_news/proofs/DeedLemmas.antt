@@ -18,7 +18,7 @@ use Rattle.ill_beside.specs.Heard.{is_heard, responder_heard}
 use Rattle.ill_news.specs.Deeds.{deeds_at, deeds_since, is_by_date, is_deed_since}
 
 -- An item that passes a test stands among those that do.
-kept_within : {X : Type 0} (keeps : X → Bool) (first last : List X) (x : X) → keeps x ≡ true
+pub kept_within : {X : Type 0} (keeps : X → Bool) (first last : List X) (x : X) → keeps x ≡ true
     → filter keeps (first ++ x ∷ last) ≡ filter keeps first ++ x ∷ filter keeps last
 kept_within keeps first last x is =
     filter-append keeps first (x ∷ last) ∙ ap (λ rest. filter keeps first ++ rest) (rw is refl)

@@ -1,3 +1,4 @@
 pub mod CameSinceLemmas
 pub mod DeedLemmas
 pub mod NewsLemmas
+pub mod OpenLemmas

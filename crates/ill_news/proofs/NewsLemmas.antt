@@ -5,9 +5,6 @@ use Rattle.std.specs.List.{list_any}
 use Rattle.std.proofs.lemmas.List.Folds.{list_any-append}
 use Rattle.std.proofs.lemmas.Grind.{fold-append}
 use Rattle.ill_values.specs.declared.apdu.Apdu.{Apdu}
-use Rattle.ill_values.specs.declared.apdu.BodyWith.TheVariants as types
-use Rattle.ill_values.specs.declared.apdu.AnswerResult.TheVariants as results
-use Rattle.ill_core.specs.declared.state.State.TheVariants as states
 use Rattle.ill_core.proofs.IssuedLemmas.{same_txn}
 use Rattle.ill_record.specs.declared.side.Side.{Side}
 use Rattle.ill_news.specs.News.{heard_at, is_same, is_told, news_of, with_news}

@@ -1,4 +1,5 @@
 pub mod CameSince
 pub mod Deeds
 pub mod News
+pub mod OpenAnswers
 pub mod Told

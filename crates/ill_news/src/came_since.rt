@@ -8,6 +8,7 @@ ghost use Rattle.ill_news.specs.CameSince.{came_before, came_key, is_named_befor
 
 use ill_beside::diary::{is_named, said_by};
 use ill_beside::file_lines::FileLines;
+use ill_beside::notes::Notes;
 use ill_text::diary::message_key;
 use ill_values::{Apdu, Day, Number, OutOfMemory};
 use std::alloc::Global;
@@ -17,6 +18,8 @@ use std::alloc::Global;
 pub struct Came<'a> {
     /// The bytes of the messages, one after another.
     pub bytes: &'a [u8],
+    /// The notes of staff.
+    pub notes: &'a Notes,
     /// The lines of the diary.
     pub diary: &'a FileLines,
     /// The day from which on they are told. Without one all messages are told.

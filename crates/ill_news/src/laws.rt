@@ -1,6 +1,6 @@
 //! States the laws of the news of a desk, as contracts of functions that do nothing.
 
-ghost use Rattle.std.specs.Prelude.{◌≡◌, ◌++◌, ◌∷◌, ◌&&◌, ℕ, true, false, bytes_eq, filter, List, Some};
+ghost use Rattle.std.specs.Prelude.{◌≡◌, ◌++◌, ◌∷◌, ◌&&◌, ℕ, true, false, bytes_eq, filter, List, Option, Some};
 ghost use Rattle.std.specs.List.{list_any};
 ghost use Rattle.ill_values.specs.Day.{Date};
 ghost use Rattle.ill_values.specs.declared.apdu.Apdu.{Apdu};
@@ -13,6 +13,9 @@ ghost use Rattle.ill_news.specs.Deeds.{deeds_since, is_by_date, is_deed_since};
 ghost use Rattle.ill_record.specs.declared.side.Side.TheVariants.{Responder};
 ghost use Rattle.ill_beside.specs.Heard.{is_heard};
 ghost use Rattle.ill_news.specs.News.{heard_at, is_same, is_told, news_of};
+ghost use Rattle.ill_beside.specs.Notes.{note_of};
+ghost use Rattle.ill_news.specs.OpenAnswers.{is_open, says_done};
+ghost use Rattle.ill_news.specs.Told.{recent_of, told_since};
 
 /// A message that came is told if the record of its loan shows that it was taken.
 #[tactic(auto, using(crate::proofs::NewsLemmas::taken_is_told))]
@@ -58,6 +61,27 @@ pub fn no_repeat_hides_news()
     ensures { (day : Date) (lines : List (List ℕ)) (came repeats : List Apdu) (a : Apdu) →
         is_named (came_key a) lines ≡ false → Each (λ b. is_named_since day (came_key b) lines ≡ true) repeats →
         (before after : List Apdu) × (came_since (Some day) lines (came ++ a ∷ repeats) ≡ before ++ a ∷ after) }
+{}
+
+/// An open answer is told on each day, if the record of its loan shows that it was taken. It asks staff for something, and
+/// the note of the loan does not begin with `done`.
+#[tactic(auto, using(crate::proofs::OpenLemmas::open_told))]
+pub fn an_open_answer_stays_news()
+    ensures { (since : Option Date) (notes lines : List (List ℕ)) (sides : List Side) (before after : List Apdu) (a : Apdu) →
+        heard_at sides a ≡ true → is_open notes a ≡ true →
+        is_told (told_since since notes lines sides (before ++ a ∷ after)) a ≡ true }
+{}
+
+/// No other message stays news. If the note of a loan begins with `done`, its messages are told on their day alone. If no
+/// message is open, what is told came on the day or later, or a date has made it due.
+#[tactic(auto, using(crate::proofs::OpenLemmas::done_told, crate::proofs::OpenLemmas::none_told))]
+pub fn nothing_else_stays_news()
+    ensures done { (since : Option Date) (notes lines : List (List ℕ)) (sides : List Side) (came : List Apdu) (a : Apdu) →
+        says_done (note_of notes a.txn) ≡ true → is_told (told_since since notes lines sides came) a
+        ≡ is_told (recent_of since lines sides came ++ deeds_since since lines sides) a }
+    ensures none { (since : Option Date) (notes lines : List (List ℕ)) (sides : List Side) (came : List Apdu) →
+        list_any (is_open notes) came ≡ false →
+        told_since since notes lines sides came ≡ recent_of since lines sides came ++ deeds_since since lines sides }
 {}
 
 /// What a date made due is told: a message of a responder that the diary names on the day or later, and not before.

@@ -5,3 +5,4 @@ pub mod came_since;
 mod deeds;
 pub mod laws;
 pub mod news;
+mod open_answers;

@@ -8,7 +8,7 @@ ghost use Rattle.ill_rows.specs.Cells.{title_text};
 ghost use Rattle.ill_rows.specs.Heading.{between, file_told, gap, heading};
 ghost use Rattle.ill_rows.specs.Heading.{file_fields};
 ghost use Rattle.ill_beside.specs.FileLines.{lines_of};
-ghost use Rattle.ill_news.specs.Told.{news_since, told_since};
+ghost use Rattle.ill_news.specs.Told.{news_since, recent_of, told_since, with_open};
 ghost use Rattle.ill_beside.specs.Since.{annex_of};
 ghost use Rattle.ill_rows.specs.Messages.{IsTextOf, WritesNews};
 ghost use Rattle.ill_news.specs.News.{columns_of, heard_at, heard_by, is_same, is_told, last_of, named, news_counts, news_desk, news_fields, news_lines, news_object, news_objects, news_of, news_row, told_fields, widened, with_news, words_at, words_by};
@@ -16,9 +16,11 @@ ghost use Rattle.ill_show.specs.ItemLine.{item_of};
 
 use crate::came_since::Came;
 use crate::deeds::push_deeds;
+use crate::open_answers::left_open;
 use ill_beside::annex::Annex;
 use ill_beside::heard::is_heard;
 use ill_beside::news_words::{news_words, told_words};
+use ill_beside::notes::Notes;
 use ill_rows::cells::{column, push_cell, push_title};
 use ill_rows::listed::{Listed, heading, push_file};
 use ill_saved::{Desk, Side, Sides, Store};
@@ -52,8 +54,8 @@ pub(crate) struct NewsColumns {
 /// that counts the messages.
 ///
 /// `came` has the bytes that `take --keep`, `inbox` and `exchange` have kept. A part that is no message, and all bytes
-/// after it, are ignored. With a day, only what came since is written. After it stand the messages of the desk itself that
-/// dates have made due since that day.
+/// after it, are ignored. With a day, only what came since is written. Before it stand open answers of earlier days, and
+/// after it the messages of the desk itself that dates have made due since that day.
 pub fn run_desk_news<S: Store, W: Write>(
     alloc: Global,
     desk: &Desk<S>,
@@ -63,7 +65,7 @@ pub fn run_desk_news<S: Store, W: Write>(
 ) -> Result<(), ToolFault>
     ensures { WritesNews (λ apdus. between listed.now.form listed.now.is_first
         ++ news_desk listed.now.form listed.now.is_headed came.now.last listed.now.path.now (sides_held desk.now.live).sides
-        (told_since came.now.since (lines_of came.now.diary.now) (sides_held desk.now.live).sides apdus))
+        (told_since came.now.since (lines_of came.now.notes.now) (lines_of came.now.diary.now) (sides_held desk.now.live).sides apdus))
         came.now.bytes.now (W.contents writer.old) (W.contents writer.new) result }
 {
     match text_of_news(alloc, desk.sides(), listed, came) {
@@ -81,7 +83,7 @@ fn text_of_news(
 ) -> Result<Vec<u8>, OutOfMemory>
     ensures { IfOk result (λ text. IsTextOf (λ apdus. between listed.now.form listed.now.is_first
         ++ news_desk listed.now.form listed.now.is_headed came.now.last listed.now.path.now sides.now.sides
-        (told_since came.now.since (lines_of came.now.diary.now) sides.now.sides apdus))
+        (told_since came.now.since (lines_of came.now.notes.now) (lines_of came.now.diary.now) sides.now.sides apdus))
         came.now.bytes.now text.items) }
 {
     let apdus = apdus_in(alloc, came.bytes)?;
@@ -89,7 +91,8 @@ fn text_of_news(
     desk_text(alloc, sides, listed, came.last, &news)
 }
 
-/// Returns the news of a desk with these sides, to which `apdus` came: what they have taken, and what dates have made due.
+/// Returns the news of a desk with these sides, to which `apdus` came: open answers, what they have taken, and what dates have
+/// made due.
 fn told_since(
     alloc: Global,
     sides: &Sides,
@@ -97,16 +100,46 @@ fn told_since(
     apdus: &[Apdu],
 ) -> Result<Vec<Apdu>, OutOfMemory>
     ensures { IfOk result (λ news. news.items
-        ≡ told_since came.now.since (lines_of came.now.diary.now) sides.now.sides apdus.now) }
+        ≡ told_since came.now.since (lines_of came.now.notes.now) (lines_of came.now.diary.now) sides.now.sides apdus.now) }
 {
-    let told = came.told(alloc, apdus)?;
-    let mut news = news_of(alloc, sides, &told)?;
+    let recent = recent_of(alloc, sides, came, apdus)?;
+    let mut news = with_open(alloc, sides, came.notes, recent, apdus)?;
     push_deeds(&mut news, came.since, came.diary.lines(), sides)?;
     Ok(news)
 }
 
-/// Returns the news of a desk with these sides since a day: the messages that they have taken since, by `annex`, each once, and
-/// then what dates have made due. Without a day no news are told.
+/// Returns those of the messages `apdus` that came to a desk with these sides since the day, and that they have taken.
+fn recent_of(
+    alloc: Global,
+    sides: &Sides,
+    came: &Came<'_>,
+    apdus: &[Apdu],
+) -> Result<Vec<Apdu>, OutOfMemory>
+    ensures { IfOk result (λ recent. recent.items
+        ≡ recent_of came.now.since (lines_of came.now.diary.now) sides.now.sides apdus.now) }
+{
+    let told = came.told(alloc, apdus)?;
+    news_of(alloc, sides, &told)
+}
+
+/// Returns the open answers in `came` that `sides` have taken, and then `recent`, which they lack.
+fn with_open(
+    alloc: Global,
+    sides: &Sides,
+    notes: &Notes,
+    mut recent: Vec<Apdu>,
+    came: &[Apdu],
+) -> Result<Vec<Apdu>, OutOfMemory>
+    ensures { IfOk result (λ news. news.items ≡ with_open (lines_of notes.now) sides.now.sides recent.items came.now) }
+{
+    let left = left_open(alloc, notes, &recent, came)?;
+    let mut news = news_of(alloc, sides, &left)?;
+    news.append(&mut recent)?;
+    Ok(news)
+}
+
+/// Returns the news of a desk with these sides since a day, by `annex`: open answers, the messages that they have taken since,
+/// and then what dates have made due. Each is told once. Without a day no news are told.
 pub fn news_since(
     alloc: Global,
     sides: &Sides,
@@ -121,6 +154,7 @@ pub fn news_since(
         Some(_) => {
             let came = Came {
                 bytes: b"",
+                notes: &annex.notes,
                 diary: annex.diary.as_lines(),
                 since,
                 last: None,
@@ -170,7 +204,7 @@ fn heard_by(side: Option<&Side>, apdu: &Apdu) -> bool
 }
 
 /// Returns true if `apdu` is among `news`.
-fn is_told(news: &[Apdu], apdu: &Apdu) -> bool
+pub(crate) fn is_told(news: &[Apdu], apdu: &Apdu) -> bool
     ensures { result ≡ is_told news.now apdu.now }
 {
     news.iter().any(|other| is_same(other, apdu))

@@ -3,8 +3,7 @@ use Rattle.std.proofs.Common.{◌≡◌, ℕ, Bool, List, [], Option, Some, opti
 use Rattle.std.proofs.KnownBytes.{Appends-nil}
 use Rattle.ill_der.specs.ShortForm.{header_at, outer_at, apdu_at}
 use Rattle.ill_text.specs.Input.{AreIn}
-use Rattle.ill_news.specs.CameSince.{came_since}
-use Rattle.ill_news.specs.News.{news_of}
+use Rattle.ill_news.specs.Told.{told_since}
 use Rattle.ill_beside.specs.Since.{AnnexRead}
 use Rattle.ill_text.specs.declared.fault.ToolFault.{ToolFault}
 use Rattle.ill_text.specs.declared.fault.ToolFault.TheVariants.{Write}
@@ -24,10 +23,10 @@ pub nothing_written : (visit : Visit) (form : Form) (is_headed is_first : Bool) 
     → RunsVisit visit form is_headed is_first
     (record { path = path; before = written; after = written; answer = answer })
 nothing_written (visits.List wanted find) form is_headed is_first path written answer failed =
-    let news = option_map (λ day. news_of [] (came_since (Some day) [] [])) wanted.now.since in
+    let news = option_map (λ day. told_since (Some day) [] [] [] []) wanted.now.since in
     let annex : AnnexRead = record { notes = []; diary = []; came = []; news = news } in
     inr ([], annex, refl, (Err Write, (0, Appends-nil written), failed))
 nothing_written (visits.News last since) form is_headed is_first path written answer failed =
-    inr ([], [], [], (Err Write, ([], nothing_in, (0, Appends-nil written)), failed))
+    inr ([], [], [], [], (Err Write, ([], nothing_in, (0, Appends-nil written)), failed))
 nothing_written (visits.Figures view) form is_headed is_first path written answer failed =
     inr ([], [], [], (Err Write, ([], nothing_in, (0, Appends-nil written)), failed))

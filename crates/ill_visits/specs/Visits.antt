@@ -35,14 +35,14 @@ ListsDesk form wanted find is_headed is_first stop =
     (between form is_first ++ listed_desk form is_headed wanted (record { find = find; annex = annex }) stop.path sides))
     stop.answer)
 
--- What came to a desk since the day, if one is given, was told in a visit, as `news_desk` does. If `is_first`, no desk is
--- before it. Or a file could not be opened, and nothing was written.
+-- What came to a desk since the day, if one is given, was told in a visit after its open answers, as `news_desk` does. If
+-- `is_first`, no desk is before it. Or a file could not be opened, and nothing was written.
 abbrev pub TellsDesk : Form → Option ℕ → (since : Option Date) → (is_headed is_first : Bool) → Stop → Type 0
 TellsDesk form last since is_headed is_first stop =
     FailsToOpen stop.before stop.after stop.answer
-    ⊎ ((sides : List Side) × (came : List ℕ) × (lines : List (List ℕ))
+    ⊎ ((sides : List Side) × (came : List ℕ) × (notes lines : List (List ℕ))
     × GoesWell (WritesNews (λ apdus. between form is_first
-    ++ news_desk form is_headed last stop.path sides (told_since since lines sides apdus)) came stop.before stop.after)
+    ++ news_desk form is_headed last stop.path sides (told_since since notes lines sides apdus)) came stop.before stop.after)
     stop.answer)
 
 -- The figures of a desk were written in a visit, by its diary and by what came. Or a file could not be opened, and nothing was

@@ -4,8 +4,9 @@ ghost use Rattle.std.specs.Prelude.{IfErr};
 ghost use Rattle.ill_text.specs.Fault.{IsOpenFault};
 ghost use Rattle.ill_visits.specs.Visits.{TellsDesk};
 
-use ill_annex::read_diary;
+use ill_annex::{read_diary, read_notes};
 use ill_beside::file_lines::FileLines;
+use ill_beside::notes::Notes;
 use ill_files::came::came_bytes;
 use ill_files::machine::Machine;
 use ill_files::open::{all_well, open};
@@ -39,10 +40,12 @@ pub(crate) fn tell_file<T: Files, W: Write, E: Write>(
         since.is_some(),
         &mut machine.errors,
     )?;
+    let notes = notes_if(machine.rt, machine.alloc, listed.path, since.is_some())?;
     let desk = open(machine.rt, machine.alloc, listed.path)?;
     let bytes = came_bytes(machine.rt, machine.alloc, listed.path)?;
     let came = Came {
         bytes: &bytes,
+        notes: &notes,
         diary: &diary,
         since,
         last,
@@ -66,5 +69,16 @@ fn diary_if<T: Files, E: Write>(
         read_diary(rt, alloc, file, errors)
     } else {
         Ok(FileLines::none(alloc))
+    }
+}
+
+/// Reads the notes beside the desk in `file` if they are `wanted`. Else no line is read.
+fn notes_if<T: Files>(rt: &T, alloc: Global, file: &str, wanted: bool) -> Result<Notes, ToolFault>
+    ensures { IfErr result IsOpenFault }
+{
+    if wanted {
+        read_notes(rt, alloc, file)
+    } else {
+        Ok(Notes::none(alloc))
     }
 }

@@ -11,7 +11,7 @@ same courses must have the same bytes. Of each desk the program writes
 - `figures` and its records of CSV, by a diary with lines that count and lines that do not;
 - `news` and its objects of what came, which is written beside the desk once, twice and torn, with `--last` too;
 - `news`, `list` and `report` since a day, by a diary that lacks some messages and has older lines of others. Some
-  messages came again, and dates have made some due;
+  messages came again, dates have made some due, and some answers stay news until a note says `done`;
 - `status`, its objects, `report` and `verify`;
 
 and all but the slowest once more to a full device, to a closed output and to a pipe that is read byte by byte.
@@ -43,7 +43,7 @@ from ill.notes import is_found, kept, key, note_line, notes_of
 from ill.records import desk_record
 from ill.screen import ACTING, shown
 from ill.slips import Slip
-from ill.tidings import DUE, Since, came_bytes, column, heard, is_own, iso, news_lines, news_objects
+from ill.tidings import ASKING, DUE, Since, came_bytes, column, heard, is_own, iso, news_lines, news_objects
 
 REPORT = harness.Report()
 
@@ -297,6 +297,7 @@ RENEW = LONG + " r renew 20250501>"
 COURSES = [
     "r request {expiry} {item}", ASK, ASK + " s answer conditional>", ASK + " s answer conditional> r reply yes>",
     ASK + " s answer conditional> r reply no", ASK + " s answer conditional> r reply no>", ASK + " s answer unfilled>",
+    ASK + " s answer retry>", ASK + " s answer estimate>", ASK + " s answer locations-provided>",
     ASK + " s answer conditional> r reply no> s2>", ASK + " s answer will-supply>", ASK + " s answer hold-placed>",
     ASK + " r cancel>", ASK + " r cancel> s cancel-reply yes>", ASK + " r cancel> s cancel-reply no>",
     SHIP, COME, SHIP + " s recall>", SHIP + " s recall> r receive>", LONG, RENEW,
@@ -549,15 +550,23 @@ def days_of(sides):
     return days, again
 
 
+# Words of notes on loans that an open answer has ended. Some begin with the word `done`.
+DEALT = ["done: asked again as 20", "for Prof. Noether", "Done", "donee asks again", "DONE, too dear", "not done", "done", "undone"]
+
+
 def check_since(judge, path, sides):
-    """Compares `news` and `list` since a day. The diary has the days of most messages, and some came once more."""
+    """Compares `news` and `list` since a day. The diary has the days of most messages, and some came once more. Loans that an open
+    answer has ended have notes, but for some."""
     days, again = days_of(sides)
+    asking = [tuple(side.txn) for side in sides if any(apdu.get("result") in ASKING for apdu in side.came)]
+    notes = {txn: DEALT[place % len(DEALT)] for place, txn in enumerate(asking) if place % 9 != 8}
+    write(f"{path}.notes", notes_of(notes.items()))
     lines = [(day, txn, what, number) for (txn, what, number), of in days.items() for day in of]
     last_days = {txn: day for day, txn, _, _ in lines}
     write(f"{path}.came", came_bytes(sides) + b"".join(encoded(side.txn, apdu) for side, apdu in again))
     write(f"{path}.diary", b"".join(diary_line(day, "-", txn, what, number) for day, txn, what, number in lines))
     for day in ("20250228", "20250304", "20250309", "20250401"):
-        since = Since(day, days, again)
+        since = Since(day, days, again, notes)
         for last in (None, 3):
             words = ["news", path, "--since", day, *(["--last", str(last)] if last else [])]
             judge.lines(words, news_lines(sides, last, since))
@@ -565,14 +574,14 @@ def check_since(judge, path, sides):
         news = heard(sides, since)
         judge.lines(["list", path, "--since", day], list_lines(sides, "", news=news))
         judge.lines(["list", path, "--since", day, "--since-when"], list_lines(sides, "", news=news, days=last_days))
-        judge.objects(["list", path, "--json", "--since", day], list_objects(sides, "", news=news, days=last_days))
+        judge.objects(["list", path, "--json", "--since", day], list_objects(sides, "", notes=notes, news=news, days=last_days))
         morning = ["list", path, "--mine", "--since", day, "--today", TODAY]
         judge.lines(morning, morning_lines(sides, TODAY, news))
         judge.lines([*morning, "--since-when"], morning_lines(sides, TODAY, news, days=last_days))
-        judge.objects([*morning, "--json"], list_objects(sides, "--mine", TODAY, news=news, days=last_days))
+        judge.objects([*morning, "--json"], list_objects(sides, "--mine", TODAY, notes=notes, news=news, days=last_days))
         check_page_news(judge, path, sides, day, news)
-    os.remove(f"{path}.came")
-    os.remove(f"{path}.diary")
+    for end in ("came", "diary", "notes"):
+        os.remove(f"{path}.{end}")
 
 
 def check_page_news(judge, path, sides, day, news):

@@ -17,10 +17,11 @@ returns-in-Ok g c =
     let before = g.W.Write.contents c.args.writer.now in
     let after = g.W.Write.contents c.write_whole.new.writer in
     let text = c.in-Ok.text.items in
-    let told = told_since c.args.came.now.since (lines_of c.args.came.now.diary.now) in
+    let came = c.args.came.now in
+    let told = told_since came.since (lines_of came.notes.now) (lines_of came.diary.now) in
     let is = subst (λ (sides : SidesOf). IsTextOf (λ apdus. between listed.form listed.is_first
-    ++ news_desk listed.form listed.is_headed c.args.came.now.last listed.path.now sides.sides (told sides.sides apdus))
-    c.args.came.now.bytes.now text) c.sides.ensures.value c.in-Ok.ensures in
+    ++ news_desk listed.form listed.is_headed came.last listed.path.now sides.sides (told sides.sides apdus))
+    came.bytes.now text) c.sides.ensures.value c.in-Ok.ensures in
     let writes = subst (λ (t : List ℕ). WritesPrefix before after t c.write_whole.result) c.deref.ensures.value
     c.write_whole.ensures in
-    writes_news _ c.args.came.now.bytes.now text before after c.write_whole.result is writes
+    writes_news _ came.bytes.now text before after c.write_whole.result is writes

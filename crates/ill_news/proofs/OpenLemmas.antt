@@ -1,0 +1,134 @@
+-- Proves that an open answer stays news, and that one which is done does not (`src/laws.rt`).
+use Rattle.std.proofs.Common.{◌≡◌, ℕ, Bool, true, false, not, ◌&&◌, ◌||◌, List, [], ◌∷◌, ◌++◌, Option}
+use Rattle.std.proofs.Common.{ap, append_assoc, refl, sym, true≢false, ◌∙◌}
+use Rattle.std.specs.Prelude.{filter, nat_eq}
+use Rattle.std.specs.List.{list_any}
+use Rattle.std.proofs.lemmas.Bool.{and_parts, or_parts}
+use Rattle.std.proofs.lemmas.List.Folds.{list_any-append}
+use Rattle.ill_values.specs.Day.{Date}
+use Rattle.ill_values.specs.TxnId.{Qualifiers}
+use Rattle.ill_values.specs.declared.apdu.Apdu.{Apdu}
+use Rattle.ill_core.specs.Issued.{is_same_txn}
+use Rattle.ill_record.specs.declared.side.Side.{Side}
+use Rattle.ill_record.proofs.Finding.{same_is}
+use Rattle.ill_beside.specs.Notes.{note_of}
+use Rattle.ill_news.specs.Deeds.{deeds_since}
+use Rattle.ill_news.specs.News.{heard_at, is_same, is_told, news_of}
+use Rattle.ill_news.specs.OpenAnswers.{is_asking, is_left, is_open, left_open, says_done}
+use Rattle.ill_news.specs.Told.{recent_of, told_since, with_open}
+use Rattle.ill_news.proofs.CameSinceLemmas.{none_kept, second_off}
+use Rattle.ill_news.proofs.DeedLemmas.{kept_within}
+use Rattle.ill_news.proofs.NewsLemmas.{taken_is_told, told_was_taken}
+
+-- What is told in one of two lists is told in both, one after the other.
+told_in_both : (news more : List Apdu) (a : Apdu) → is_told (news ++ more) a ≡ (is_told news a || is_told more a)
+told_in_both news more a = list_any-append (λ (b : Apdu). is_same b a) news more
+
+-- If the second of two holds, one of them holds.
+second_on : (one other : Bool) → other ≡ true → (one || other) ≡ true
+second_on true other on = refl
+second_on false other on = on
+
+-- If the first of two fails, not both hold.
+first_off : (one other : Bool) → one ≡ false → (one && other) ≡ false
+first_off true other off = absurd (true≢false off)
+first_off false other off = refl
+
+-- ---- what is open stays news
+
+-- An open answer that was taken is told, if it is not told as recent.
+left_told : (notes : List (List ℕ)) (sides : List Side) (recent before after : List Apdu) (a : Apdu)
+    → heard_at sides a ≡ true → is_left notes recent a ≡ true
+    → is_told (news_of sides (left_open notes recent (before ++ a ∷ after))) a ≡ true
+left_told notes sides recent before after a heard left =
+    let keeps = is_left notes recent in
+    ap (λ (came : List Apdu). is_told (news_of sides came) a) (kept_within keeps before after a left)
+    ∙ taken_is_told sides (filter keeps before) (filter keeps after) a heard
+
+-- An open answer that was taken is told, or it is told as recent.
+told_with_open : (notes : List (List ℕ)) (sides : List Side) (recent before after : List Apdu) (a : Apdu)
+    → heard_at sides a ≡ true → is_open notes a ≡ true
+    → is_told (with_open notes sides recent (before ++ a ∷ after)) a ≡ true
+told_with_open notes sides recent before after a heard is_kept =
+    let left = news_of sides (left_open notes recent (before ++ a ∷ after)) in
+    told_in_both left recent a ∙ go (is_told recent a) refl
+  where
+    go : (is : Bool) → is_told recent a ≡ is
+        → (is_told (news_of sides (left_open notes recent (before ++ a ∷ after))) a || is_told recent a) ≡ true
+    go true is = second_on (is_told (news_of sides (left_open notes recent (before ++ a ∷ after))) a) (is_told recent a) is
+    go false is =
+        ap (λ first. first || is_told recent a)
+        (left_told notes sides recent before after a heard (ap (λ b. b && not (is_told recent a)) is_kept ∙ ap not is))
+
+-- An open answer that was taken is told.
+pub open_told : (since : Option Date) (notes lines : List (List ℕ)) (sides : List Side) (before after : List Apdu) (a : Apdu)
+    → heard_at sides a ≡ true → is_open notes a ≡ true
+    → is_told (told_since since notes lines sides (before ++ a ∷ after)) a ≡ true
+open_told since notes lines sides before after a heard is_kept =
+    let came = before ++ a ∷ after in
+    let recent = recent_of since lines sides came in
+    let deeds = deeds_since since lines sides in
+    told_in_both (with_open notes sides recent came) deeds a
+    ∙ ap (λ first. first || is_told deeds a) (told_with_open notes sides recent before after a heard is_kept)
+
+-- ---- what is done is told once
+
+-- No message of a loan whose note says `done` is open.
+done_shut : (notes : List (List ℕ)) (a : Apdu) → says_done (note_of notes a.txn) ≡ true → is_open notes a ≡ false
+done_shut notes a done = second_off (is_asking a.body) (not (says_done (note_of notes a.txn))) (ap not done)
+
+-- A message of a loan whose note says `done` is left by no other name.
+done_left : (notes : List (List ℕ)) (sides : List Side) (recent : List Apdu) (a b : Apdu)
+    → says_done (note_of notes a.txn) ≡ true → (is_same b a && heard_at sides b) ≡ true → is_left notes recent b ≡ false
+done_left notes sides recent a b done named =
+    let same = and_parts (is_same b a) (heard_at sides b) named in
+    let txn : b.txn ≡ a.txn =
+    same_is b.txn a.txn (and_parts (is_same_txn b.txn a.txn) (nat_eq b.number a.number) same.0).0 in
+    first_off (is_open notes b) (not (is_told recent b))
+    (done_shut notes b (ap (λ (t : Qualifiers). says_done (note_of notes t)) txn ∙ done))
+
+-- A message of a loan whose note says `done` is not told as open.
+not_left : (notes : List (List ℕ)) (sides : List Side) (recent came : List Apdu) (a : Apdu)
+    → says_done (note_of notes a.txn) ≡ true → is_told (news_of sides (left_open notes recent came)) a ≡ false
+not_left notes sides recent came a done = go (is_told (news_of sides left) a) refl
+  where
+    left : List Apdu
+    left = left_open notes recent came
+
+    none : list_any (λ b. is_same b a && heard_at sides b) left ≡ false
+    none = none_kept (λ b. is_same b a && heard_at sides b) (is_left notes recent) came
+        (λ b named. done_left notes sides recent a b done named)
+
+    go : (is : Bool) → is_told (news_of sides left) a ≡ is → is_told (news_of sides left) a ≡ false
+    go false is = is
+    go true is = absurd (true≢false (sym (told_was_taken sides left a is) ∙ none))
+
+-- A message of a loan whose note says `done` is told as recent, as a deed, or not at all.
+pub done_told : (since : Option Date) (notes lines : List (List ℕ)) (sides : List Side) (came : List Apdu) (a : Apdu)
+    → says_done (note_of notes a.txn) ≡ true
+    → is_told (told_since since notes lines sides came) a
+    ≡ is_told (recent_of since lines sides came ++ deeds_since since lines sides) a
+done_told since notes lines sides came a done =
+    let recent = recent_of since lines sides came in
+    let deeds = deeds_since since lines sides in
+    let left = news_of sides (left_open notes recent came) in
+    ap (λ (news : List Apdu). is_told news a) (append_assoc left recent deeds)
+    ∙ told_in_both left (recent ++ deeds) a
+    ∙ ap (λ first. first || is_told (recent ++ deeds) a) (not_left notes sides recent came a done)
+
+-- If no message is open, none is left.
+none_left : (notes : List (List ℕ)) (news came : List Apdu) → list_any (is_open notes) came ≡ false
+    → left_open notes news came ≡ []
+none_left notes news [] none = refl
+none_left notes news (a ∷ came) none =
+    let both = or_parts (is_open notes a) (list_any (is_open notes) came) none in
+    rw (first_off (is_open notes a) (not (is_told news a)) both.0) (none_left notes news came both.1)
+
+-- If no message is open, what is told is recent, or a date made it due.
+pub none_told : (since : Option Date) (notes lines : List (List ℕ)) (sides : List Side) (came : List Apdu)
+    → list_any (is_open notes) came ≡ false
+    → told_since since notes lines sides came ≡ recent_of since lines sides came ++ deeds_since since lines sides
+none_told since notes lines sides came none =
+    let recent = recent_of since lines sides came in
+    ap (λ (left : List Apdu). (news_of sides left ++ recent) ++ deeds_since since lines sides)
+    (none_left notes recent came none)

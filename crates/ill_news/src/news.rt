@@ -11,12 +11,13 @@ ghost use Rattle.ill_beside.specs.FileLines.{lines_of};
 ghost use Rattle.ill_news.specs.Told.{news_since, recent_of, told_since, with_open};
 ghost use Rattle.ill_beside.specs.Since.{annex_of};
 ghost use Rattle.ill_rows.specs.Messages.{IsTextOf, WritesNews};
-ghost use Rattle.ill_news.specs.News.{columns_of, heard_at, heard_by, is_same, is_told, last_of, named, news_counts, news_desk, news_fields, news_lines, news_object, news_objects, news_of, news_row, told_fields, widened, with_news, words_at, words_by};
+ghost use Rattle.ill_news.specs.News.{columns_of, heard_at, heard_by, last_of, named, news_counts, news_desk, news_fields, news_lines, news_object, news_objects, news_of, news_row, told_fields, widened, with_news, words_at, words_by};
 ghost use Rattle.ill_show.specs.ItemLine.{item_of};
 
 use crate::came_since::Came;
 use crate::deeds::push_deeds;
 use crate::open_answers::left_open;
+use crate::told::is_told;
 use ill_beside::annex::Annex;
 use ill_beside::heard::is_heard;
 use ill_beside::news_words::{news_words, told_words};
@@ -201,20 +202,6 @@ fn heard_by(side: Option<&Side>, apdu: &Apdu) -> bool
         Some(side) => is_heard(side, apdu),
         None => false,
     }
-}
-
-/// Returns true if `apdu` is among `news`.
-pub(crate) fn is_told(news: &[Apdu], apdu: &Apdu) -> bool
-    ensures { result ≡ is_told news.now apdu.now }
-{
-    news.iter().any(|other| is_same(other, apdu))
-}
-
-/// Returns true if `one` and `other` have one transaction and one number.
-fn is_same(one: &Apdu, other: &Apdu) -> bool
-    ensures { result ≡ is_same one.now other.now }
-{
-    one.txn == other.txn && one.number == other.number
 }
 
 /// Returns the last `count` messages of `news`, or all of them.

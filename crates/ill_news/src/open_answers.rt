@@ -4,7 +4,7 @@ ghost use Rattle.std.specs.Prelude.{◌≡◌, ◌++◌, ◌∷◌, [], filter, 
 ghost use Rattle.ill_beside.specs.FileLines.{lines_of};
 ghost use Rattle.ill_news.specs.OpenAnswers.{asks_staff, begins_with_done, goes_on, is_asking, is_left, is_open, left_open, says_done};
 
-use crate::news::is_told;
+use crate::told::is_told;
 use ill_beside::notes::Notes;
 use ill_values::{AnswerResult, Apdu, Body, OutOfMemory};
 use std::alloc::Global;

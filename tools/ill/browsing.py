@@ -56,6 +56,12 @@ class House:
         lines = self.ill.well(["loan", self.desk(desk), "G1", txn]).decode().splitlines()
         return dict(line.partition(" ")[::2] for line in reversed(lines))[what]
 
+    def open_to_all(self):
+        """Lets each user of the machine write to the desks, as the folder of a group lets its users."""
+        for folder, _, names in os.walk(self.folder):
+            for path in (folder, *(f"{folder}/{name}" for name in names)):
+                os.chmod(path, 0o777 if path == folder else 0o666)
+
     def state(self, desk, txn):
         """Returns the state of a loan."""
         return self.told(desk, txn, "state")
@@ -338,27 +344,38 @@ def two_clerks(clerk, other):
         r"anna .*Web-6", diary) and re.search(r"bert .*Web-7", diary) and not re.search(r"bert .*Web-6", diary) else f"the diary: {diary!r}")
 
 
+def foreign_form(clerk, name, place):
+    """Sends the form of a page of somebody else: it is refused, and the reply is whole."""
+    before = clerk.site.house.bytes("borrow")
+    clerk.browser.go(place)
+    clerk.browser.messages()
+    clerk.browser.leave(lambda: clerk.browser.press(clerk.browser.one("button")))
+    REPORT.tell(f"a form of {name}", differs("status", clerk.status(), 403), clerk.console("403"),
+                None if clerk.site.house.bytes("borrow") == before else "the desk has changed")
+
+
+def page_of_others(clerk):
+    """Returns a page of somebody else, with a form for a loan."""
+    desk = clerk.site.house.desk("borrow")
+    fields = {"desk": desk, "group": "G1", "transaction": "Web-5", "stamp": "x", "word": "cancel"}
+    inputs = "".join(f"<input name={name} value='{value}'>" for name, value in fields.items())
+    head = "<title>-</title><link rel=icon href='data:,'>"  # else a browser asks for an icon, which is not there
+    return f"{head}<form method=post action='{clerk.site.url('borrow')}'>{inputs}<button>win</button></form>"
+
+
 def strangers(clerk, servers):
     """Nobody comes in without a login, and no foreign page sends a form."""
-    house, before = clerk.site.house, clerk.site.house.bytes("borrow")
     try:
         found = urllib.request.urlopen(clerk.site.url("borrow"), timeout=60).status
     except urllib.error.HTTPError as error:
         found = error.code
     REPORT.tell("no login", differs("status", found, 401))
-    fields = {"desk": house.desk("borrow"), "group": "G1", "transaction": "Web-5", "stamp": "x", "word": "cancel"}
-    inputs = "".join(f"<input name={name} value='{value}'>" for name, value in fields.items())
-    head = "<title>-</title><link rel=icon href='data:,'>"  # else a browser asks for an icon, which is not there
-    page = f"{head}<form method=post action='{clerk.site.url('borrow')}'>{inputs}<button>win</button></form>"
+    page = page_of_others(clerk)
     harness.write(f"{servers.folder}/www/evil.html", page)
     neighbour = servers.lighttpd()
     for name, place in (("a page of nobody", "data:text/html," + urllib.parse.quote(page)),
                         ("a page at another port", f"http://127.0.0.1:{neighbour}/evil.html")):
-        clerk.browser.go(place)
-        clerk.browser.messages()
-        clerk.browser.leave(lambda: clerk.browser.press(clerk.browser.one("button")))
-        REPORT.tell(f"a form of {name}", differs("status", clerk.status(), 403), clerk.console("403"),
-                    None if house.bytes("borrow") == before else "the desk has changed")
+        foreign_form(clerk, name, place)
 
 
 # ---- What is seen
@@ -523,6 +540,15 @@ class Stage:
         port = self.servers.nginx(behind, has_tls=True)
         short_loan("behind a proxy, with TLS", self.clerk(f"https://{HOST}:{port}"), "P2")
 
+    def at_apache(self):
+        """Plays a loan behind Apache at a name, with TLS."""
+        self.servers.certificate(HOST)
+        self.house.open_to_all()
+        port = self.servers.apache(HOST)
+        clerk = self.clerk(f"https://{HOST}:{port}")
+        short_loan("Apache at a name, with TLS", clerk, "A1")
+        foreign_form(clerk, "a page of nobody, to Apache", "data:text/html," + urllib.parse.quote(page_of_others(clerk)))
+
     def at_busybox(self):
         """Plays a loan behind busybox httpd."""
         port = self.servers.busybox()
@@ -531,7 +557,8 @@ class Stage:
     def perform(self):
         """Performs all parts, but those for which a program is not installed."""
         parts = {self.at_lighttpd: ["lighttpd", "openssl"], self.at_a_name: ["lighttpd", "openssl"],
-                 self.at_a_proxy: ["nginx", "lighttpd", "openssl"], self.at_busybox: ["busybox"]}
+                 self.at_a_proxy: ["nginx", "lighttpd", "openssl"], self.at_busybox: ["busybox"],
+                 self.at_apache: ["apache2", "openssl"]}
         for part, wanted in parts.items():
             lacks = [name for name in wanted if not is_there(name)]
             if lacks:

@@ -1,4 +1,4 @@
-"""Web servers on the loopback that run `ill-web`: lighttpd and busybox httpd, with a login, and nginx as a proxy before.
+"""Web servers on the loopback that run `ill-web`: lighttpd, Apache and busybox httpd, with a login, and nginx before one.
 
 Each has its files in a folder, and its port. `ended` stops them.
 """
@@ -25,6 +25,29 @@ auth.require = ("/ill/" => ("method" => "basic", "realm" => "ill", "require" => 
 $HTTP["url"] =~ "^/ill/" {{ cgi.assign = ("" => "") }}
 {more}"""
 TLS = 'ssl.engine = "enable"\nssl.pemfile = "{folder}/both.pem"\n'
+APACHE = """\
+ServerName {host}
+ServerRoot {folder}
+User www-data
+Group www-data
+PidFile {folder}/apache.pid
+ErrorLog {folder}/apache.log
+Listen 127.0.0.1:{port}
+{modules}
+ScriptSock {folder}/apache.socket
+SSLEngine on
+SSLCertificateFile {folder}/both.pem
+ScriptAlias /ill/ {folder}/www/ill/
+<Directory {folder}/www/ill>
+    AuthType Basic
+    AuthName ill
+    AuthUserFile {folder}/users
+    Require valid-user
+    SSLRequireSSL
+    LimitRequestBody 4096
+</Directory>
+"""
+APACHE_MODULES = ("mpm_event", "authn_core", "authn_file", "authz_core", "authz_user", "auth_basic", "alias", "cgid", "ssl")
 NGINX = """\
 daemon off;
 pid {folder}/nginx.pid;
@@ -72,14 +95,15 @@ class Servers:
     """Web servers over one folder. A script in `www/ill` is a page."""
 
     def __init__(self, folder, web):
-        self.folder, self.web, self.running = folder, web, []
+        self.folder, self.web, self.running, self.reads_rest = folder, web, [], False
         os.makedirs(f"{folder}/www/ill")
 
     def script(self, name, *words, before=""):
         """Writes the script of a page, which runs `ill-web` with these words after other commands."""
         path = f"{self.folder}/www/ill/{name}"
         quoted = " ".join("'" + word.replace("'", "'\\''") + "'" for word in [self.web, *words])
-        harness.write(path + ".new", f"#!/bin/sh\n{before}exec {quoted}\n")
+        last = f"{quoted}\ncat > /dev/null" if self.reads_rest else f"exec {quoted}"
+        harness.write(path + ".new", f"#!/bin/sh\n{before}{last}\n")
         os.chmod(path + ".new", 0o755)
         os.replace(path + ".new", path)
 
@@ -89,13 +113,24 @@ class Servers:
 
     def lighttpd(self, has_tls=False):
         """Begins lighttpd, and returns its port."""
-        lines = [f"{name}:{encoded(password)}\n" for name, password in USERS.items()]
-        harness.write(f"{self.folder}/users", "".join(lines))
+        self._users()
         port, path = free_port(), f"{self.folder}/lighttpd{len(self.running)}.conf"
         more = TLS.format(folder=self.folder) if has_tls else ""
         harness.write(path, LIGHTTPD.format(folder=self.folder, port=port, more=more,
                                             modules=', "mod_openssl"' if has_tls else ""))
         return self._begin(port, ["lighttpd", "-D", "-f", path])
+
+    def apache(self, host):
+        """Begins Apache with TLS at a host, and returns its port. Begun by root, it runs scripts as `www-data`.
+
+        It breaks off the reply to a form that is not read, so later scripts read the rest.
+        """
+        self._users()
+        self.reads_rest = True
+        port, path = free_port(), f"{self.folder}/apache.conf"
+        modules = "\n".join(f"LoadModule {name}_module /usr/lib/apache2/modules/mod_{name}.so" for name in APACHE_MODULES)
+        harness.write(path, APACHE.format(folder=self.folder, host=host, port=port, modules=modules))
+        return self._begin(port, ["apache2", "-D", "FOREGROUND", "-f", path])
 
     def busybox(self):
         """Begins busybox httpd, and returns its port. Its scripts are in `cgi-bin`."""
@@ -120,6 +155,11 @@ class Servers:
                         "-addext", f"subjectAltName=DNS:{name}", "-keyout", key, "-out", certificate],
                        check=True, capture_output=True)
         harness.write(f"{self.folder}/both.pem", harness.read(key) + harness.read(certificate))
+
+    def _users(self):
+        """Writes the file of logins, which lighttpd and Apache read alike."""
+        lines = [f"{name}:{encoded(password)}\n" for name, password in USERS.items()]
+        harness.write(f"{self.folder}/users", "".join(lines))
 
     def _begin(self, port, words):
         """Begins a server, and waits until it answers."""

@@ -1026,7 +1026,7 @@ Show each APDU on standard input.
 Of each its type, its transaction, its number and its further fields are written
 to standard output, a line for each: `ill show < FILE`.
 
-With --json an APDU has `kind`, which is message, before the labels of its lines.
+With --json an APDU has `kind`, message, before the labels of its lines.
 
 The exit status is 0 if all of them are shown. It is 2 if one has a fault or
 there are too many, and 3 with `read`. The APDUs before a fault are shown.";

@@ -1,9 +1,13 @@
 -- Answers the contract of `list_file` (`src/listing.rt`).
-use Rattle.std.proofs.Common.{◌≡◌, List, Option, option_map, inr, subst}
+use Rattle.std.proofs.Common.{◌≡◌, List, Bool, Option, option_map, Result, Ok, Err, inl, inr, refl, subst, sym}
+use Rattle.std.specs.Prelude.{IsErrAnd}
 use Rattle.ill_values.specs.declared.apdu.Apdu.{Apdu}
 use Rattle.ill_saved.specs.ManySides.{sides_held}
 use Rattle.ill_record.specs.Sides.{SidesOf}
 use Rattle.ill_news.specs.Told.{news_since}
+use Rattle.ill_text.specs.declared.fault.ToolFault.{ToolFault}
+use Rattle.ill_text.specs.declared.fault.ToolFault.TheVariants.{OutOfMemory}
+use Rattle.ill_text.specs.Fault.{IsOpenFault}
 use Rattle.ill_beside.specs.Since.{annex_of}
 use Rattle.ill_visits.proofs.listing.list_file.Goals as goal
 
@@ -20,3 +24,13 @@ returns g c =
       told,
       (c.run_desk_list-answer.result, c.run_desk_list-answer.ensures, c.all_well.ensures),
     )
+
+-- A result whose fault is out of memory is the fault of a desk that is not opened.
+open_fault : (result : Result Bool ToolFault) → IsErrAnd result (λ fault. fault ≡ OutOfMemory) → IsErrAnd result IsOpenFault
+open_fault (Ok done) is = is
+open_fault (Err fault) is = subst IsOpenFault (sym is) tt
+
+-- If memory runs out for the news, nothing is written.
+pub returns-in_err-news : goal.returns-in_err-news
+returns-in_err-news g c =
+    inl (open_fault c.from_residual-in_err-news.result c.from_residual-in_err-news.ensures.1, refl)

@@ -82,7 +82,7 @@ impl<'a> CallResult<'a> {
         Some(seen)
     }
 
-    /// Makes this extent of the call on the memory.
+    /// Makes the call `on` the desk in memory, as far as `extent` says.
     fn make(
         &mut self,
         alloc: Global,

@@ -187,7 +187,7 @@ no_change {answer = Err fault} is whole same = record {
   honest = refl;
 }
 
--- A new file that failed at first has changed nothing.
+-- If `create_new` fails before its first change, it answers as it says: with the disk as it was.
 pub no_file : {E : Type 0} {path bytes : List ℕ} {old new : DiskOverTime} {answer : Result (Unit {0}) E} → IsErr answer →
     IsWhole old.disk → new ≡ old → Answers (Creates path bytes) (past_state old) answer (past_state new)
 no_file {answer = Ok done} is whole same = absurd (true≢false (sym is))

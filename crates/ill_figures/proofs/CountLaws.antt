@@ -51,7 +51,7 @@ both_summed first second (part ∷ parts) =
       both_summed first second parts,
     )
 
--- No loan is in no count.
+-- The counts of an empty list of loans add up to 0.
 none_summed : (parts : List Count) → sum_by (counted []) parts ≡ 0
 none_summed [] = refl
 none_summed (part ∷ parts) = omega (arith, sum_by-cons (counted []) part parts, none_summed parts)

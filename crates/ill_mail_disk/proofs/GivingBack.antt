@@ -133,7 +133,7 @@ module _ (spot : SpotOf) (apart : AreApart spot) where
 
   module _ (d e : Disk) (claimed : found_at spot.claimed d.names ≡ Some spot.file)
       (gives : GivesName spot.claimed spot.waiting d e) where
-    -- It is the file of the mail that gets the name.
+    -- The file that gets the name in IN is the file of the mail.
     same_file : gives.file ≡ spot.file
     same_file = ap (value_or spot.file) (sym gives.found ∙ claimed)
 

@@ -99,7 +99,7 @@ touch_then paths a b c first second = record {
       );
 }
 
--- What touches a few paths touches many.
+-- If a change touches only paths of `few`, and `many` has all of these, it touches only paths of `many`.
 pub touch_more : (few many : List (List ℕ)) → ((p : List ℕ) → IsNoneOf many p → IsNoneOf few p) → (a b : Disk) →
     TouchesOnly few a b → TouchesOnly many a b
 touch_more few many fits a b touches = record {

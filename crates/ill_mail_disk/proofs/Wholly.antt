@@ -30,7 +30,7 @@ fine_again path bytes old d kept x fine = (
 
 module _ {E : Type 0} {aside path : List ℕ} {old cleared : DiskState} {removal : Result (Unit {0}) E}
     (differ : aside ≡ path → ⊥) (removes : Answers (Changes (after_remove aside)) old removal cleared) where
-  -- What stood aside was removed, or was not, and what stands at the path is left.
+  -- The removal at `aside` leaves the file at the path, whether it succeeds or fails.
   pub removed_leaves : LeavesFile (record { path = path; aside = aside }) old cleared
   removed_leaves = record {
     touches = touches_more (aside ∷ []) (aside ∷ path ∷ []) (λ p none. (none.0, tt)) old cleared

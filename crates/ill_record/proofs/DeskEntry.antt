@@ -273,7 +273,7 @@ module _ (role : Role) (entries : List (Qualifiers × Side))
       let same : role_of after ≡ role_of side = sym (idle_role after) ∙ ap role_of stays.idle ∙ idle_role side in
       and_from _ _ (ap (is_same_role role) same ∙ stood.0) (ap not (stays.begun (not_true _ stood.1)))
 
-  -- If the side of `txn` is changed to `after`, the entries are filed.
+  -- If the side of `txn` becomes `after`, the entries still satisfy `AreFiled`.
   filed_changed : (new : List (Qualifiers × Side)) → new ≡ set_value (is_same_txn txn) entries after
       → AreFiled (keys_of new) (record { role = role; sides = values_of new })
   filed_changed new changed =

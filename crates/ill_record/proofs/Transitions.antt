@@ -87,7 +87,7 @@ wish_grows : CoreRows → (x made : RequesterRecord) (wish : Wish) → requester
 wish_grows rows x made wish e =
     requester_grows x made (rows.wish_txn x made wish e) (issues_more x.txn x.issued made.issued (rows.wish_issues x made wish e))
 
--- A responder grows by a deed.
+-- A deed only appends to the messages of a responder (`Grows`).
 deed_grows : CoreRows → (y made : ResponderRecord) (deed : Deed) (today : Date)
     → responder_actions.acts y deed today ≡ Ok made → Grows (sides.Responder y) (sides.Responder made)
 deed_grows rows y made deed today e =

@@ -1,4 +1,4 @@
--- The events of the model of two desks that a command is. A desk of the program is seen by its sides and the content of
+-- Defines which events of the model of two desks a command is. A desk of the program is seen by its sides and the content of
 -- its store.
 use Rattle.std.specs.Prelude.{◌≡◌, ℕ, List, [], ◌∷◌, Option, Some, Result, Ok, Err}
 use Rattle.ill_record.specs.declared.role.Role.{Role}

@@ -175,7 +175,7 @@ module _ {W E C : Type 0} (play : Play W E C) where
       ([], [], read, Appends-nil written, (at_end, refl, none_yet from, omega arith))
   nothing_follows from old new written (byte ∷ bytes) none read at_end = absurd (omega (arith, none))
 
-  -- If no LF closes the last line, and it was performed, the rest of the script ends well.
+  -- If the last line has no LF and was performed, `Plays` holds of the script up to its end.
   last_performed : (from : Progress W C) (old : Streams) (left : Option (List ℕ)) (bytes : List ℕ) (says : ScriptLine E)
       (now : History W) → Consumes old.left left bytes → IsAtEnd left
       → reading_on play from bytes ≡ then_says says from.number empty_reading

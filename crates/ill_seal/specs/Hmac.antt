@@ -11,7 +11,7 @@ filled bytes = bytes ++ replicate (64 - length bytes) 0
 abbrev pub masked : ℕ → List ℕ → List ℕ
 masked mask bytes = map (λ byte. bit_xor byte mask) bytes
 
--- Returns the block of a key that stands before the text.
+-- Returns the block, made from `key`, that comes before the text.
 abbrev pub inner : List ℕ → List ℕ
 inner key = masked 0x36 (filled key)
 

@@ -186,7 +186,7 @@ record_loads {bytes_of = bytes_of} {path = path} {old = old} {read = read} {flus
       honest = so_far.honest;
     }
 
--- ---- a save, after what stood aside was removed
+-- ---- a save, after an older new file was removed
 
 module _ (aside path bytes : List ℕ) (first d : Disk) (whole : IsWhole d) (differ : aside ≡ path → ⊥)
     (reads : content path d ≡ content path first) (lefts : LeavesOld path first d) where
@@ -501,7 +501,7 @@ failed_load_at {bytes_of = bytes_of} {p = p} {a = a} {b = b} {e = e} {other = ot
       honest = loads.honest;
     })))
 
--- A save that was done is one at an equal path, of equal disks, with any type of faults.
+-- If paths and disks are equal, a save that is done at one is done at the other, with any type of faults.
 pub done_save_at : {E F : Type 0} {p q bytes : List ℕ} {a b d e : DiskState} {done : Unit {0}} → p ≡ q → a ≡ b → d ≡ e →
     DiskSaves {E = E} p bytes a (Ok done) d → DiskSaves {E = F} q bytes b (Ok done) e
 done_save_at {F = F} {p = p} {bytes = bytes} {a = a} {b = b} {e = e} {done = done} path old new saves =

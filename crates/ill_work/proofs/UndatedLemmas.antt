@@ -37,7 +37,7 @@ agrees ahead (sides.Requester x) =
 agrees ahead (sides.Responder y) =
     lending.turn_alike y.state y.received no_date_presses false (λ later. refl) (λ open_still. refl)
 
--- On each day the dates press at least as without a day.
+-- On each day the dates are at least as urgent as without a day.
 press_more : (on : Dates) → AreLater no_date_presses on
 press_more on = record {
   expired = λ is. search (rules, is);

@@ -42,7 +42,7 @@ pub data MisjudgesWork (today : Date) (ahead : ℕ) : Side → Work → Type 0 w
   returns_unreceived : (x : RequesterRecord) (work : Work) →
       is_among (states.Shipped ∷ states.NotReceivedOverdue ∷ states.Recall ∷ []) x.state ≡ true → is_received_by x ≡ false →
       is_verb_among (work_verbs work) verbs.Return ≡ true → MisjudgesWork today ahead (sides.Requester x) work
-  -- The item is shipped. But the work does not receive it.
+  -- The item is shipped. But `receive` is no verb of the work.
   forgets_parcel : (x : RequesterRecord) (work : Work) → x.state ≡ states.Shipped →
       is_verb_among (work_verbs work) verbs.Receive ≡ false → MisjudgesWork today ahead (sides.Requester x) work
   -- Conditions wait for an answer. But the work gives none.

@@ -7,8 +7,10 @@ import base64
 import concurrent.futures
 import contextlib
 import fcntl
+import http.client
 import os
 import re
+import ssl
 import subprocess
 import urllib.error
 import urllib.parse
@@ -158,19 +160,19 @@ def differs(what, found, wanted):
 
 # ---- A loan
 
-def one_loan(clerk):
+def one_loan(clerk, txn="T1", server="lighttpd"):
     """Plays a loan with conditions and a renewal, and nights between, by forms alone."""
-    house, statuses = clerk.site.house, [clerk.asks("T1", day="2025-03-20")]
+    house, statuses = clerk.site.house, [clerk.asks(txn, day="2025-03-20")]
     shown = clerk.browser.text("h2")
     steps = [("lend", "answer", "conditional", None), ("borrow", "reply", "yes", None), ("lend", "ship", None, "2025-03-15"),
              ("borrow", "receive", None, None), ("borrow", "renew", None, "2025-04-01"),
              ("lend", "renew-answer", "yes", "2025-04-01"), ("borrow", "return", None, None), ("lend", "check-in", None, None)]
     for library, verb, word, day in steps:
         house.night()
-        statuses.append(clerk.at(library, "T1").does(verb, word, day))
+        statuses.append(clerk.at(library, txn).does(verb, word, day))
     house.night()
-    ends = [house.state(library, "T1") for library in ("borrow", "lend")]
-    REPORT.tell("a loan with conditions and a renewal, by forms and nights", differs("statuses", statuses, [200] * 9),
+    ends = [house.state(library, txn) for library in ("borrow", "lend")]
+    REPORT.tell(f"a loan with conditions and a renewal, by forms and nights, behind {server}", differs("statuses", statuses, [200] * 9),
                 differs("title", shown, TITLE), differs("states", ends, ["RETURNED", "CHECKED-IN"]), clerk.console())
 
 
@@ -472,6 +474,37 @@ def short_loan(name, clerk, txn):
                 None if re.search(rf"anna .*{txn}", diary) else f"the diary: {harness.short(diary)}")
 
 
+def sends(site, body, length=None, user="anna"):
+    """Sends bytes as a form over TLS without a browser, with a length or none, and returns the status."""
+    place = urllib.parse.urlsplit(site.url("borrow"))
+    connection = http.client.HTTPSConnection("127.0.0.1", place.port, timeout=120, context=ssl._create_unverified_context())
+    login = base64.b64encode(f"{user}:{USERS[user]}".encode()).decode() if user else None
+    headers = {"Host": place.netloc, "Content-Type": "application/x-www-form-urlencoded", "Sec-Fetch-Site": "same-origin",
+               "Content-Length": length, "Authorization": f"Basic {login}" if login else None}
+    with contextlib.closing(connection):
+        connection.putrequest("POST", place.path, skip_host=True)
+        for name, value in headers.items():
+            if value is not None:
+                connection.putheader(name, value)
+        connection.endheaders(body)
+        return connection.getresponse().status
+
+
+def limits(clerk, server):
+    """Sends forms without a login, without a length, and of the greatest length and one byte more. No desk changes."""
+    before, site = clerk.site.house.bytes("borrow"), clerk.site
+    found = [sends(site, b"a=b", 3, user=None), sends(site, b""), *(sends(site, b"a" * size, size) for size in (4096, 4097))]
+    REPORT.tell(f"no login, no length and too long a form, to {server}", differs("statuses", found, [401, 411, 400, 413]),
+                None if clerk.site.house.bytes("borrow") == before else "the desk has changed")
+
+
+def at_tls(clerk, server, txn):
+    """Plays a short loan at a server with TLS. Then come a foreign form and what has no leave."""
+    short_loan(f"{server} at a name, with TLS", clerk, txn)
+    foreign_form(clerk, f"a page of nobody, to {server}", "data:text/html," + urllib.parse.quote(page_of_others(clerk)))
+    limits(clerk, server)
+
+
 def other_origin(clerk, servers):
     """Lets the operator's script name another origin than the browser shows: no form is taken."""
     house = clerk.site.house
@@ -529,36 +562,41 @@ class Stage:
             return
         self.servers.certificate(HOST)
         port = self.servers.lighttpd(has_tls=True)
-        short_loan("lighttpd at a name, with TLS", self.clerk(f"https://{HOST}:{port}"), "O2")
+        at_tls(self.clerk(f"https://{HOST}:{port}"), "lighttpd", "O2")
 
     def at_a_proxy(self):
         """Plays a loan behind nginx, which sends another Host to lighttpd."""
         behind = self.servers.lighttpd()
-        port = self.servers.nginx(behind)
+        port = self.servers.proxy(behind)
         short_loan("behind a proxy, without TLS", self.clerk(f"http://{HOST}:{port}"), "P1")
         self.servers.certificate(HOST)
-        port = self.servers.nginx(behind, has_tls=True)
+        port = self.servers.proxy(behind, has_tls=True)
         short_loan("behind a proxy, with TLS", self.clerk(f"https://{HOST}:{port}"), "P2")
-
-    def at_apache(self):
-        """Plays a loan behind Apache at a name, with TLS."""
-        self.servers.certificate(HOST)
-        self.house.open_to_all()
-        port = self.servers.apache(HOST)
-        clerk = self.clerk(f"https://{HOST}:{port}")
-        short_loan("Apache at a name, with TLS", clerk, "A1")
-        foreign_form(clerk, "a page of nobody, to Apache", "data:text/html," + urllib.parse.quote(page_of_others(clerk)))
 
     def at_busybox(self):
         """Plays a loan behind busybox httpd."""
         port = self.servers.busybox()
         short_loan("busybox httpd", self.clerk(f"http://127.0.0.1:{port}", folder="cgi-bin"), "B1")
 
+    def at_nginx(self):
+        """Plays a whole loan behind nginx at a name, with TLS. Its scripts are run by fcgiwrap."""
+        self.servers.certificate(HOST)
+        clerk = self.clerk(f"https://{HOST}:{self.servers.nginx()}")
+        one_loan(clerk, "N1", "nginx")
+        at_tls(clerk, "nginx", "N2")
+
+    def at_apache(self):
+        """Plays a loan behind Apache at a name, with TLS."""
+        self.servers.certificate(HOST)
+        self.house.open_to_all()
+        port = self.servers.apache(HOST)
+        at_tls(self.clerk(f"https://{HOST}:{port}"), "Apache", "A1")
+
     def perform(self):
         """Performs all parts, but those for which a program is not installed."""
         parts = {self.at_lighttpd: ["lighttpd", "openssl"], self.at_a_name: ["lighttpd", "openssl"],
                  self.at_a_proxy: ["nginx", "lighttpd", "openssl"], self.at_busybox: ["busybox"],
-                 self.at_apache: ["apache2", "openssl"]}
+                 self.at_nginx: ["nginx", "fcgiwrap", "openssl"], self.at_apache: ["apache2", "openssl"]}
         for part, wanted in parts.items():
             lacks = [name for name in wanted if not is_there(name)]
             if lacks:

@@ -1,9 +1,11 @@
-"""Web servers on the loopback that run `ill-web`: lighttpd, Apache and busybox httpd, with a login, and nginx before one.
+"""Web servers on the loopback that run `ill-web`: lighttpd, Apache, busybox httpd, and nginx by fcgiwrap, with a login.
 
-Each has its files in a folder, and its port. `ended` stops them.
+nginx stands before another server, too. Each has its files in a folder, and its port. `ended` stops them.
 """
+import contextlib
 import os
 import shutil
+import signal
 import socket
 import subprocess
 
@@ -60,9 +62,23 @@ http {{
   fastcgi_temp_path {folder}/nginx.fastcgi;
   uwsgi_temp_path {folder}/nginx.uwsgi;
   scgi_temp_path {folder}/nginx.scgi;
-  server {{ listen 127.0.0.1:{port}{ssl}; location / {{ proxy_pass http://127.0.0.1:{behind}; }} }}
+  server {{
+    listen 127.0.0.1:{port}{ssl};
+    {location}
+  }}
 }}
 """
+NGINX_TLS = " ssl; ssl_certificate {folder}/both.pem; ssl_certificate_key {folder}/both.pem"
+NGINX_PROXY = "location / {{ proxy_pass http://127.0.0.1:{behind}; }}"
+NGINX_SCRIPTS = """\
+location /ill/ {{
+      auth_basic ill;
+      auth_basic_user_file {folder}/users;
+      client_max_body_size 4096;
+      include /etc/nginx/fastcgi_params;
+      fastcgi_param SCRIPT_FILENAME {folder}/www$fastcgi_script_name;
+      fastcgi_pass unix:{folder}/fcgiwrap.socket;
+    }}"""
 
 
 def has_tls():
@@ -118,7 +134,7 @@ class Servers:
         more = TLS.format(folder=self.folder) if has_tls else ""
         harness.write(path, LIGHTTPD.format(folder=self.folder, port=port, more=more,
                                             modules=', "mod_openssl"' if has_tls else ""))
-        return self._begin(port, ["lighttpd", "-D", "-f", path])
+        return self._listen(port, ["lighttpd", "-D", "-f", path])
 
     def apache(self, host):
         """Begins Apache with TLS at a host, and returns its port. Begun by root, it runs scripts as `www-data`.
@@ -130,7 +146,7 @@ class Servers:
         port, path = free_port(), f"{self.folder}/apache.conf"
         modules = "\n".join(f"LoadModule {name}_module /usr/lib/apache2/modules/mod_{name}.so" for name in APACHE_MODULES)
         harness.write(path, APACHE.format(folder=self.folder, host=host, port=port, modules=modules))
-        return self._begin(port, ["apache2", "-D", "FOREGROUND", "-f", path])
+        return self._listen(port, ["apache2", "-D", "FOREGROUND", "-f", path])
 
     def busybox(self):
         """Begins busybox httpd, and returns its port. Its scripts are in `cgi-bin`."""
@@ -138,15 +154,30 @@ class Servers:
         harness.write(path, "".join(f"/cgi-bin:{name}:{password}\n" for name, password in USERS.items()))
         harness.remove(f"{self.folder}/www/cgi-bin")
         os.symlink("ill", f"{self.folder}/www/cgi-bin")
-        return self._begin(port, ["busybox", "httpd", "-f", "-p", f"127.0.0.1:{port}", "-h", f"{self.folder}/www", "-c", path])
+        return self._listen(port, ["busybox", "httpd", "-f", "-p", f"127.0.0.1:{port}", "-h", f"{self.folder}/www", "-c", path])
 
-    def nginx(self, behind, has_tls=False):
+    def proxy(self, behind, has_tls=False):
         """Begins nginx before another server, whose Host it sends in place of the browser's. Returns its port."""
+        return self._nginx(NGINX_PROXY.format(behind=behind), has_tls)
+
+    def nginx(self):
+        """Begins nginx with TLS, and fcgiwrap, which runs its scripts. Returns the port.
+
+        fcgiwrap breaks off the reply to a form that is not read, too.
+        """
+        self._users()
+        self.reads_rest = True
+        place = f"{self.folder}/fcgiwrap.socket"
+        self._begin(["fcgiwrap", "-f", "-c", "4", "-s", f"unix:{place}"], lambda: os.path.exists(place))
+        os.chmod(place, 0o666)  # the workers of nginx are not root
+        return self._nginx(NGINX_SCRIPTS.format(folder=self.folder), True)
+
+    def _nginx(self, location, has_tls):
+        """Begins nginx with a location, and returns its port."""
         port, path = free_port(), f"{self.folder}/nginx{len(self.running)}.conf"
-        pem = f"{self.folder}/both.pem"
-        ssl = f" ssl; ssl_certificate {pem}; ssl_certificate_key {pem}" if has_tls else ""
-        harness.write(path, NGINX.format(folder=self.folder, port=port, behind=behind, ssl=ssl))
-        return self._begin(port, ["nginx", "-c", path])
+        ssl = NGINX_TLS.format(folder=self.folder) if has_tls else ""
+        harness.write(path, NGINX.format(folder=self.folder, port=port, ssl=ssl, location=location))
+        return self._listen(port, ["nginx", "-c", path])
 
     def certificate(self, name):
         """Makes a certificate of one's own for a host."""
@@ -161,23 +192,28 @@ class Servers:
         lines = [f"{name}:{encoded(password)}\n" for name, password in USERS.items()]
         harness.write(f"{self.folder}/users", "".join(lines))
 
-    def _begin(self, port, words):
-        """Begins a server, and waits until it answers."""
+    def _listen(self, port, words):
+        """Begins a server, waits until it answers at a port, and returns that."""
+        self._begin(words, lambda: answers(port))
+        return port
+
+    def _begin(self, words, is_ready):
+        """Begins a server, and waits until it is ready."""
         path = f"{os.environ['PATH']}:/usr/sbin:/sbin"
         log = open(f"{self.folder}/server{len(self.running)}.log", "wb")
-        # A session of its own: busybox httpd ends with its scripts.
+        # A session of its own: busybox httpd ends with its scripts, and fcgiwrap leaves processes behind.
         process = subprocess.Popen(words, stdout=log, stderr=log, stdin=subprocess.DEVNULL, start_new_session=True,
                                    env={**os.environ, "PATH": path})
         log.close()
         self.running.append(process)
-        harness.expect(patiently(lambda: answers(port) or process.poll() is not None, 20) and process.poll() is None,
+        harness.expect(patiently(lambda: is_ready() or process.poll() is not None, 20) and process.poll() is None,
                        f"{words[0]} does not run: {harness.short(harness.read(log.name))}")
-        return port
 
     def ended(self):
-        """Stops all servers."""
+        """Stops all servers, each with the processes of its session."""
         for process in self.running:
-            process.terminate()
+            with contextlib.suppress(ProcessLookupError):
+                os.killpg(process.pid, signal.SIGTERM)
             process.wait()
 
 

@@ -10,7 +10,7 @@ from ill import repository
 from ill.repository import Unread, read
 from ill.texts import help as helps
 
-PAGE, HEADING = "docs/FAULTS.md", "What the program tells"
+PAGE, HEADING = "docs/FAULTS.md", "What the program prints"
 HEAD = "| Line | Status | Fault | Commands | Meaning |\n|---|---|---|---|---|\n"
 LINE = re.compile(r"(?m)^  \d  (\S.{20})(\S.*(?:\n {26}.*)*)")
 

@@ -1,7 +1,7 @@
 """Counts the words of each sentence in the documents: CONTRIBUTING.md allows 20.
 
 A code span counts as one word. A semicolon ends a sentence, too. A block of code, a heading and the row of a table are no
-sentences. LONG has the few longer ones that stay, each by its first words.
+sentences. LONG has the few longer ones that stay, each by its first words. It says how many words all sentences have.
 """
 import re
 
@@ -57,11 +57,14 @@ def words(sentence):
 
 def compare():
     """Compares all documents. Returns the faults, and what was compared."""
+    counted = 0
     for document in documents():
         for number, paragraph in paragraphs(read(document)):
             for sentence in sentences(paragraph):
+                counted += words(sentence)
                 is_short = words(sentence) <= LIMIT or sentence.startswith(tuple(LONG.get(document, ())))
                 COMPARED.expect("sentences", is_short,
                                 f"{document}:{number}: {words(sentence)} words in one sentence: {sentence[:60]}..")
     long = sum(map(len, LONG.values()))
-    return COMPARED.faults, f"{COMPARED.told()} of the documents have at most {LIMIT} words each, but for {long}"
+    return COMPARED.faults, (f"{COMPARED.told()} of the documents have at most {LIMIT} words each, but for {long}, "
+                             f"and {counted} words together")

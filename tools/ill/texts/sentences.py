@@ -11,7 +11,7 @@ from ill.repository import read
 LIMIT = 20
 # The sentences that may be longer, by their document and their first words.
 LONG = {
-    "docs/ARCHITECTURE.md": ["a type of APDU: ", "an event: "],
+    "docs/ARCHITECTURE.md": ["a type of APDU: "],
     "docs/FORMATS.md": ["of both roles: IDLE 00"],
     "docs/PROMISES.md": ["These pages list the laws of each crate: "],
 }

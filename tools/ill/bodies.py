@@ -22,12 +22,12 @@ BODIES = [
         ("self.place\n            .mail_box\n            .put_aside(self.rt, claimed, digest.as_str(), &why)",
          'fs::rename(self.rt, claimed.file, (format!(in self.alloc; "{}/aside/{}", self.place.folder, digest)?).as_str())')]),
     ("through", "links in out", "is written", "ill_mailbox/src/host_mails.rt", [
-        ("answer_of(fs::remove_file(self.rt, text_of(path)?))", "answer_of(fs::symlink_metadata(self.rt, text_of(path)?).map(drop))"),
+        ("Ok(fs::remove_file(self.rt, path_of(path)?)?)", "Ok(drop(fs::symlink_metadata(self.rt, path_of(path)?)?))"),
         ("        options.create_new(true);\n", "        options.create(true);\n        options.truncate(true);\n")]),
     ("lets others in", "a folder of others", "begins", "ill_mailbox/src/folders.rt", [
         ("if found.permissions().mode() & 0o077 == 0 {", "if found.is_dir() {")]),
     ("gives back over", "a mail that stays", "what has come there is gone", "ill_mailbox/src/host_mails.rt", [
-        ("fs::hard_link(self.rt, text_of(from)?, text_of(to)?)", "fs::rename(self.rt, text_of(from)?, text_of(to)?)")]),
+        ("fs::hard_link(self.rt, path_of(from)?, path_of(to)?)", "fs::rename(self.rt, path_of(from)?, path_of(to)?)")]),
     ("keeps who asked", "who asks", "is sent without end", "ill_mailbox/src/mail_box.rt", [
         ("return remove_if_there(rt, path.as_str());", "return Ok(());")]),
     ("first copy", "a clerk acts, with a copy", "copy.new is not called", "ill_mail/src/backup.rt", [

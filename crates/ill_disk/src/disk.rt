@@ -6,6 +6,8 @@ ghost use Rattle.ill_disk.specs.Calls.{DiskState, Reads, Creates, Changes, Answe
 ghost use Rattle.ill_disk.specs.declared.disk.DiskFault.TheVariants.{OutOfMemory};
 
 use std::alloc::{AllocError, AllocFailed, Global};
+use std::io;
+use std::io::ErrorKind;
 use thiserror::Error;
 
 /// The fault of a call.
@@ -38,6 +40,16 @@ impl<T: Drop> From<AllocFailed<T>> for DiskFault {
 
     fn from(_error: AllocFailed<T>) -> DiskFault {
         DiskFault::OutOfMemory
+    }
+}
+
+impl From<io::Error> for DiskFault {
+    fn from(error: io::Error) -> DiskFault {
+        match error.kind() {
+            ErrorKind::NotFound => DiskFault::NotFound,
+            ErrorKind::OutOfMemory => DiskFault::OutOfMemory,
+            _ => DiskFault::Failed,
+        }
     }
 }
 

@@ -265,27 +265,19 @@ fn folder_of(path: &str) -> &str
     }
 }
 
-/// Returns the path that these bytes encode.
-fn path_of(path: &[u8]) -> io::Result<&str> {
+/// Returns the path that these bytes encode, or `InvalidInput` if they are no UTF-8.
+pub fn path_of(path: &[u8]) -> io::Result<&str> {
     match str::from_utf8(path) {
         Ok(path) => Ok(path),
         Err(_) => Err(ErrorKind::InvalidInput.into()),
     }
 }
 
-/// Returns the fault of a call for the error of the host.
+/// Returns the fault of a call that takes no memory, for the error of the host.
 fn fault_of(error: &io::Error) -> DiskFault {
     match error.kind() {
         ErrorKind::NotFound => DiskFault::NotFound,
         _ => DiskFault::Failed,
-    }
-}
-
-/// Returns the fault of a read of bytes, which takes memory.
-fn read_fault_of(error: &io::Error) -> DiskFault {
-    match error.kind() {
-        ErrorKind::OutOfMemory => DiskFault::OutOfMemory,
-        _ => fault_of(error),
     }
 }
 
@@ -306,7 +298,7 @@ fn read_all<F: Read + Drop>(alloc: Global, file: F, limit: usize) -> Result<(Vec
     match file.read_to_end(&mut bytes) {
         Ok(_) if bytes.len() > limit => Err(DiskFault::TooLarge),
         Ok(_) => Ok((bytes, file.into_inner())),
-        Err(error) => Err(read_fault_of(&error)),
+        Err(error) => Err(error.into()),
     }
 }
 

@@ -10,5 +10,5 @@ pub mod regular_file;
 
 pub use disk::{Disk, DiskFault};
 pub use disk_with_past::DiskWithPast;
-pub use host_disk::HostDisk;
+pub use host_disk::{HostDisk, path_of};
 pub use memory_disk::MemoryDisk;

@@ -3,7 +3,7 @@
 ghost use Rattle.ill_mailbox.specs.HostMails.{host_mails};
 
 use crate::folders::{flush_folder, make_folder};
-use ill_disk::{Disk, DiskFault, HostDisk, regular_file};
+use ill_disk::{Disk, DiskFault, HostDisk, path_of, regular_file};
 use ill_files::durable::{Owner, flush};
 use ill_files::paths::folder_of;
 use ill_mail_disk::{Found, MailDisk};
@@ -12,7 +12,7 @@ use std::fs::{Metadata, OpenOptions};
 use std::io::{ErrorKind, Write};
 use std::os::unix::fs::{MetadataExt, OpenOptionsExt};
 use std::rt::Files;
-use std::{fs, io, mem, str};
+use std::{fs, io, mem};
 
 /// The files of mails on the host. A path of a call is a path of the host's.
 ///
@@ -114,31 +114,6 @@ impl<'r, T: Files> HostMails<'r, T> {
     }
 }
 
-/// Returns the path that these bytes encode.
-fn text_of(path: &[u8]) -> Result<&str, DiskFault> {
-    match str::from_utf8(path) {
-        Ok(path) => Ok(path),
-        Err(_) => Err(DiskFault::Failed),
-    }
-}
-
-/// Returns the fault of a call for the error of the host.
-fn fault_of(error: &io::Error) -> DiskFault {
-    match error.kind() {
-        ErrorKind::NotFound => DiskFault::NotFound,
-        ErrorKind::OutOfMemory => DiskFault::OutOfMemory,
-        _ => DiskFault::Failed,
-    }
-}
-
-/// Returns the answer of a call for that of the host.
-fn answer_of(answer: io::Result<()>) -> Result<(), DiskFault> {
-    match answer {
-        Ok(()) => Ok(()),
-        Err(error) => Err(fault_of(&error)),
-    }
-}
-
 /// Returns the error of the host for the fault of a call.
 pub(crate) fn error_of(fault: DiskFault) -> io::Error {
     match fault {
@@ -171,27 +146,27 @@ impl<'r, T: Files> Disk for HostMails<'r, T> {
         path: &[u8],
         limit: usize,
     ) -> Result<Option<Vec<u8>>, DiskFault> {
-        HostDisk::at(self.rt, alloc, text_of(path)?)?.read(alloc, path, limit)
+        HostDisk::at(self.rt, alloc, path_of(path)?)?.read(alloc, path, limit)
     }
 
     fn look_up(&mut self, path: &[u8]) -> Result<(), DiskFault> {
-        HostDisk::at(self.rt, self.alloc, text_of(path)?)?.look_up(path)
+        HostDisk::at(self.rt, self.alloc, path_of(path)?)?.look_up(path)
     }
 
     fn create_new(&mut self, path: &[u8], bytes: &[u8]) -> Result<(), DiskFault> {
-        answer_of(self.create(text_of(path)?, bytes))
+        Ok(self.create(path_of(path)?, bytes)?)
     }
 
     fn flush(&mut self, path: &[u8]) -> Result<(), DiskFault> {
-        answer_of(self.flush_at(text_of(path)?))
+        Ok(self.flush_at(path_of(path)?)?)
     }
 
     fn rename(&mut self, from: &[u8], to: &[u8]) -> Result<(), DiskFault> {
-        answer_of(fs::rename(self.rt, text_of(from)?, text_of(to)?))
+        Ok(fs::rename(self.rt, path_of(from)?, path_of(to)?)?)
     }
 
     fn remove(&mut self, path: &[u8]) -> Result<(), DiskFault> {
-        answer_of(fs::remove_file(self.rt, text_of(path)?))
+        Ok(fs::remove_file(self.rt, path_of(path)?)?)
     }
 
     /// No folder has all names.
@@ -202,29 +177,29 @@ impl<'r, T: Files> Disk for HostMails<'r, T> {
 
 impl<'r, T: Files> MailDisk for HostMails<'r, T> {
     fn find(&mut self, path: &[u8]) -> Result<Option<Found>, DiskFault> {
-        match fs::symlink_metadata(self.rt, text_of(path)?) {
+        match fs::symlink_metadata(self.rt, path_of(path)?) {
             Ok(found) => Ok(Some(Found {
                 file: number_of(&found),
                 size: size_of(&found),
             })),
             Err(error) if error.kind() == ErrorKind::NotFound => Ok(None),
-            Err(error) => Err(fault_of(&error)),
+            Err(error) => Err(error.into()),
         }
     }
 
     fn link(&mut self, from: &[u8], to: &[u8]) -> Result<(), DiskFault> {
-        answer_of(fs::hard_link(self.rt, text_of(from)?, text_of(to)?))
+        Ok(fs::hard_link(self.rt, path_of(from)?, path_of(to)?)?)
     }
 
     fn flush_name(&mut self, path: &[u8]) -> Result<(), DiskFault> {
-        answer_of(self.flush_folder_of(text_of(path)?))
+        Ok(self.flush_folder_of(path_of(path)?)?)
     }
 
     fn make_folder(&mut self, path: &[u8]) -> Result<(), DiskFault> {
-        answer_of(self.make_own(text_of(path)?))
+        Ok(self.make_own(path_of(path)?)?)
     }
 
     fn remove_folder(&mut self, path: &[u8]) -> Result<(), DiskFault> {
-        answer_of(fs::remove_dir(self.rt, text_of(path)?))
+        Ok(fs::remove_dir(self.rt, path_of(path)?)?)
     }
 }

@@ -1,7 +1,7 @@
 """Tries the wrong bodies that the prover must refuse at what they change.
 
 It works on copies, over the libraries below a crate as `make check` has proved them, and builds those that are not
-there. LANES says how many crates are tried side by side.
+there. LANES says how many checks are made side by side.
 
 An edit is a file: lines `file: src/day.rt` and after each pairs of `old: TEXT` and `new: TEXT`, as the module `edits`
 says. An edit changes the body of one function, which must be refused, or else lines `refuses: PATH` name the functions
@@ -36,11 +36,15 @@ import shutil
 import subprocess
 import sys
 import tempfile
+import threading
 
 from ill.repository import full, libraries, read, stand_on, write
 from ill.strength.edits import BadEdit, Pair, change, changed, places_of
 
 PARTS = ("src", "specs", "proofs")
+LANES = int(os.environ.get("LANES", "1"))
+# What a check takes while it runs.
+CHECKS = threading.BoundedSemaphore(LANES)
 AXIOM = """use Rattle.{crate}.proofs.{path}.Statement.{{statement}}
 
 axiom pub {name}_spec : {{M : Type 1}} → statement M
@@ -247,7 +251,6 @@ class Trial:
         self.crate, self.functions, self.room, self.source = crate, functions, room, full("crates", crate)
         self.is_gate = is_gate
         self.words = [f"{kit()}/bin/rattle", "check", *words_of(crate), "--allow-holes", "--jobs", "1"]
-        self.words += ["--incremental", f"{room}/kept"]
         self.beside = {f"{edit.body_of.path}_wrong_{number}": edit for number, edit in enumerate(edits) if edit.body_of}
         self.in_place = [edit for edit in edits if not edit.body_of]
         self.right = sorted({path for edit in edits for path in edit.refuses})
@@ -293,11 +296,14 @@ class Trial:
         name = rf"\g<1>{path.rpartition('::')[2]}"
         return re.sub(r"(?m)^( *(?:pub(?:\([\w ]+\))? )?(?:const )?fn )\w+", name, texts[it.file], count=1)
 
-    def check(self, folder, paths):
-        """Checks these functions in a copy: what is said of each, and all that is printed."""
+    def check(self, folder, paths, kept="kept"):
+        """Checks these functions in a copy: what is said of each, and all that is printed. It begins with what the last
+        check with these `kept` has proved."""
         how = {"cwd": folder, "stdin": subprocess.DEVNULL, "stdout": subprocess.PIPE, "stderr": subprocess.STDOUT}
-        words = [*self.words, *(word for path in paths for word in ("--only", path))]
-        printed = subprocess.run(words, text=True, errors="replace", check=False, **how).stdout
+        words = [*self.words, "--incremental", f"{self.room}/{kept}"]
+        words += [word for path in paths for word in ("--only", path)]
+        with CHECKS:
+            printed = subprocess.run(words, text=True, errors="replace", check=False, **how).stdout
         said = dict(re.findall(rf"(?m)^fn {self.crate}::(\S+): (.*)$", printed))
         errors = [line for line in printed.splitlines() if re.match(ERROR, line)]
         unread = [it for it in errors if re.match(r"(\./)?(src|specs)/\S+: error: ", it) and re.search(UNREAD, it)]
@@ -325,24 +331,25 @@ class Trial:
                 yield None, UNTRIED, f"{path} is not proved without any edit: {said.get(path)}"
         for path, edit in self.beside.items():
             yield edit, *self.how(said, printed, path, edit.body_of.path, bare, bare)
-        for edits in rounds_of(self.in_place):
-            yield from self.judge_in_place(edits, bare)
+        rounds = rounds_of(self.in_place)
+        with concurrent.futures.ThreadPoolExecutor(LANES) as lanes:
+            for found in lanes.map(lambda at: self.judge_in_place(at, rounds[at], bare), range(len(rounds))):
+                yield from found
 
     def is_left(self, said, printed, path, right):
         """Returns true if a function that stands for a right one is to be checked without its answers."""
         is_refused = self.is_gate and refusal(said, printed, path)[0]
         return right in self.answered and not is_proved(said, path) and not is_refused
 
-    def check_bare(self, folder, paths):
+    def check_bare(self, folder, paths, kept="kept"):
         """Returns what is said of these functions in a copy without their answers, or nothing if there are none."""
         if not paths:
             return {}
-        bare = f"{self.room}/bare"
-        shutil.rmtree(bare, ignore_errors=True)
-        shutil.copytree(folder, bare)
-        for path in paths:
-            os.remove(f"{bare}/{answers_of(path)}")
-        return self.check(bare, paths)[0]
+        with tempfile.TemporaryDirectory(prefix="bare-", dir=self.room) as bare:
+            shutil.copytree(folder, bare, dirs_exist_ok=True)
+            for path in paths:
+                os.remove(f"{bare}/{answers_of(path)}")
+            return self.check(bare, paths, kept)[0]
 
     def how(self, said, printed, path, right, bare, right_bare):
         """Returns how a function was refused that stands for a right one, by what is said of both without their answers
@@ -364,25 +371,28 @@ class Trial:
             return AT_GOAL, f"without its answers, at {', '.join(own)}, and the right body at nothing alike"
         return FOR_WANT, f"{', '.join(goals)}, as of the right body"
 
-    def judge_in_place(self, edits, right_bare):
-        """Yields what became of edits that are made together in place."""
-        folder = f"{self.room}/in_place"
-        shutil.rmtree(folder, ignore_errors=True)
+    def judge_in_place(self, number, edits, right_bare):
+        """Returns what became of edits that are made together in place, in the round of this number."""
+        folder, kept = f"{self.room}/round-{number}", f"kept-{number}"
         shutil.copytree(f"{self.room}/whole", folder)
+        # A check replaces files of what is kept, and writes in none.
+        if os.path.isdir(f"{self.room}/kept"):
+            shutil.copytree(f"{self.room}/kept", f"{self.room}/{kept}", copy_function=os.link)
         paths = sorted({path for edit in edits for path in edit.refuses})
         try:
             for edit in edits:
                 change(folder, edit.pairs)
-            said, printed = self.check(folder, paths)
+            said, printed = self.check(folder, paths, kept)
             left = [path for path in paths if self.is_left(said, printed, path, path)]
-            bare = self.check_bare(folder, left)
-            right_bare = self.check_bare(f"{self.room}/whole", left) if self.is_gate else right_bare
+            bare = self.check_bare(folder, left, kept)
+            right_bare = self.check_bare(f"{self.room}/whole", left, kept) if self.is_gate else right_bare
         except BadEdit as bad:
-            yield from ((edit, UNTRIED, str(bad)) for edit in edits)
-            return
-        for edit in edits:
-            found = [self.how(said, printed, path, path, bare, right_bare) for path in edit.refuses]
-            yield edit, worst(found), "; ".join(what for _, what in found)
+            return [(edit, UNTRIED, str(bad)) for edit in edits]
+        finally:
+            shutil.rmtree(folder)
+            shutil.rmtree(f"{self.room}/{kept}", ignore_errors=True)
+        found = [[self.how(said, printed, path, path, bare, right_bare) for path in edit.refuses] for edit in edits]
+        return [(edit, worst(each), "; ".join(what for _, what in each)) for edit, each in zip(edits, found)]
 
 
 def answers_of(path):
@@ -477,7 +487,7 @@ def perform(asked, is_gate):
     well."""
     for crate in asked:
         build_below(crate)
-    # The longest first.
+    # The longest first. While a crate waits for a lane, the checks of others go on.
     order = sorted(asked, key=lambda crate: -len(known(is_gate)[crate]))
-    with concurrent.futures.ThreadPoolExecutor(int(os.environ.get("LANES", "1"))) as lanes:
+    with concurrent.futures.ThreadPoolExecutor(2 * LANES) as lanes:
         return tell(list(lanes.map(lambda crate: try_crate(crate, asked[crate], is_gate), order)))

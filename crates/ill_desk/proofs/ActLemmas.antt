@@ -44,7 +44,7 @@ module _ {L K : Type 0} (effects : Effects L K) (key : K) where
   trial_unread : (named : Option Action) (now : CommandState L) → RunsTrial effects key named now (Err OutOfMemory) now
   trial_unread None now = words_unread None now
   trial_unread (Some action) now =
-      (Err OutOfMemory, [], (refl, inr (refl, refl)), Appends-nil now.written, (refl, refl))
+      (Err OutOfMemory, [], (refl, inr (refl, refl), refl), Appends-nil now.written, (refl, refl))
 
   -- If the words name no action, a trial may return the fault `Arguments` when it writes and changes nothing.
   none_tried : (named : Option Action) (now : CommandState L) → named ≡ None → RunsTrial effects key named now (Err Arguments) now

@@ -82,6 +82,7 @@ TriesAction effects key old action result new =
     × (((result ≡ (acted old.live (effects.acts old.live key action)).0)
     × (new.live ≡ (acted old.live (effects.acts old.live key action)).1))
     ⊎ ((result ≡ Err OutOfMemory) × (new.live ≡ old.live)))
+    × (new.path ≡ old.path)
 
 -- The command `act`, if the action is only tried. Its line is that of the action, as if it was saved.
 abbrev pub RunsTrial : {L K : Type 0} → Effects L K → K → Option Action → CommandState L → Result Bool ToolFault →

@@ -20,8 +20,9 @@ use Rattle.ill_text.specs.Fault.{refused}
 
 -- ---- the known state
 
--- The sides that a desk holds, and the content of its store, if it is known.
+-- The path of a desk, if it has one, the sides that it holds, and the content of its store, if it is known.
 pub record HeldAndLanded (L : Type 0) : Type 0 where
+  pub path : Option (List ℕ)
   pub live : L
   pub landed : Option (Option (List ℕ))
 
@@ -34,9 +35,13 @@ known_if false landed = None
 abbrev pub known : StoreState → Option (Option (List ℕ))
 known store = known_if store.is_honest store.landed
 
--- Returns the sides that `desk` holds, and the content of its store, if it is known.
+-- Returns the path of `desk`, the sides that it holds, and the content of its store, if it is known.
 abbrev pub view_of : {L S : Type 0} → (S → StoreState) → DeskOf L S → HeldAndLanded L
-view_of state desk = record { live = desk.live; landed = known (state desk.store) }
+view_of state desk = record {
+  path = (state desk.store).path;
+  live = desk.live;
+  landed = known (state desk.store);
+}
 
 -- The state of a command: the desk, what is left of its input, what it keeps of the messages that came, and its output.
 -- A stream whose bytes are not known, or that the command does not have, is `None`.
@@ -64,7 +69,7 @@ with_sides old live = record old { live = live }
 
 -- Returns the state after a save of the sides that the desk holds.
 abbrev pub saved : {L K : Type 0} → Effects L K → HeldAndLanded L → HeldAndLanded L
-saved effects old = record {
+saved effects old = record old {
   live = effects.saves old.live;
   landed = option_map (λ _. Some (effects.encoding old.live)) old.landed;
 }
@@ -168,5 +173,5 @@ EndsRun effects run old (Err Write) new =
 EndsRun effects run old (Err (Desk (desks.Store Failed))) new =
     (new.written ≡ old.written) × (run.has_changed ≡ true) × IsFaulted effects (with_sides old.desk run.live) new.desk
 EndsRun effects run old (Err OutOfMemory) new =
-    (new.written ≡ old.written) × (new.desk.landed ≡ old.desk.landed)
+    (new.written ≡ old.written) × (new.desk.landed ≡ old.desk.landed) × (new.desk.path ≡ old.desk.path)
 EndsRun effects run old (Err other) new = ⊥

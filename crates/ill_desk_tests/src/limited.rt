@@ -27,6 +27,7 @@ impl LimitedStore {
 /// Failures are counted by the store in memory.
 impl Store for LimitedStore {
     ghost state = { λ s. record {
+      path = None;
       landed = None;
       failures = s.store.failures;
       is_honest = false;

@@ -29,7 +29,7 @@ no_mails = record { verdicts = []; mails = []; waiting = 0 }
 module _ (others : List Apdu) (before : Library) (held : SidesOf) (read : records_at before.file ≡ Ok held) where
   -- The state of the command, from its start to its end.
   abbrev state : CommandState DeskContents
-  state = command_state (record { live = whole_of held; landed = Some (Some before.file) }) None
+  state = command_state (record { path = None; live = whole_of held; landed = Some (Some before.file) }) None
 
   -- The messages that leave.
   abbrev leaving : List Apdu

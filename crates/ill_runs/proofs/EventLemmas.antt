@@ -92,7 +92,7 @@ read_back (Err fault) all is = absurd cc
 -- If the sides `live` were saved in a store of known content, and their record is read as these sides, the store has them.
 pub landed_again : (content : Option (Option (List ℕ))) (landed : SidesOf) (live : DeskContents)
     → IsReadAs content landed → IsReadAgain many_sides live
-    → IsReadAs (saved many_sides (record { live = live; landed = content })).landed (sides_held live)
+    → IsReadAs (saved many_sides (record { path = None; live = live; landed = content })).landed (sides_held live)
 landed_again (Some (Some bytes)) landed live is again = read_back (records_at (sides_encoding (sides_held live))) _ again
 landed_again (Some None) landed live is again = absurd is
 landed_again None landed live is again = absurd is

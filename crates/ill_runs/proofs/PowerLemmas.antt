@@ -91,9 +91,10 @@ module _ (who : Role) (sent : List Sending) (p : DeskParty) (left : Option (List
       (true, ((refl, (refl, tt)), starts_as left (desk_restarts (desk_fails_to_save p true)) read refl))
 
 -- If the landed record or that of the live sides is left, a save that failed and a restart lead to its desk.
-pub fault_starts : (is_honest : Bool) (landed : Option (List ℕ)) (leaves : Option (List ℕ) → Type 0) (live : DeskContents)
+pub fault_starts : {path : Option (List ℕ)} (is_honest : Bool) (landed : Option (List ℕ))
+    (leaves : Option (List ℕ) → Type 0) (live : DeskContents)
     (who : Role) (sent : List Sending) (p : DeskParty) (left : Option (List ℕ))
-    → IsDesk (record { live = live; landed = known_if is_honest landed }) p → LeavesLanded landed leaves
+    → IsDesk (record { path = path; live = live; landed = known_if is_honest landed }) p → LeavesLanded landed leaves
     → IsReadAgain many_sides live → leaves left ⊎ (left ≡ Some (many_sides.encoding live))
     → IsFaultAndRestart who sent p left
 fault_starts is_honest landed leaves live who sent p left is lasts again either = elim either [
@@ -104,9 +105,10 @@ fault_starts is_honest landed leaves live who sent p left is lasts again either 
 -- ---- what may be left
 
 -- If what has landed is left alone, the model knows it.
-pub loaded_left : (is_honest : Bool) (landed : Option (List ℕ)) (leaves : Option (List ℕ) → Type 0) (live : DeskContents)
-    (p : DeskParty) → IsDesk (record { live = live; landed = known_if is_honest landed }) p → LeavesLanded landed leaves
-    → IsPoweredDesk (record { live = live; landed = known_if is_honest landed }) leaves (on_record p)
+pub loaded_left : {path : Option (List ℕ)} (is_honest : Bool) (landed : Option (List ℕ))
+    (leaves : Option (List ℕ) → Type 0) (live : DeskContents) (p : DeskParty)
+    → IsDesk (record { path = path; live = live; landed = known_if is_honest landed }) p → LeavesLanded landed leaves
+    → IsPoweredDesk (record { path = path; live = live; landed = known_if is_honest landed }) leaves (on_record p)
 unfolding IsAmong
 loaded_left is_honest landed leaves live p is lasts = record {
   desk = is;

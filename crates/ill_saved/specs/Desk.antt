@@ -136,16 +136,20 @@ CountsDeskFailure answer old new = (old ≤ new) × DeskFailsCounted answer old 
 
 -- ---- the store of a desk
 
--- The store of a desk is in state `new` after a call that only loads. If it is honest, its landed bytes are unchanged.
+-- The store of a desk is in state `new` after a call that only loads. Its path stays. If it is honest, its landed bytes are
+-- unchanged.
 pub record DeskLoads {X : Type 0} (old : StoreState) (answer : Result X DeskFault) (new : StoreState) : Type 0 where
+  pub path : new.path ≡ old.path
   pub landed : old.is_honest ≡ true → new.landed ≡ old.landed
   pub counted : CountsDeskFailure answer old.failures new.failures
   pub honest : new.is_honest ≡ old.is_honest
   pub plan : new.plan ≡ plan_after_call old.plan
 
--- The store of a desk is in state `new` after a save of `bytes`. If it is honest, `SaveLands` gives its landed bytes.
+-- The store of a desk is in state `new` after a save of `bytes`. Its path stays. If it is honest, `SaveLands` gives its
+-- landed bytes.
 pub record DeskSaves (bytes : List ℕ) (old : StoreState) (answer : Result (Unit {0}) DeskFault) (new : StoreState)
     : Type 0 where
+  pub path : new.path ≡ old.path
   pub landed : old.is_honest ≡ true → SaveLands old.plan bytes answer old.landed new.landed
   pub counted : CountsDeskFailure answer old.failures new.failures
   pub honest : new.is_honest ≡ old.is_honest

@@ -13,7 +13,7 @@ ghost use Rattle.ill_store.specs.Store.{StoreState, most_failures};
 ghost use Rattle.ill_saved.specs.Holdings.{DeskEntry, IsBacked, IsBackedInSave, IsReadFault, MaySend, ReadHas, landed_live};
 ghost use Rattle.ill_saved.specs.OneSide.{OneBacks, one_side};
 ghost use Rattle.ill_saved.specs.ManySides.{DeskContents, ManyBack, many_sides};
-ghost use Rattle.ill_saved.specs.Desk.{DeskFailsCounted, DeskLoads, DeskTakes, IsCreateAnswer, IsLoadFault, IsSaveFault, LeavesBeforeOr, LeavesLanded, PlanAfter, RestartLeaves, SaveLands};
+ghost use Rattle.ill_saved.specs.Desk.{DeskFailsCounted, DeskLoads, DeskSaves, DeskTakes, IsCreateAnswer, IsLoadFault, IsSaveFault, LeavesBeforeOr, LeavesLanded, PlanAfter, RestartLeaves, SaveLands};
 
 use crate::desk::Desk;
 pub use ill_record::laws::{
@@ -66,7 +66,7 @@ pub fn no_call_has_the_fault_of_another()
 {}
 
 /// A save lands its bytes or leaves the old ones, as it answers. A load, a restart that fails and a message for which
-/// memory runs out change nothing. A failure is counted.
+/// memory runs out change nothing. No load and no save moves the record to another path. A failure is counted.
 #[tactic(auto, using(crate::proofs::BadAnswers::none_lands, crate::proofs::BadAnswers::none_plans))]
 pub fn no_call_changes_too_much()
     ensures lands { (plan : Option NextCall) (bytes : List ℕ) (answer : Result (Unit {0}) DeskFault)
@@ -75,6 +75,10 @@ pub fn no_call_changes_too_much()
         PlanAfter (Err OutOfMemory) old new → ⊥ }
     ensures loads { (old new : StoreState) (answer : Result (Option (List ℕ)) DeskFault) →
         (new.landed ≡ old.landed → ⊥) → old.is_honest ≡ true → DeskLoads old answer new → ⊥ }
+    ensures load_paths { (old new : StoreState) (answer : Result (Option (List ℕ)) DeskFault) →
+        (new.path ≡ old.path → ⊥) → DeskLoads old answer new → ⊥ }
+    ensures save_paths { (bytes : List ℕ) (old new : StoreState) (answer : Result (Unit {0}) DeskFault) →
+        (new.path ≡ old.path → ⊥) → DeskSaves bytes old answer new → ⊥ }
     ensures restarts { (old new : DeskContents) (fault : DeskFault) →
         (new ≡ old → ⊥) → RestartLeaves many_sides (Err fault) old new → ⊥ }
     ensures takes { (found : Result (Apdu × List ℕ) DerFault) (old new : DeskContents) →

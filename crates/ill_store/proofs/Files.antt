@@ -34,3 +34,24 @@ save_counts old new (Ok done) saves = (tt, (no_failure old new saves, tt))
 save_counts old new (Err Failed) saves = (tt, failure_counted old new saves)
 save_counts old new (Err TooLarge) saves = absurd saves
 save_counts old new (Err OutOfMemory) saves = absurd saves
+
+-- Returns the path of a store in a file, as the state of each store has it.
+abbrev path_in : FileStoreState → Option (List ℕ)
+path_in store = Some store.path
+
+-- If a load of a store in a file satisfies its contract, it keeps the path.
+pub load_keeps_path : {X : Type 0} (bytes_of : X → List ℕ) (old new : FileStoreState)
+    (answer : Result (Option X) StoreFault) → FileLoads bytes_of old answer new → Some new.path ≡ Some old.path
+load_keeps_path bytes_of old new (Ok (Some found)) loads = ap path_in loads.1
+load_keeps_path bytes_of old new (Ok None) loads = ap path_in loads
+load_keeps_path bytes_of old new (Err Failed) loads = ap path_in loads
+load_keeps_path bytes_of old new (Err TooLarge) loads = ap path_in loads
+load_keeps_path bytes_of old new (Err OutOfMemory) loads = ap path_in loads
+
+-- If a save of a store in a file satisfies its contract, it keeps the path.
+pub save_keeps_path : (old new : FileStoreState) (answer : Result (Unit {0}) StoreFault) → FileSaves old answer new
+    → Some new.path ≡ Some old.path
+save_keeps_path old new (Ok done) saves = ap path_in saves
+save_keeps_path old new (Err Failed) saves = ap path_in saves
+save_keeps_path old new (Err TooLarge) saves = absurd saves
+save_keeps_path old new (Err OutOfMemory) saves = absurd saves

@@ -19,6 +19,7 @@ aside_of path = path ++ codes ".new"
 -- honest as its disk.
 abbrev pub store_state : {D : Type 0} → (D → DiskState) → DiskStoreOf D → StoreState
 store_state state store = record {
+  path = Some store.path;
   landed = content store.path (state store.disk).now;
   failures = store.failures;
   is_honest = (state store.disk).is_honest;

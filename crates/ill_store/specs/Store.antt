@@ -77,18 +77,20 @@ IsNotTooLarge answer = Unit {0}
 
 -- ---- the calls
 
--- The state of a store: its landed bytes, the number of failed calls, and the plan of its next call.
--- `is_honest` is true if the store does as it answers.
+-- The state of a store: the path of its file, if it has one, its landed bytes, the number of failed calls, and the plan of
+-- its next call. `is_honest` is true if the store does as it answers.
 pub record StoreState : Type 0 where
+  pub path : Option (List ℕ)
   pub landed : Option (List ℕ)
   pub failures : ℕ
   pub is_honest : Bool
   pub plan : Option NextCall
 
--- The store answers a load, and is in the state `new` after it.
+-- The store answers a load, and is in the state `new` after it. Its path stays.
 -- An honest store gives the landed bytes, does not change them, and follows its plan.
 pub record StoreLoads {X : Type 0} (bytes_of : X → List ℕ) (old : StoreState) (answer : Result (Option X) StoreFault)
     (new : StoreState) : Type 0 where
+  pub path : new.path ≡ old.path
   pub loaded : old.is_honest ≡ true → IfOk answer (λ found. option_map bytes_of found ≡ old.landed)
   pub planned : old.is_honest ≡ true → Allows old.plan answer
   pub landed : old.is_honest ≡ true → new.landed ≡ old.landed
@@ -96,10 +98,11 @@ pub record StoreLoads {X : Type 0} (bytes_of : X → List ℕ) (old : StoreState
   pub honest : new.is_honest ≡ old.is_honest
   pub plan : new.plan ≡ plan_after_call old.plan
 
--- The store answers a save of `bytes`, and is in the state `new` after it.
+-- The store answers a save of `bytes`, and is in the state `new` after it. Its path stays.
 -- In an honest store the bytes land as it answers, and it follows its plan.
 pub record StoreSaves (bytes : List ℕ) (old : StoreState) (answer : Result (Unit {0}) StoreFault) (new : StoreState)
     : Type 0 where
+  pub path : new.path ≡ old.path
   pub planned : old.is_honest ≡ true → Allows old.plan answer
   pub landed : old.is_honest ≡ true → LandsAtSave old.plan bytes answer old.landed new.landed
   pub large : IsNotTooLarge answer

@@ -1,6 +1,6 @@
 //! A store in a file.
 
-ghost use Rattle.std.specs.Prelude.{◌≡◌, List, None, false, IfOk};
+ghost use Rattle.std.specs.Prelude.{◌≡◌, List, None, Some, false, IfOk};
 ghost use Rattle.ill_store.specs.Store.{FileStoreState, FileLoads, FileSaves};
 
 use crate::disk_store::DiskStore;
@@ -53,6 +53,7 @@ impl<'a, R: Files> FileStore<'a, R> {
 /// `load` takes memory for the bytes alone. `save` takes no memory.
 impl<'a, R: Files> Store for FileStore<'a, R> {
     ghost state = { λ f. record {
+      path = Some f.path;
       landed = None;
       failures = f.failures;
       is_honest = false;

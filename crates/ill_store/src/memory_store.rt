@@ -74,6 +74,7 @@ impl MemoryStore {
 /// fails, or answers `OutOfMemory`.
 impl Store for MemoryStore {
     ghost state = { λ m. record {
+      path = None;
       landed = m.landed;
       failures = m.failures;
       is_honest = true;

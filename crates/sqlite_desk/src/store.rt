@@ -62,6 +62,7 @@ impl<S: Alter + Drop> SqliteStore<S> {
 /// disk is clean, which may end at any call. An honest store is honest for good. Each failed call is counted.
 impl<S: Alter + Drop> Store for SqliteStore<S> {
     ghost state = { λ s. record {
+      path = None;
       landed = None;
       failures = s.failures;
       is_honest = false;

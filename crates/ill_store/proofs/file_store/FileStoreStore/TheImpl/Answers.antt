@@ -1,13 +1,14 @@
 -- Proves the contracts of the impl of `Store` for `FileStore` (`src/file_store.rt`).
 -- Each call that fails counts its failure, and no contract states the content of a file.
 use Rattle.std.proofs.Common.{rules, refl}
-use Rattle.ill_store.proofs.Files.{load_counts, save_counts}
+use Rattle.ill_store.proofs.Files.{load_counts, load_keeps_path, save_counts, save_keeps_path}
 use Rattle.ill_store.proofs.file_store.FileStoreStore.TheImpl.Goals as goal
 
 -- A load of a store in a file satisfies the contract of each store.
 pub load-tells : goal.load-tells
 load-tells g c = record {
   loads = record {
+    path = load_keeps_path (λ b. b.items) c.args.self.now c.new.self.now c.result c.ensures;
     loaded = λ honest. search rules;
     planned = λ honest. tt;
     landed = λ honest. refl;
@@ -25,6 +26,7 @@ save-tells g c =
     let told = save_counts c.args.self.now c.new.self.now c.result c.ensures in
     record {
       saves = record {
+        path = save_keeps_path c.args.self.now c.new.self.now c.result c.ensures;
         planned = λ honest. tt;
         landed = λ honest. search rules;
         large = told.0;

@@ -8,6 +8,7 @@ use Rattle.sqlite_desk.proofs.store.SqliteStoreStore.TheImpl.Goals as goal
 pub load-tells : goal.load-tells
 load-tells g c = record {
   loads = record {
+    path = refl;
     loaded = λ honest. search rules;
     planned = λ honest. tt;
     landed = λ honest. refl;
@@ -23,6 +24,7 @@ load-tells g c = record {
 pub save-tells : goal.save-tells
 save-tells g c = record {
   saves = record {
+    path = refl;
     planned = λ honest. tt;
     landed = λ honest. search rules;
     large = not_too_large c.args.self.now.failures c.new.self.now.failures c.result c.ensures;

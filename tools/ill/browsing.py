@@ -26,7 +26,6 @@ DAY = "20250301"
 HOST = "ill.example"  # a name that no browser trusts without TLS
 TITLE = "Öl & <b>Wein</b> – \"ein Buch\""
 ARABIC, CHINESE, LONG = "ألف ليلة وليلة", "東京の図書館", "M" * 200
-CHANGED = "the loan has changed"
 STATUS = "return performance.getEntriesByType('navigation')[0].responseStatus"
 
 
@@ -126,8 +125,8 @@ class Clerk:
         self.browser.leave(lambda: self.browser.press(button))
         return self.status()
 
-    def asks(self, txn, title=TITLE, day=None):
-        """Begins a loan at the page of the requester. Returns the status of the page that comes."""
+    def fills_request(self, txn, title=TITLE, day=None):
+        """Fills in the form of a new loan at the page of the requester, and returns its button."""
         self.at("borrow")
         form = self.form("request")
         self.browser.run("document.querySelector('details').open = true")
@@ -135,7 +134,12 @@ class Clerk:
             self.browser.fill(self.browser.one(f"{form} input[name={name}]:not([type=hidden])"), text)
         if day:
             self.browser.fill(self.browser.one(f"{form} input[type=date]"), day)
-        self.browser.leave(lambda: self.browser.press(self.browser.one(f"{form} button")))
+        return self.browser.one(f"{form} button")
+
+    def asks(self, txn, title=TITLE, day=None):
+        """Begins a loan at the page of the requester. Returns the status of the page that comes."""
+        button = self.fills_request(txn, title, day)
+        self.browser.leave(lambda: self.browser.press(button))
         return self.status()
 
     def status(self):
@@ -149,13 +153,19 @@ class Clerk:
     def console(self, *meant):
         """Returns a fault if the console has other messages than those of these statuses."""
         told = self.browser.messages()
-        found = [next((status for status in ("401", "403", "409", "503") if f"status of {status}" in it), it) for it in told]
+        found = [next((status for status in ("401", "403", "409", "500", "503") if f"status of {status}" in it), it) for it in told]
         return harness.differs("console", found, list(meant))
 
 
 def differs(what, found, wanted):
     """Returns a fault if two values differ."""
     return harness.differs(what, str(found), str(wanted))
+
+
+def is_told(clerk, *words):
+    """Returns a fault if the notice of the page lacks a word."""
+    notice = clerk.notice()
+    return None if all(word in notice for word in words) else f"the notice is {notice!r}"
 
 
 # ---- A loan
@@ -208,12 +218,21 @@ def changed_between(clerk):
     house.ill.well(["act", house.desk("borrow"), "G1", "Web-1", "cancel"])
     before = house.bytes("borrow")
     first = clerk.does("cancel")
-    notice, forms = clerk.notice(), len(clerk.browser.all(clerk.form("cancel")))
-    REPORT.tell("changed in between", differs("status", first, 409), None if CHANGED in notice else f"the notice is {notice!r}",
-                differs("forms to cancel", forms, 0), clerk.console("409"))
+    told, forms = is_told(clerk, "Nothing was done", "the loan has changed"), len(clerk.browser.all(clerk.form("cancel")))
+    REPORT.tell("changed in between", differs("status", first, 409), told, differs("forms to cancel", forms, 0), clerk.console("409"))
     clerk.browser.leave(clerk.browser.reload)
     REPORT.tell("a reload of a 409", differs("status", clerk.status(), 409), clerk.console("409"),
                 None if house.bytes("borrow") == before else "the desk has changed")
+
+
+def reloaded(clerk):
+    """Loads the page anew that comes after an action: it shows the loan, and nothing is done again."""
+    clerk.asks("Web-8")
+    statuses = [clerk.does("cancel")]
+    before = clerk.site.house.bytes("borrow")
+    clerk.browser.leave(clerk.browser.reload)
+    REPORT.tell("a reload after an action", differs("statuses", [*statuses, clerk.status()], [200] * 2), clerk.console(),
+                differs("notice", clerk.notice(), ""), None if clerk.site.house.bytes("borrow") == before else "the desk has changed")
 
 
 def back_button(clerk):
@@ -281,15 +300,22 @@ def busy(clerk):
         look = clerk.at("borrow", "Web-5").status()
         status = clerk.does("cancel")
     REPORT.tell("a busy desk", differs("status of the page", look, 200), differs("status", status, 503), clerk.console("503"),
-                None if "Look again" in clerk.notice() else f"the notice is {clerk.notice()!r}",
-                None if house.bytes("borrow") == before else "the desk has changed")
+                is_told(clerk, "busy", "Look again"), None if house.bytes("borrow") == before else "the desk has changed")
 
 
-def damaged(clerk, servers):
-    """Shows a damaged desk beside another."""
-    house = clerk.site.house
-    harness.write(f"{house.folder}/broken", b"ILL2?")
-    servers.script("both", "--origin", clerk.site.origin, "--today", DAY, f"{house.folder}/broken", house.desk("borrow"))
+def damaged(clerk, servers, program):
+    """Shows a damaged desk beside another. A form at a desk that was damaged since is told whom to ask."""
+    house, desk = clerk.site.house, f"{clerk.site.house.folder}/broken"
+    harness.Program(program).well(["new", desk, "requester"])
+    harness.Program(program).well(["act", desk, "G1", "Broken-1", "request", "none", "Maps"])
+    servers.script("both", "--origin", clerk.site.origin, "--today", DAY, desk, house.desk("borrow"))
+    query = urllib.parse.urlencode({"desk": desk, "group": "G1", "transaction": "Broken-1"})
+    clerk.browser.go(clerk.site.url("both", f"?{query}"))
+    button = clerk.fills("cancel")
+    harness.write(desk, b"ILL2?")
+    clerk.browser.leave(lambda: clerk.browser.press(button))
+    REPORT.tell("a form at a damaged desk", differs("status", clerk.status(), 500), clerk.console("500"),
+                is_told(clerk, "damaged", "the operator"), None if harness.read(desk) == b"ILL2?" else "the desk has changed")
     clerk.at("both")
     text = clerk.browser.text()
     REPORT.tell("a damaged desk beside another", differs("status", clerk.status(), 200), clerk.console(),
@@ -330,6 +356,7 @@ def full_disk(clerk, servers, program):
         clerk.browser.go(clerk.site.url("disk", f"?{query}"))
         status = clerk.does("cancel")
         REPORT.tell("a full disk" if disk else "a limit of the size of files", differs("status", status, 503), clerk.console("503"),
+                    is_told(clerk, "written", "Look again", "the operator"),
                     None if harness.read(desk) == before else "the desk has changed")
 
 
@@ -344,6 +371,16 @@ def two_clerks(clerk, other):
     diary = harness.read(f"{house.desk('borrow')}.diary").decode()
     REPORT.tell("two clerks", differs("statuses", found, [200, 409]), clerk.console(), other.console("409"), None if re.search(
         r"anna .*Web-6", diary) and re.search(r"bert .*Web-7", diary) and not re.search(r"bert .*Web-6", diary) else f"the diary: {diary!r}")
+
+
+def same_number(clerk, other):
+    """Two clerks begin a loan with one number at once: the second is told that it was taken."""
+    button = other.fills_request("Web-9", "Rivers")
+    first = clerk.asks("Web-9", "Maps")
+    other.browser.leave(lambda: other.browser.press(button))
+    REPORT.tell("two requests with one number", differs("statuses", [first, other.status()], [200, 409]), clerk.console(),
+                other.console("409"), is_told(other, "Nothing was done", "its number was taken"),
+                differs("title", other.browser.text("h2"), "Maps"))
 
 
 def foreign_form(clerk, name, place):
@@ -542,11 +579,13 @@ class Stage:
         """Plays the loans and what goes wrong behind lighttpd, on the loopback."""
         port = self.servers.lighttpd()
         clerk = self.clerk(f"http://127.0.0.1:{port}")
-        for part in (one_loan, cancelled, refused, changed_between, back_button, double_click, ten_at_once, busy):
+        for part in (one_loan, cancelled, refused, changed_between, reloaded, back_button, double_click, ten_at_once, busy):
             attempt(part, clerk)
-        attempt(damaged, clerk, self.servers)
+        attempt(damaged, clerk, self.servers, self.programs[1])
         attempt(full_disk, clerk, self.servers, self.programs[1])
-        attempt(two_clerks, clerk, self.clerk(f"http://127.0.0.1:{port}", "bert"))
+        bert = self.clerk(f"http://127.0.0.1:{port}", "bert")
+        attempt(two_clerks, clerk, bert)
+        attempt(same_number, clerk, bert)
         attempt(strangers, clerk, self.servers)
         attempt(as_seen, clerk)
         attempt(by_keyboard, clerk)

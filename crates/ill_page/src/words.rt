@@ -199,14 +199,17 @@ pub const OTHER_GROUP: &str = "Nothing was done: this desk takes loans of anothe
 pub const NO_LOAN: &str = "This desk has no such loan.";
 
 /// The notice of a desk that is busy, or whose file failed.
-pub const BUSY: &str =
-    "The file of the desk is busy, or could not be read or written. Look again before you act.";
+pub const BUSY: &str = "\
+The file of the desk is busy, or could not be read or written. Look again before you act. \
+If this comes again, tell the operator of this page.";
 
-/// The notice of a file that is no desk.
-pub const NO_DESK_FILE: &str = "The file of the desk is no desk: see ill verify.";
+/// The notice of a file that is not there, or is no desk.
+pub const NO_DESK_FILE: &str = "\
+The file of the desk is missing or damaged. Tell the operator of this page: ill verify says more.";
 
 /// The notice of a request for which memory ran out.
-pub const OUT_OF_MEMORY: &str = "Memory ran out.";
+pub const OUT_OF_MEMORY: &str = "\
+Memory ran out. Look again before you act. If this comes again, tell the operator of this page.";
 
 // ---- Forms that were not done
 
@@ -219,6 +222,7 @@ pub const FAULT_END: &str = ".";
 /// The notice of a form that names no action.
 pub const NO_ACTION: &str = "Nothing was done: a field of the form is missing or wrong.";
 
-/// The notice of a form whose loan has changed.
-pub const CHANGED: &str =
-    "Nothing was done: the loan has changed since your page showed it. This is how it is now.";
+/// The notice of a form whose loan has changed, or of a new loan whose number another has by now.
+pub const CHANGED: &str = "\
+Nothing was done: the loan has changed since your page showed it, or its number was taken. \
+This is how it is now.";

@@ -568,7 +568,6 @@ class Stage:
         os.makedirs(f"{folder}/desks")
         self.servers, self.house = Servers(f"{folder}/site", programs[0]), House(programs[1], f"{folder}/desks")
         self.driver = Driver(folder, free_port())
-        self.driver.wait()
 
     def clerk(self, origin, user="anna", folder="ill"):
         """Begins a browser at a site with this origin, where a user logs in."""
@@ -659,6 +658,7 @@ def perform(programs):
         os.chmod(folder, 0o755)
         stage = Stage(programs, folder)
         try:
+            stage.driver.wait()
             stage.perform()
         finally:
             stage.end()

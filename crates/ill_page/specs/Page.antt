@@ -89,7 +89,7 @@ loan_page seen notice =
 
 -- ---- the page of figures
 
--- Returns the page with the lines of figures.
-unfoldable pub figures_page : Date → (lines : List ℕ) → List ℕ
-figures_page today lines =
-    begun_text today [] ++ (COUNTED.now ++ (html_escaped lines ++ (COUNTED_END.now ++ END.now)))
+-- Returns the page with the lines of figures, and a notice before them. It has none if `notice` is empty.
+unfoldable pub figures_page : Date → (notice lines : List ℕ) → List ℕ
+figures_page today notice lines =
+    begun_text today notice ++ (COUNTED.now ++ (html_escaped lines ++ (COUNTED_END.now ++ END.now)))

@@ -127,12 +127,17 @@ fn push_slip(page: &mut Vec<u8>, place: &Place<'_>) -> Result<(), OutOfMemory>
     push_plain(page, SLIP_END)
 }
 
-/// Returns the page with the lines of figures.
+/// Returns the page with the lines of figures, and a notice before them. It has none if `notice` is empty.
 #[tactic(auto, unfolding(crate::specs::Page::figures_page))]
-pub fn figures_page(alloc: Global, today: Day, lines: &[u8]) -> Result<Vec<u8>, OutOfMemory>
-    ensures { IfOk result (λ page. page.items ≡ figures_page today lines.now) }
+pub fn figures_page(
+    alloc: Global,
+    today: Day,
+    notice: &str,
+    lines: &[u8],
+) -> Result<Vec<u8>, OutOfMemory>
+    ensures { IfOk result (λ page. page.items ≡ figures_page today notice.now lines.now) }
 {
-    let mut page = begun(alloc, today, "")?;
+    let mut page = begun(alloc, today, notice)?;
     push_plain(&mut page, COUNTED)?;
     push_html(&mut page, lines)?;
     push_plain(&mut page, COUNTED_END)?;

@@ -187,6 +187,10 @@ pub const NO_NAME: &str = "Nothing was done: a diary cannot name this user.";
 /// The notice of figures whose last day is before the first one.
 pub const NO_SPAN: &str = "The last day of the figures is before the first one.";
 
+/// The notice beside figures, if a desk cannot be read.
+pub const UNCOUNTED: &str =
+    "A desk cannot be read, and has no figures here. The page of all loans names it.";
+
 /// The notice of a note that is none.
 pub const NO_NOTE: &str = "A note has at most 200 bytes, and no control characters.";
 

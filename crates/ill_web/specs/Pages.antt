@@ -29,6 +29,7 @@ use Rattle.ill_page.specs.declared.reply.Status.TheVariants.{Good}
 use Rattle.ill_page.specs.Desks.{desk_part, desks_begin, desks_end}
 use Rattle.ill_page.specs.Page.{figures_page, loan_page, notice_page}
 use Rattle.ill_page.specs.Reply.{page_reply}
+use Rattle.ill_page.specs.declared.words.TheConstants.{UNCOUNTED}
 use Rattle.ill_web.specs.declared.trouble.Trouble.{Trouble}
 use Rattle.ill_web.specs.declared.trouble.Trouble.TheVariants as troubles
 use Rattle.ill_web.specs.Troubles.{Telling, no_memory}
@@ -167,13 +168,18 @@ ShowsSlip loan result =
     (page : List ℕ) × (answer : Result Bool ToolFault) × SlipAtFile loan.txn (Some []) (Some page) answer
     × ((result ≡ page_written page answer) ⊎ (result ≡ Err no_memory))
 
--- The reply has figures of the span, as `ill figures` writes them. A desk that cannot be read has none.
+-- Returns what is told beside figures whose command ended with `answer`. It is nothing if each desk was read.
+abbrev pub uncounted : Result Bool ToolFault → List ℕ
+uncounted (Ok is_well) = []
+uncounted (Err fault) = UNCOUNTED.now
+
+-- The reply has figures of the span, as `ill figures` writes them. A desk that cannot be read has none, and a notice says so.
 abbrev pub ShowsSpan : Date → Option Span → Result (List ℕ) Trouble → Type 0
 ShowsSpan today None result = result ≡ Err troubles.NoSpan
 ShowsSpan today (Some span) (Ok reply) =
     (lines : List ℕ) × (answer : Result Bool ToolFault)
     × CountsPaths (record { span = span; is_csv = false }) (Some []) (Some lines) answer
-    × (reply ≡ page_reply Good (figures_page today lines))
+    × (reply ≡ page_reply Good (figures_page today (uncounted answer) lines))
 ShowsSpan today (Some span) (Err trouble) = trouble ≡ no_memory
 
 -- The reply has the figures of the days from one to another, if the second is not before the first.

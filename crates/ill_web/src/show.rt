@@ -4,7 +4,7 @@ ghost use Rattle.std.specs.Prelude.{◌≡◌, ◌++◌, ◌==◌, [], length, m
 ghost use Rattle.ill_browser.specs.Wanted.{loan_asked};
 ghost use Rattle.ill_beside.specs.Since.{annex_of};
 ghost use Rattle.ill_page.specs.declared.reply.Status.TheVariants.{Good};
-ghost use Rattle.ill_web.specs.Pages.{AddsDesk, AddsDesks, AreLines, AtDesk, IsUnread, ShowsDesks, ShowsFigures, ShowsHeld, ShowsLoan, ShowsSlip, ShowsSpan, TellsNone, asked_at, said, sides_part, with_news};
+ghost use Rattle.ill_web.specs.Pages.{AddsDesk, AddsDesks, AreLines, AtDesk, IsUnread, ShowsDesks, ShowsFigures, ShowsHeld, ShowsLoan, ShowsSlip, ShowsSpan, TellsNone, asked_at, said, sides_part, uncounted, with_news};
 ghost use Rattle.ill_web.specs.Replies.{house_shown};
 ghost use Rattle.ill_web.specs.Troubles.{telling, tells};
 
@@ -22,6 +22,7 @@ use ill_files::diary::diary_bytes;
 use ill_files::notes::notes_bytes;
 use ill_files::open::open;
 use ill_news::news::news_since;
+use ill_page::words::UNCOUNTED;
 use ill_page::{
     DeskShown, LoanShown, Status, begin_desks, end_desks, figures_page, loan_page, notice_page,
     page_reply, push_desk_part,
@@ -249,7 +250,8 @@ fn slip_reply<T: Files>(house: &House<'_, T>, place: &Place<'_>) -> Result<Vec<u
     Ok(page_reply(house.alloc, Status::Good, &machine.writer)?)
 }
 
-/// Returns the reply with the figures of all desks between two days. A desk that cannot be read has none.
+/// Returns the reply with the figures of all desks between two days. A desk that cannot be read has none, and a notice
+/// says so.
 pub fn show_figures<T: Files>(house: &House<'_, T>, from: Day, to: Day) -> Result<Vec<u8>, Trouble>
     ensures { ShowsFigures house.now.operator.now.today from to (said result) }
 {
@@ -273,9 +275,21 @@ fn show_span<T: Files>(house: &House<'_, T>, span: Span) -> Result<Vec<u8>, Trou
         .iter()
         .map(|file| file.as_str())
         .collect(house.alloc)?;
-    if let Err(ToolFault::OutOfMemory) = figures(&mut machine, &paths, &view) {
+    let answer = figures(&mut machine, &paths, &view);
+    if let Err(ToolFault::OutOfMemory) = answer {
         return Err(Trouble::Desk(ToolFault::OutOfMemory));
     }
-    let page = figures_page(house.alloc, house.operator.today, &machine.writer)?;
+    let notice = uncounted(answer);
+    let page = figures_page(house.alloc, house.operator.today, notice, &machine.writer)?;
     Ok(page_reply(house.alloc, Status::Good, &page)?)
+}
+
+/// Returns what is told beside figures whose command ended with `answer`. It is nothing if each desk was read.
+fn uncounted(answer: Result<bool, ToolFault>) -> &'static str
+    ensures { result.now ≡ uncounted answer }
+{
+    match answer {
+        Ok(_) => "",
+        Err(_) => UNCOUNTED,
+    }
 }

@@ -6,6 +6,7 @@ ghost use Rattle.ill_text.specs.Fault.{IsOpenFault};
 
 use ill_beside::annex::Annex;
 use ill_beside::file_lines::FileLines;
+use ill_beside::keyed_came::KeyedCame;
 use ill_beside::keyed_diary::KeyedDiary;
 use ill_beside::notes::Notes;
 use ill_files::came::came_bytes;
@@ -14,7 +15,6 @@ use ill_files::notes::notes_bytes;
 use ill_files::open::open;
 use ill_saved::{Desk, FileStore};
 use ill_text::fault::ToolFault;
-use ill_text::input::apdus_in;
 use std::alloc::Global;
 use std::io::Write;
 use std::rt::Files;
@@ -47,7 +47,7 @@ pub fn read_annex<T: Files, E: Write>(
     Ok(Annex {
         notes: read_notes(rt, alloc, file)?,
         diary: KeyedDiary::of(alloc, diary)?,
-        came: apdus_in(alloc, &came)?,
+        came: KeyedCame::read(alloc, &came)?,
         news: None,
     })
 }

@@ -1,9 +1,8 @@
 -- Proves that the day of the last line that names one of some messages is the day of the latest of their last lines.
 use Rattle.std.proofs.Common.{◌≡◌, ℕ, suc, Bool, true, false, nat_lt, if◌then◌else◌, List, [], ◌∷◌, fold, map}
 use Rattle.std.proofs.Common.{bytes_eq, Option, Some, None, IfSome, option_map, refl, sym, ap, ◌∙◌, lt_trans, le_of_lt}
-use Rattle.std.proofs.Common.{lt-suc_self}
+use Rattle.std.proofs.Common.{lt-suc_self, Vec, Global}
 use Rattle.std.specs.Prelude.{cond, find}
-use Rattle.std.specs.Map.{lookup}
 use Rattle.std.specs.Option.{option_or}
 use Rattle.std.proofs.lemmas.Bool.{le-ltb, lt-ltb, ltb-true}
 use Rattle.std.proofs.lemmas.Slice.Eq.{bytes_eq-Decides}
@@ -12,9 +11,11 @@ use Rattle.ill_words.specs.Words.{◌>>=◌}
 use Rattle.ill_beside.specs.declared.diary.Message.{Message}
 use Rattle.ill_beside.specs.declared.keyed_diary.LastLine.{LastLine}
 use Rattle.ill_beside.specs.Diary.{Named, Said, named, said_by}
-use Rattle.ill_beside.specs.KeyedDiary.{AreLasts, Lasts, is_same_key, last_after, last_named, later, latest, latest_among}
+use Rattle.ill_beside.specs.KeyedDiary.{key_said, last_after, last_kept, last_named, later, latest, latest_among, looks_last}
 use Rattle.ill_beside.specs.KeyedDiary.{with_line}
+use Rattle.ill_beside.specs.Places.{ArePlaces, ByKey, has_key}
 use Rattle.ill_beside.specs.Since.{day_said, day_told, last_day}
+use Rattle.ill_beside.proofs.PlacesLemmas.{counted, kept_enough}
 
 -- ---- keys
 
@@ -171,19 +172,45 @@ module _ (messages : List Named) where
 
 -- ---- the lines that are kept
 
-module _ (lasts : Lasts) (lines : List (List ℕ)) (are : AreLasts lasts lines) where
+-- A line that names another message is not its last line.
+of_another : (key : List ℕ) (found : Option LastLine) (place : ℕ) (line : Vec ℕ Global) → has_key key (key_said line) ≡ false
+    → looks_last key found place (Some line) ≡ found
+of_another key found place line = go (said_by line.items)
+  where
+    go : (says : Option Said) → has_key key (option_map (λ s. s.message) says) ≡ false → last_after key place says found ≡ found
+    go None other = refl
+    go (Some says) other = ap (λ (same : Bool). if same then Some (record { place = place; day = says.day }) else found) other
+
+-- Counts the lines as their bytes are counted.
+lines_counted : (key : List ℕ) (place : ℕ) (found : Option LastLine) (lines : List (Vec ℕ Global))
+    → fold (counted (looks_last key)) (place, found) lines ≡ fold (with_line key) (place, found) (map (λ line. line.items) lines)
+lines_counted key place found [] = refl
+lines_counted key place found (line ∷ lines) =
+    lines_counted key (suc place) (last_after key place (said_by line.items) found) lines
+
+module _ (by_key : ByKey) (lines : List (Vec ℕ Global)) (are : ArePlaces key_said by_key lines) where
+  -- Returns the bytes of the lines.
+  abbrev all_lines : List (List ℕ)
+  all_lines = map (λ line. line.items) lines
+
+  -- The last of the lines at the places of a key is the last one that names its message.
+  last_is : (key : Vec ℕ Global) → last_kept by_key lines key ≡ last_named all_lines key.items
+  last_is key =
+      kept_enough key_said by_key lines are key (looks_last key.items) (of_another key.items) None
+      ∙ ap (λ (all : ℕ × Option LastLine). all.1) (lines_counted key.items 0 None lines)
+
   -- The latest of the lines kept is the latest of the last lines, if that is so of the line found so far.
   kept_from : (found : Option LastLine) (messages : List Message)
-      → fold (λ found message. later found (lookup (is_same_key message.key) lasts)) found messages
-      ≡ fold (λ found message. later found (last_named lines message.key)) found (map named messages)
+      → fold (λ found message. later found (last_kept by_key lines message.key)) found messages
+      ≡ fold (λ found message. later found (last_named all_lines message.key)) found (map named messages)
   kept_from found [] = refl
   kept_from found (message ∷ messages) =
       ap (λ (last : Option LastLine).
-      fold (λ found message. later found (lookup (is_same_key message.key) lasts)) (later found last) messages)
-      (are message.key)
-      ∙ kept_from (later found (last_named lines message.key.items)) messages
+      fold (λ found message. later found (last_kept by_key lines message.key)) (later found last) messages)
+      (last_is message.key)
+      ∙ kept_from (later found (last_named all_lines message.key.items)) messages
 
   -- The day of the latest of the lines kept is the last day.
   pub kept_counts : (messages : List Message)
-      → day_of_line (latest_among lasts messages) ≡ last_day (map named messages) lines
-  kept_counts messages = ap day_of_line (kept_from None messages) ∙ latest_counts (map named messages) lines
+      → day_of_line (latest_among by_key lines messages) ≡ last_day (map named messages) all_lines
+  kept_counts messages = ap day_of_line (kept_from None messages) ∙ latest_counts (map named messages) all_lines

@@ -1,9 +1,12 @@
 pub mod DiaryLaws
 pub mod DiaryLemmas
+pub mod KeptLemmas
 pub mod KeyedDiaryLemmas
 pub mod NewsWordsLemmas
+pub mod NoteKeysLemmas
 pub mod NotesLaws
 pub mod NotesLemmas
+pub mod PlacesLemmas
 pub mod ReadLemmas
 pub mod SinceLaws
 pub mod TextLemmas

@@ -123,7 +123,7 @@ keys_apart (x ∷ a) (y ∷ b) xs ys is =
     (ap (λ (z : ℕ). z ∷ a) first.0 ∙ ap (λ (text : List ℕ). y ∷ text) rest.0, rest.1)
 
 -- A loan's key and the text after it are both keys in front of a space, and then the text.
-key_parts : (txn : Qualifiers) (rest : List ℕ)
+pub key_parts : (txn : Qualifiers) (rest : List ℕ)
     → loan_key txn ++ rest ≡ key txn.group ++ (codes " " ++ (key txn.transaction ++ (codes " " ++ rest)))
 key_parts txn rest =
     append_assoc (key txn.group) (codes " " ++ (key txn.transaction ++ codes " ")) rest

@@ -45,7 +45,7 @@ space_at (byte ∷ word) rest none = go (is_space byte) none (space_at word rest
     go true others later = absurd (true≢false others)
 
 -- Returns two texts.
-abbrev both : (front back : List ℕ) → Option (List ℕ × List ℕ)
+abbrev pub both : (front back : List ℕ) → Option (List ℕ × List ℕ)
 both front back = Some (front, back)
 
 -- Returns the texts before and after a place, if the Bool is true.
@@ -64,7 +64,7 @@ behind word rest =
     (drop-append_seam (word ++ 32 ∷ []) rest))
 
 -- Without a space in a word, a text splits at the space after it.
-splits : (word rest : List ℕ) → list_any is_space word ≡ false → at_space (word ++ 32 ∷ rest) ≡ Some (word, rest)
+pub splits : (word rest : List ℕ) → list_any is_space word ≡ false → at_space (word ++ 32 ∷ rest) ≡ Some (word, rest)
 splits word rest none =
     let text = word ++ 32 ∷ rest in
     ap (λ (place : ℕ). cut_at text place (nat_lt place (length text))) (space_at word rest none)

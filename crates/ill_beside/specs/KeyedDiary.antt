@@ -1,15 +1,15 @@
 -- A diary by the keys of its messages: of each message the last line that names it, with the number of lines before that one.
-use Rattle.std.specs.Prelude.{◌≡◌, ℕ, suc, Bool, nat_lt, if◌then◌else◌, List, fold, bytes_eq, Vec}
-use Rattle.std.specs.Prelude.{Option, None, Some}
-use Rattle.std.specs.Map.{lookup}
+use Rattle.std.specs.Prelude.{ℕ, suc, nat_lt, if◌then◌else◌, List, fold, bytes_eq, Vec}
+use Rattle.std.specs.Prelude.{Option, None, Some, option_map}
 use Rattle.std.specs.declared.alloc.Global.{Global}
 use Rattle.ill_beside.specs.declared.diary.Message.{Message}
 use Rattle.ill_beside.specs.declared.keyed_diary.LastLine.{LastLine}
 use Rattle.ill_beside.specs.Diary.{Named, Said, said_by}
+use Rattle.ill_beside.specs.Places.{ByKey, looked_up, places_of}
 
--- Returns true if both keys have the same bytes.
-abbrev pub is_same_key : Vec ℕ Global → Vec ℕ Global → Bool
-is_same_key one other = bytes_eq one.items other.items
+-- Returns the key of the message that a line names, if it names one.
+abbrev pub key_said : Vec ℕ Global → Option (List ℕ)
+key_said line = option_map (λ says. says.message) (said_by line.items)
 
 -- Returns the last line that names the message with this key, after a line at `place` that says this. `found` is the last
 -- one before.
@@ -36,20 +36,16 @@ later (Some one) (Some other) = if nat_lt other.place one.place then Some one el
 abbrev pub latest : (last : List ℕ → Option LastLine) → (messages : List Named) → Option LastLine
 latest last messages = fold (λ found message. later found (last message.key)) None messages
 
--- The last lines that a diary keeps, by the keys of their messages.
-abbrev pub Lasts : Type 0
-Lasts = List (Vec ℕ Global × LastLine)
+-- Returns the last line that names the message with this key, after the line at a place, if it is there. `found` is the last
+-- one before.
+abbrev pub looks_last : (key : List ℕ) → (found : Option LastLine) → (place : ℕ) → Option (Vec ℕ Global) → Option LastLine
+looks_last key found place None = found
+looks_last key found place (Some line) = last_after key place (said_by line.items) found
 
--- `lasts` has, of each message that one of `lines` names, the last one.
-abbrev pub AreLasts : (lasts : Lasts) → (lines : List (List ℕ)) → Type 0
-AreLasts lasts lines = (key : Vec ℕ Global) → lookup (is_same_key key) lasts ≡ last_named lines key.items
+-- Returns the last of `lines` that names the message with this key, if one does. `by_key` has their places.
+abbrev pub last_kept : ByKey → (lines : List (Vec ℕ Global)) → (key : Vec ℕ Global) → Option LastLine
+last_kept by_key lines key = looked_up (looks_last key.items) lines None (places_of by_key key)
 
--- A line at `place` that says this is entered: it is the last one of its message.
-abbrev pub Enters : (place : ℕ) → Option Said → (old new : Lasts) → Type 0
-Enters place says old new =
-    (key : Vec ℕ Global) → lookup (is_same_key key) new ≡ last_after key.items place says (lookup (is_same_key key) old)
-
--- Returns the latest of the last lines of `messages`, if `lasts` has one.
-abbrev pub latest_among : (lasts : Lasts) → (messages : List Message) → Option LastLine
-latest_among lasts messages =
-    fold (λ found message. later found (lookup (is_same_key message.key) lasts)) None messages
+-- Returns the latest of the last lines of `messages`, if one of `lines` names one. `by_key` has their places.
+abbrev pub latest_among : ByKey → (lines : List (Vec ℕ Global)) → (messages : List Message) → Option LastLine
+latest_among by_key lines messages = fold (λ found message. later found (last_kept by_key lines message.key)) None messages

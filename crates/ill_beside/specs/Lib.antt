@@ -6,5 +6,6 @@ pub mod Kept
 pub mod KeyedDiary
 pub mod NewsWords
 pub mod Notes
+pub mod Places
 pub mod Since
 pub mod StateWords

@@ -1,16 +1,19 @@
 -- The notes of staff on loans, in a file of lines: a line a note. The last note of a loan counts.
 use Rattle.std.specs.Prelude.{ℕ, Bool, ◌&&◌, ◌||◌, ◌==◌, if◌then◌else◌, nat_eq, List, [], ◌∷◌, ◌++◌, length, drop, fold, map}
 use Rattle.std.specs.Prelude.{codes}
-use Rattle.std.specs.Prelude.{Option, Some, None, is_ok}
+use Rattle.std.specs.Prelude.{Option, Some, None, is_ok, option_map, Vec}
 use Rattle.std.specs.List.{join_by, starts_with}
 use Rattle.std.specs.Option.{option_or}
 use Rattle.std.specs.Str.{is_utf8}
+use Rattle.std.specs.declared.alloc.Global.{Global}
 use Rattle.ill_values.specs.Text.{item_check}
 use Rattle.ill_values.specs.TxnId.{Qualifiers}
+use Rattle.ill_words.specs.Words.{◌>>=◌}
 use Rattle.ill_text.specs.Escape.{escaped}
 use Rattle.ill_text.specs.Json.{Field, optional, quoted}
 use Rattle.ill_text.specs.Keys.{loan_key}
 use Rattle.ill_text.specs.Lines.{line}
+use Rattle.ill_beside.specs.Diary.{at_space}
 
 -- ---- the words of a note
 
@@ -52,6 +55,33 @@ unless_empty (Some words) = Some words
 -- Returns the note of a loan, if there is one: the words of its last line.
 abbrev pub note_of : (lines : List (List ℕ)) → Qualifiers → Option (List ℕ)
 note_of lines txn = unless_empty (last_words (loan_key txn) lines)
+
+-- ---- by their keys
+
+-- Returns the first two words of a line, if it has two spaces at least. A space ends a word.
+abbrev pub first_words : List ℕ → Option (List ℕ × List ℕ)
+first_words text = at_space text >>= λ first. at_space first.1 >>= λ second. Some (first.0, second.0)
+
+-- Returns the key with these parts: a space is after each.
+abbrev pub key_of_parts : (group transaction : List ℕ) → List ℕ
+key_of_parts group transaction = group ++ (codes " " ++ (transaction ++ codes " "))
+
+-- Returns the key with which a line begins, if it begins with one.
+abbrev pub begin_of : List ℕ → Option (List ℕ)
+begin_of text = option_map (λ parts. key_of_parts parts.0 parts.1) (first_words text)
+
+-- Returns the key with which a line begins, if it begins with one.
+abbrev pub line_key : Vec ℕ Global → Option (List ℕ)
+line_key text = begin_of text.items
+
+-- Returns the words of a line, if it is there, begins with `begin`, and they are UTF-8.
+abbrev pub words_found : (begin : List ℕ) → Option (Vec ℕ Global) → Option (List ℕ)
+words_found begin None = None
+words_found begin (Some text) = words_after begin text.items
+
+-- Returns the words of the line at a place, if it is there, begins with `begin`, and they are UTF-8. Else those `found` stay.
+abbrev pub looks_after : (begin : List ℕ) → (found : Option (List ℕ)) → (place : ℕ) → Option (Vec ℕ Global) → Option (List ℕ)
+looks_after begin found place text = option_or (words_found begin text) found
 
 -- ---- the texts
 

@@ -11,7 +11,6 @@ use Rattle.ill_text.specs.Json.{Field, day, optional}
 use Rattle.ill_text.specs.Lines.{line}
 use Rattle.ill_beside.specs.declared.annex.Annex.{Annex}
 use Rattle.ill_beside.specs.Diary.{Named, Said, messages_of, said_by}
-use Rattle.ill_beside.specs.FileLines.{lines_of}
 use Rattle.ill_beside.specs.Kept.{kept_of}
 
 -- The annex of a desk: the lines of the notes of staff and of the diary, the messages that came, and those of them that are
@@ -25,10 +24,10 @@ pub record AnnexRead : Type 0 where
 -- Returns the annex that was read.
 abbrev pub annex_of : Annex → AnnexRead
 annex_of annex = record {
-  notes = lines_of annex.notes;
+  notes = annex.notes;
   diary = annex.diary;
-  came = annex.came.items;
-  news = option_map (λ apdus. apdus.items) annex.news;
+  came = annex.came;
+  news = annex.news;
 }
 
 -- Returns the annex with its notes alone, and the news that are told.

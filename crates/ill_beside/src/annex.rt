@@ -2,33 +2,33 @@
 
 ghost use Rattle.std.specs.Prelude.{◌≡◌};
 
-use crate::file_lines::FileLines;
+use crate::keyed_came::KeyedCame;
 use crate::keyed_diary::KeyedDiary;
-use ill_values::Apdu;
+use crate::notes::Notes;
 use std::alloc::Global;
 
 /// The annex of a desk, as it was read.
 #[derive(Drop)]
 pub struct Annex {
     /// The notes of staff.
-    pub notes: FileLines,
+    pub notes: Notes,
     /// The diary.
     pub diary: KeyedDiary,
     /// The messages that came.
-    pub came: Vec<Apdu>,
+    pub came: KeyedCame,
     /// Those of the messages that are told as news, if news are told.
-    pub news: Option<Vec<Apdu>>,
+    pub news: Option<KeyedCame>,
 }
 
 impl Annex {
     /// Returns `notes` alone.
-    pub fn of_notes(alloc: Global, notes: FileLines) -> Annex
+    pub fn of_notes(alloc: Global, notes: Notes) -> Annex
         ensures { result.notes ≡ notes }
     {
         Annex {
             notes,
             diary: KeyedDiary::none(alloc),
-            came: Vec::new(alloc),
+            came: KeyedCame::none(alloc),
             news: None,
         }
     }

@@ -56,7 +56,8 @@ impl FileLines {
 
     /// Returns the lines, without their ends.
     pub fn lines(&self) -> &[Vec<u8>]
-        ensures { map (λ line. line.items) result.now ≡ lines_of self.now }
+        ensures text { map (λ line. line.items) result.now ≡ lines_of self.now }
+        ensures whole { result.now ≡ self.now.lines.items }
     {
         &self.lines
     }

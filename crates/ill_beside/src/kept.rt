@@ -1,21 +1,38 @@
 //! The messages that came in a loan and were kept.
 
-ghost use Rattle.std.specs.Prelude.{◌≡◌, IfOk, OnOk};
-ghost use Rattle.ill_beside.specs.Kept.{is_among, kept_of, with_new};
+ghost use Rattle.std.specs.Prelude.{◌≡◌, [], option_copied, IfOk, OnOk};
+ghost use Rattle.ill_beside.specs.Kept.{found_with, is_among, looks_kept, with_new};
+ghost use Rattle.ill_beside.specs.Places.{looked_up};
 
+use crate::places::thing_at;
 use ill_der::encode;
 use ill_values::{Apdu, OutOfMemory, TxnId};
 use std::alloc::Global;
 
-/// Returns the messages of the transaction `txn` in `came`, each once.
-pub fn kept_of(alloc: Global, txn: &TxnId, came: &[Apdu]) -> Result<Vec<Apdu>, OutOfMemory>
-    ensures { IfOk result (λ kept. kept.items ≡ kept_of txn.now came.now) }
+/// Returns those of the messages at `places` in `came` that are of the transaction `txn`, each once.
+pub(crate) fn kept_at(
+    alloc: Global,
+    txn: &TxnId,
+    came: &[Apdu],
+    places: &[usize],
+) -> Result<Vec<Apdu>, OutOfMemory>
+    ensures { IfOk result (λ kept. kept.items ≡ looked_up (looks_kept txn.now) came.now [] places.now) }
 {
     let mut kept = Vec::new(alloc);
-    for apdu in came {
-        push_new(&mut kept, txn, apdu)?;
+    for place in places {
+        push_found(&mut kept, txn, thing_at(came, *place))?;
     }
     Ok(kept)
+}
+
+/// Appends `apdu` to `kept`, if it is there, is of the transaction `txn`, and `kept` lacks it.
+fn push_found(kept: &mut Vec<Apdu>, txn: &TxnId, apdu: Option<&Apdu>) -> Result<(), OutOfMemory>
+    ensures { OnOk result (kept.new.items ≡ found_with txn.now kept.old.items (option_copied apdu.entry)) }
+{
+    match apdu {
+        Some(apdu) => push_new(kept, txn, apdu),
+        None => Ok(()),
+    }
 }
 
 /// Appends `apdu` to `kept`, if it is of the transaction `txn` and `kept` lacks it.

@@ -1,15 +1,16 @@
-//! A diary by the keys of its messages: the last line of each is found without a look at the others.
+//! A diary by the keys of its messages: the lines that name a message are found without a look at the others.
 
-ghost use Rattle.std.specs.Prelude.{◌≡◌, ℕ, List, [], map, Some, IfOk, OnOk};
-ghost use Rattle.ill_beside.specs.Diary.{named, said, said_by};
+ghost use Rattle.std.specs.Prelude.{◌≡◌, [], map, option_copied, None, IfOk};
+ghost use Rattle.ill_beside.specs.Diary.{named, said_by};
 ghost use Rattle.ill_beside.specs.FileLines.{lines_of};
-ghost use Rattle.ill_beside.specs.KeyedDiary.{later, latest_among, AreLasts, Enters};
+ghost use Rattle.ill_beside.specs.KeyedDiary.{key_said, last_after, later, latest_among, looks_last};
+ghost use Rattle.ill_beside.specs.Places.{looked_up};
 ghost use Rattle.ill_beside.specs.Since.{last_day};
 
-use crate::diary::{Entry, Message, said_by};
+use crate::diary::{Message, said_by};
 use crate::file_lines::FileLines;
+use crate::places::{KeyForm, Places, thing_at};
 use ill_values::{Day, OutOfMemory};
-use indexmap::IndexMap;
 use std::alloc::Global;
 use std::marker::Model;
 
@@ -22,13 +23,13 @@ struct LastLine {
     day: Day,
 }
 
-/// A diary, and of each message that it names the last line.
+/// A diary, and the places of the lines that name each message.
 #[derive(Drop)]
 pub struct KeyedDiary {
     /// The lines of the diary.
     lines: FileLines,
-    /// The last lines, by the keys of their messages.
-    lasts: IndexMap<Vec<u8>, LastLine>,
+    /// Their places, by the keys of their messages.
+    places: Places,
 }
 
 impl Model for KeyedDiary {
@@ -37,11 +38,12 @@ impl Model for KeyedDiary {
     ghost Value = { List (List ℕ) };
 
     ghost use Rattle.ill_beside.specs.FileLines.{lines_of};
-    ghost use Rattle.ill_beside.specs.KeyedDiary.{AreLasts};
+    ghost use Rattle.ill_beside.specs.KeyedDiary.{key_said};
+    ghost use Rattle.ill_beside.specs.Places.{ArePlaces};
 
     ghost view = { λ diary. lines_of diary.lines };
 
-    ghost invariant = { λ diary. AreLasts diary.lasts.entries (lines_of diary.lines) };
+    ghost invariant = { λ diary. ArePlaces key_said diary.places.by_key.entries diary.lines.lines.items };
 }
 
 impl KeyedDiary {
@@ -51,7 +53,7 @@ impl KeyedDiary {
     {
         KeyedDiary {
             lines: FileLines::none(alloc),
-            lasts: IndexMap::new(alloc),
+            places: Places::none(alloc),
         }
     }
 
@@ -59,8 +61,8 @@ impl KeyedDiary {
     pub fn of(alloc: Global, lines: FileLines) -> Result<KeyedDiary, OutOfMemory>
         ensures { IfOk result (λ diary. diary ≡ lines_of lines) }
     {
-        let lasts = lasts_of(alloc, lines.lines())?;
-        Ok(KeyedDiary { lines, lasts })
+        let places = Places::of(alloc, lines.lines(), &LineKeys)?;
+        Ok(KeyedDiary { lines, places })
     }
 
     /// Returns the lines of the diary.
@@ -74,66 +76,83 @@ impl KeyedDiary {
     pub(crate) fn last_day(&self, messages: &[Message]) -> Option<Day>
         ensures { result ≡ last_day (map named messages.now) self.now }
     {
-        match latest_among(&self.lasts, messages) {
+        match latest_among(&self.places, self.lines.lines(), messages) {
             Some(last) => Some(last.day),
             None => None,
         }
     }
 }
 
-/// Returns the last line of each message that one of `lines` names.
-fn lasts_of(alloc: Global, lines: &[Vec<u8>]) -> Result<IndexMap<Vec<u8>, LastLine>, OutOfMemory>
-    ensures { IfOk result (λ lasts. AreLasts lasts.entries (map (λ line. line.items) lines.now)) }
-{
-    let mut lasts = IndexMap::new(alloc);
-    for (place, line) in lines.iter().enumerate() {
-        enter_line(&mut lasts, place, line)?;
-    }
-    Ok(lasts)
-}
+/// Gives each line the key of the message that it names, if it names one.
+#[derive(Clone, Copy)]
+struct LineKeys;
 
-/// Enters `line`, which stands at `place`, as the last one of the message that it names, if it names one.
-fn enter_line(
-    lasts: &mut IndexMap<Vec<u8>, LastLine>,
-    place: usize,
-    line: &[u8],
-) -> Result<(), OutOfMemory>
-    ensures { OnOk result (Enters place (said_by line.now) lasts.old.entries lasts.new.entries) }
-{
-    match said_by(line) {
-        Some(entry) => enter(lasts, place, &entry),
-        None => Ok(()),
+impl KeyForm<Vec<u8>> for LineKeys {
+    ghost key_of = { key_said };
+
+    fn key_of(&self, alloc: Global, line: &Vec<u8>) -> Result<Option<Vec<u8>>, OutOfMemory> {
+        match said_by(line) {
+            Some(entry) => Ok(Some(Vec::from_slice(alloc, entry.message.as_bytes())?)),
+            None => Ok(None),
+        }
     }
 }
 
-/// Enters the line `entry`, which stands at `place`, as the last one of its message.
-fn enter(
-    lasts: &mut IndexMap<Vec<u8>, LastLine>,
-    place: usize,
-    entry: &Entry<'_>,
-) -> Result<(), OutOfMemory>
-    ensures { OnOk result (Enters place (Some (said entry.now)) lasts.old.entries lasts.new.entries) }
-{
-    let key = Vec::from_slice(*lasts.allocator(), entry.message.as_bytes())?;
-    let last = LastLine {
-        place,
-        day: entry.day,
-    };
-    match lasts.insert(key, last) {
-        Ok(_) => Ok(()),
-        Err(_) => Err(OutOfMemory),
-    }
-}
-
-/// Returns the latest of the last lines of `messages`, if `lasts` has one.
-fn latest_among(lasts: &IndexMap<Vec<u8>, LastLine>, messages: &[Message]) -> Option<LastLine>
-    ensures { result ≡ latest_among lasts.now.entries messages.now }
+/// Returns the latest of the last lines of `messages`, if one of `lines` names one. `places` are those of the lines.
+fn latest_among(places: &Places, lines: &[Vec<u8>], messages: &[Message]) -> Option<LastLine>
+    ensures { result ≡ latest_among places.now.by_key.entries lines.now messages.now }
 {
     let mut found = None;
     for message in messages {
-        found = later(found, lasts.get(&message.key).copied());
+        let last = last_line(&message.key, lines, places.with_key(&message.key));
+        found = later(found, last);
     }
     found
+}
+
+/// Returns the last of the lines at `places` in `lines` that names the message with this key, if one does.
+fn last_line(key: &[u8], lines: &[Vec<u8>], places: &[usize]) -> Option<LastLine>
+    ensures { result ≡ looked_up (looks_last key.now) lines.now None places.now }
+{
+    let mut found = None;
+    for place in places {
+        found = last_at(found, key, *place, thing_at(lines, *place));
+    }
+    found
+}
+
+/// Returns the last line that names the message with this key, after the line at `place`, if it is there. `found` is the
+/// last one before.
+fn last_at(
+    found: Option<LastLine>,
+    key: &[u8],
+    place: usize,
+    line: Option<&Vec<u8>>,
+) -> Option<LastLine>
+    ensures { result ≡ looks_last key.now found place (option_copied line.entry) }
+{
+    match line {
+        Some(line) => last_after(found, key, place, line),
+        None => found,
+    }
+}
+
+/// Returns the last line that names the message with this key, after `line` at `place`. `found` is the last one before.
+fn last_after(found: Option<LastLine>, key: &[u8], place: usize, line: &[u8]) -> Option<LastLine>
+    ensures { result ≡ last_after key.now place (said_by line.now) found }
+{
+    match said_by(line) {
+        Some(entry) => {
+            if entry.message.as_bytes() == key {
+                return Some(LastLine {
+                    place,
+                    day: entry.day,
+                });
+            }
+            found
+        }
+        None => found,
+    }
 }
 
 /// Returns the later of two lines, or the one that there is.

@@ -6,7 +6,6 @@ ghost use Rattle.ill_beside.specs.Since.{annex_of, since_fields, since_line, sin
 
 use crate::annex::Annex;
 use crate::diary::messages_of;
-use crate::kept::kept_of;
 use ill_saved::Side;
 use ill_text::json::{Value, push_members};
 use ill_text::lines::push_line;
@@ -18,7 +17,7 @@ use std::alloc::Global;
 pub fn since_of(alloc: Global, annex: &Annex, side: &Side) -> Result<Option<Day>, OutOfMemory>
     ensures { IfOk result (λ day. day ≡ since_of (annex_of annex.now) side.now) }
 {
-    let kept = kept_of(alloc, side.txn(), &annex.came)?;
+    let kept = annex.came.kept_of(alloc, side.txn())?;
     let messages = messages_of(alloc, side, &kept)?;
     Ok(annex.diary.last_day(&messages))
 }

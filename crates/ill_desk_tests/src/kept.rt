@@ -3,6 +3,7 @@
 use crate::letters::Letters;
 use crate::view::{View, tell_side};
 use ill_beside::file_lines::FileLines;
+use ill_beside::notes::Notes;
 use ill_desk::act::{run_act, run_desk_act};
 use ill_desk::send::{run_desk_send, run_send};
 use ill_desk::take::{TakeForm, run_desk_take, run_desk_take_as, run_take};
@@ -302,10 +303,11 @@ impl<S: Store> Kept for Desk<S> {
             txn: &txn,
             form: LoanForm::Lines,
         };
-        let none = FileLines::none(alloc);
+        let notes = Notes::none(alloc);
+        let diary = FileLines::none(alloc);
         let beside = Beside {
-            notes: &none,
-            diary: &none,
+            notes: &notes,
+            diary: &diary,
             came: b"",
         };
         let answer = run_desk_loan(alloc, self, &view, &beside, &mut call.output);

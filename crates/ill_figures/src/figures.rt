@@ -14,10 +14,10 @@ use crate::loan_figures::{Loan, loan_of};
 use crate::mentions::{Mention, mentions_in};
 use crate::texts::{HEAD, push_lines, push_record};
 use ill_beside::file_lines::FileLines;
+use ill_beside::keyed_came::KeyedCame;
 use ill_rows::listed::{Listed, heading};
 use ill_saved::{Desk, Side, Sides, Store};
 use ill_text::fault::ToolFault;
-use ill_text::input::apdus_in;
 use ill_text::output::write_whole;
 use ill_values::{Apdu, OutOfMemory};
 use ill_words::sides::all_of;
@@ -87,7 +87,7 @@ fn text_of_figures(
         listed.now.path.now (figures_of sought.now.view.span (lines_of sought.now.diary.now) sides.now.sides came))
         sought.now.came.now text.items) }
 {
-    let came = apdus_in(alloc, sought.came)?;
+    let came = KeyedCame::read(alloc, sought.came)?;
     let mentions = mentions_in(alloc, sought.diary.lines())?;
     let loans = loans_of(alloc, &mentions, &came, sides)?;
     let figures = Gathered {
@@ -136,7 +136,7 @@ fn record_text(
 fn loans_of(
     alloc: Global,
     mentions: &[Mention],
-    came: &[Apdu],
+    came: &KeyedCame,
     sides: &Sides,
 ) -> Result<Vec<Loan>, OutOfMemory>
     ensures value { IfOk result (λ loans. loans.items ≡ loans_of (map mentioned mentions.now) came.now sides.now.sides) }
@@ -151,7 +151,7 @@ fn loans_of(
 fn loans_of_all(
     alloc: Global,
     mentions: &[Mention],
-    came: &[Apdu],
+    came: &KeyedCame,
     sides: &[&Side],
 ) -> Result<Vec<Loan>, OutOfMemory>
     ensures { IfOk result (λ loans. loans.items

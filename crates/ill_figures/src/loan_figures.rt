@@ -11,7 +11,7 @@ use crate::days::days_from;
 use crate::mentions::{Mention, day_said};
 use ill_beside::diary::verb_of;
 use ill_beside::heard::is_heard;
-use ill_beside::kept::kept_of;
+use ill_beside::keyed_came::KeyedCame;
 use ill_core::State;
 use ill_saved::Side;
 use ill_text::diary::message_key;
@@ -103,12 +103,12 @@ pub(crate) struct Loan {
 pub(crate) fn loan_of(
     alloc: Global,
     mentions: &[Mention],
-    came: &[Apdu],
+    came: &KeyedCame,
     side: &Side,
 ) -> Result<Loan, OutOfMemory>
     ensures { IfOk result (λ loan. loan ≡ loan_of (map mentioned mentions.now) came.now side.now) }
 {
-    let kept = kept_of(alloc, side.txn(), came)?;
+    let kept = came.kept_of(alloc, side.txn())?;
     let messages = dated_of(alloc, mentions, side, &kept)?;
     Ok(loan_in(side.state(), &messages))
 }

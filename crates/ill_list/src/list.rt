@@ -7,7 +7,6 @@ ghost use Rattle.ill_text.specs.Output.{WritesText};
 ghost use Rattle.ill_list.specs.List.{columns_of, counts_line, counts_of, has_work, is_left_out, lacks_day, left_out};
 ghost use Rattle.ill_list.specs.Seeking.{seeking_of};
 ghost use Rattle.ill_list.specs.Morning.{is_morning, morning_columns};
-ghost use Rattle.ill_beside.specs.FileLines.{lines_of};
 ghost use Rattle.ill_beside.specs.Since.{annex_of};
 ghost use Rattle.ill_rows.specs.Heading.{between, file_told, gap, heading};
 ghost use Rattle.ill_list.specs.Listing.{chosen_of, counts_text, dated_row, list_lines, list_objects, listed_desk, morning_heading, morning_lines, note_shown, noted_row, ordered_lines, section, sections, since_shown, told_morning, told_row, work_heading, work_lines, work_objects, work_text};
@@ -409,7 +408,7 @@ fn push_noted_row(
     side: &Side,
 ) -> Result<(), OutOfMemory>
     ensures { OnOk result (lines.new.items ≡ lines.old.items
-        ++ noted_row columns.now (lines_of notes.now) wanted.now side.now) }
+        ++ noted_row columns.now notes.now wanted.now side.now) }
 {
     push_row(lines, columns, wanted.today, side)?;
     push_note_shown(lines, notes, wanted, side)
@@ -422,7 +421,7 @@ fn push_note_shown(
     wanted: &Wanted,
     side: &Side,
 ) -> Result<(), OutOfMemory>
-    ensures { OnOk result (lines.new.items ≡ lines.old.items ++ note_shown (lines_of notes.now) wanted.now side.now) }
+    ensures { OnOk result (lines.new.items ≡ lines.old.items ++ note_shown notes.now wanted.now side.now) }
 {
     if wanted.has_notes {
         return push_listed_note(lines, notes.note_of(side.txn())?);

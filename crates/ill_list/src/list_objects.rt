@@ -5,7 +5,6 @@ ghost use Rattle.ill_text.specs.Json.{joined, member};
 ghost use Rattle.ill_show.specs.Objects.{names_of};
 ghost use Rattle.ill_list.specs.ListObjects.{kind_fields, listed_fields, counts_fields, counts_object, dated_fields, full_row_fields, noted_fields, row_fields, row_object};
 ghost use Rattle.ill_rows.specs.Heading.{file_fields};
-ghost use Rattle.ill_beside.specs.FileLines.{lines_of};
 ghost use Rattle.ill_beside.specs.Since.{annex_of};
 
 use crate::counts::Counts;
@@ -104,7 +103,7 @@ fn push_noted_fields(
     side: &Side,
 ) -> Result<(), OutOfMemory>
     ensures { OnOk result (text.new.items ≡ text.old.items
-        ++ joined member [] (noted_fields (lines_of notes.now) today work side.now)) }
+        ++ joined member [] (noted_fields notes.now today work side.now)) }
 {
     let note = notes.note_of(side.txn())?;
     push_row_fields(text, today, work, side)?;

@@ -9,7 +9,6 @@ ghost use Rattle.ill_beside.specs.Since.{annex_of};
 ghost use Rattle.ill_list.specs.ListedNews.{has_news, heard_array, heard_fields, heard_object, listed_news, listed_news_fields, news_line, news_value};
 
 use ill_beside::annex::Annex;
-use ill_beside::kept::kept_of;
 use ill_beside::news_words::told_words;
 use ill_saved::Side;
 use ill_text::json::{ItemForm, Value, push_array, push_label, push_members, push_plain};
@@ -20,7 +19,7 @@ pub(crate) fn has_news(annex: &Annex, side: &Side) -> bool
     ensures { result ≡ has_news (annex_of annex.now).news side.now }
 {
     match &annex.news {
-        Some(news) => is_of_any(news, side),
+        Some(news) => is_of_any(news.as_apdus(), side),
         None => false,
     }
 }
@@ -50,7 +49,7 @@ pub(crate) fn push_listed_news(
 {
     match &annex.news {
         Some(news) => {
-            let kept = kept_of(*lines.allocator(), side.txn(), news)?;
+            let kept = news.kept_of(*lines.allocator(), side.txn())?;
             push_news_lines(lines, side, &kept)
         }
         None => Ok(()),
@@ -100,7 +99,7 @@ fn push_news_value(text: &mut Vec<u8>, annex: &Annex, side: &Side) -> Result<(),
 {
     match &annex.news {
         Some(news) => {
-            let kept = kept_of(*text.allocator(), side.txn(), news)?;
+            let kept = news.kept_of(*text.allocator(), side.txn())?;
             push_heard(text, side, &kept)
         }
         None => push_plain(text, "null"),

@@ -8,7 +8,6 @@ ghost use Rattle.ill_list.specs.Morning.{break_after, due_or_news, is_morning, m
 use crate::row::{Columns, push_due, push_name_cells};
 use crate::wanted::{Wanted, is_to_do};
 use ill_beside::annex::Annex;
-use ill_beside::kept::kept_of;
 use ill_beside::news_words::told_words;
 use ill_rows::cells::{push_cell, push_title};
 use ill_saved::Side;
@@ -81,7 +80,7 @@ fn known_news(alloc: Global, annex: &Annex, side: &Side) -> Result<Vec<u8>, OutO
     ensures { IfOk result (λ text. text.items ≡ news_text (annex_of annex.now).news side.now) }
 {
     match &annex.news {
-        Some(news) => words_of(alloc, side, &kept_of(alloc, side.txn(), news)?),
+        Some(news) => words_of(alloc, side, &news.kept_of(alloc, side.txn())?),
         None => Ok(Vec::new(alloc)),
     }
 }

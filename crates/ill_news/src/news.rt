@@ -20,6 +20,7 @@ use crate::open_answers::left_open;
 use crate::told::is_told;
 use ill_beside::annex::Annex;
 use ill_beside::heard::is_heard;
+use ill_beside::keyed_came::KeyedCame;
 use ill_beside::news_words::{news_words, told_words};
 use ill_beside::notes::Notes;
 use ill_rows::cells::{column, push_cell, push_title};
@@ -66,7 +67,7 @@ pub fn run_desk_news<S: Store, W: Write>(
 ) -> Result<(), ToolFault>
     ensures { WritesNews (λ apdus. between listed.now.form listed.now.is_first
         ++ news_desk listed.now.form listed.now.is_headed came.now.last listed.now.path.now (sides_held desk.now.live).sides
-        (told_since came.now.since (lines_of came.now.notes.now) (lines_of came.now.diary.now) (sides_held desk.now.live).sides apdus))
+        (told_since came.now.since came.now.notes.now (lines_of came.now.diary.now) (sides_held desk.now.live).sides apdus))
         came.now.bytes.now (W.contents writer.old) (W.contents writer.new) result }
 {
     match text_of_news(alloc, desk.sides(), listed, came) {
@@ -84,7 +85,7 @@ fn text_of_news(
 ) -> Result<Vec<u8>, OutOfMemory>
     ensures { IfOk result (λ text. IsTextOf (λ apdus. between listed.now.form listed.now.is_first
         ++ news_desk listed.now.form listed.now.is_headed came.now.last listed.now.path.now sides.now.sides
-        (told_since came.now.since (lines_of came.now.notes.now) (lines_of came.now.diary.now) sides.now.sides apdus))
+        (told_since came.now.since came.now.notes.now (lines_of came.now.diary.now) sides.now.sides apdus))
         came.now.bytes.now text.items) }
 {
     let apdus = apdus_in(alloc, came.bytes)?;
@@ -101,7 +102,7 @@ fn told_since(
     apdus: &[Apdu],
 ) -> Result<Vec<Apdu>, OutOfMemory>
     ensures { IfOk result (λ news. news.items
-        ≡ told_since came.now.since (lines_of came.now.notes.now) (lines_of came.now.diary.now) sides.now.sides apdus.now) }
+        ≡ told_since came.now.since came.now.notes.now (lines_of came.now.diary.now) sides.now.sides apdus.now) }
 {
     let recent = recent_of(alloc, sides, came, apdus)?;
     let mut news = with_open(alloc, sides, came.notes, recent, apdus)?;
@@ -131,7 +132,7 @@ fn with_open(
     mut recent: Vec<Apdu>,
     came: &[Apdu],
 ) -> Result<Vec<Apdu>, OutOfMemory>
-    ensures { IfOk result (λ news. news.items ≡ with_open (lines_of notes.now) sides.now.sides recent.items came.now) }
+    ensures { IfOk result (λ news. news.items ≡ with_open notes.now sides.now.sides recent.items came.now) }
 {
     let left = left_open(alloc, notes, &recent, came)?;
     let mut news = news_of(alloc, sides, &left)?;
@@ -146,9 +147,8 @@ pub fn news_since(
     sides: &Sides,
     annex: &Annex,
     since: Option<Day>,
-) -> Result<Option<Vec<Apdu>>, OutOfMemory>
-    ensures { IfOk result (λ news. option_map (λ apdus. apdus.items) news
-        ≡ news_since since (annex_of annex.now) sides.now.sides) }
+) -> Result<Option<KeyedCame>, OutOfMemory>
+    ensures { IfOk result (λ news. news ≡ news_since since (annex_of annex.now) sides.now.sides) }
 {
     match since {
         None => Ok(None),
@@ -160,7 +160,8 @@ pub fn news_since(
                 since,
                 last: None,
             };
-            Ok(Some(told_since(alloc, sides, &came, &annex.came)?))
+            let told = told_since(alloc, sides, &came, annex.came.as_apdus())?;
+            Ok(Some(KeyedCame::of(alloc, told)?))
         }
     }
 }

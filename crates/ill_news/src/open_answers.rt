@@ -1,7 +1,6 @@
 //! Open answers: those that ended a loan and ask staff for something, until the note of the loan says that it is done.
 
 ghost use Rattle.std.specs.Prelude.{◌≡◌, ◌++◌, ◌∷◌, [], filter, map, option_copied, IfOk, OnOk};
-ghost use Rattle.ill_beside.specs.FileLines.{lines_of};
 ghost use Rattle.ill_news.specs.OpenAnswers.{asks_staff, begins_with_done, goes_on, is_asking, is_left, is_open, left_open, says_done};
 
 use crate::told::is_told;
@@ -19,7 +18,7 @@ pub(crate) fn left_open<'a>(
     news: &[Apdu],
     came: &'a [Apdu],
 ) -> Result<Vec<&'a Apdu>, OutOfMemory>
-    ensures { IfOk result (λ left. map (λ a. a.now) left.items ≡ left_open (lines_of notes.now) news.now came.now) }
+    ensures { IfOk result (λ left. map (λ a. a.now) left.items ≡ left_open notes.now news.now came.now) }
 {
     let mut left = Vec::new(alloc);
     for apdu in came {
@@ -36,7 +35,7 @@ fn push_if_left<'a>(
     apdu: &'a Apdu,
 ) -> Result<(), OutOfMemory>
     ensures { OnOk result (map (λ a. a.now) left.new.items ≡ map (λ a. a.now) left.old.items
-        ++ filter (is_left (lines_of notes.now) news.now) (apdu.now ∷ [])) }
+        ++ filter (is_left notes.now news.now) (apdu.now ∷ [])) }
 {
     if is_left(notes, news, apdu)? {
         left.push(apdu)?;
@@ -46,14 +45,14 @@ fn push_if_left<'a>(
 
 /// Returns true if `apdu` is an open answer, and `news` lack it.
 fn is_left(notes: &Notes, news: &[Apdu], apdu: &Apdu) -> Result<bool, OutOfMemory>
-    ensures { IfOk result (λ is. is ≡ is_left (lines_of notes.now) news.now apdu.now) }
+    ensures { IfOk result (λ is. is ≡ is_left notes.now news.now apdu.now) }
 {
     Ok(is_open(notes, apdu)? && !is_told(news, apdu))
 }
 
 /// Returns true if `apdu` is an answer that asks staff for something, and the note of its loan does not say `done`.
 fn is_open(notes: &Notes, apdu: &Apdu) -> Result<bool, OutOfMemory>
-    ensures { IfOk result (λ is. is ≡ is_open (lines_of notes.now) apdu.now) }
+    ensures { IfOk result (λ is. is ≡ is_open notes.now apdu.now) }
 {
     Ok(is_asking(&apdu.body) && !says_done(notes.note_of(&apdu.txn)?))
 }

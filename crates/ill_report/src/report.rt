@@ -10,7 +10,6 @@ ghost use Rattle.ill_words.specs.Possible.{possible_on, request_of, item_asked};
 ghost use Rattle.ill_work.specs.Order.{has_work};
 ghost use Rattle.ill_report.specs.declared.report_parts.TheConstants.{NOTE_END, SINCE, TIME_END};
 ghost use Rattle.ill_rows.specs.Cells.{title_text};
-ghost use Rattle.ill_beside.specs.FileLines.{lines_of};
 ghost use Rattle.ill_rows.specs.Finding.{is_found};
 ghost use Rattle.ill_report.specs.Link.{linked_text};
 ghost use Rattle.ill_beside.specs.Notes.{note_of};
@@ -25,7 +24,6 @@ use crate::report_parts::{
     heading,
 };
 use ill_beside::annex::Annex;
-use ill_beside::kept::kept_of;
 use ill_beside::news_words::told_words;
 use ill_beside::notes::Notes;
 use ill_beside::since::since_of;
@@ -163,7 +161,7 @@ fn push_found(
     annex: &Annex,
 ) -> Result<(), OutOfMemory>
     ensures { OnOk result (page.new.items ≡ page.old.items ++ works_text (page_shown view.now) (annex_of annex.now)
-        (filter (is_found (page_shown view.now).find (lines_of annex.now.notes)) (map (λ side. side.now) sides.now))) }
+        (filter (is_found (page_shown view.now).find annex.now.notes) (map (λ side. side.now) sides.now))) }
 {
     let found = found_of(*page.allocator(), sides, view.find, &annex.notes)?;
     push_works(page, view, &found, annex, Work::all())
@@ -383,7 +381,7 @@ fn push_noted_title(
 ) -> Result<(), OutOfMemory>
     ensures { OnOk result (page.new.items ≡ page.old.items
         ++ (linked_text (page_shown view.now).linked (txn_of side.now) (html_escaped (title_text (item_asked (request_of side.now))))
-        ++ noted_text (note_of (lines_of notes.now) (txn_of side.now)))) }
+        ++ noted_text (note_of notes.now (txn_of side.now)))) }
 {
     let title = html_title(*page.allocator(), side)?;
     push_linked(page, view.linked, side.txn(), &title)?;
@@ -432,7 +430,7 @@ fn push_news(page: &mut Vec<u8>, side: &Side, annex: &Annex) -> Result<(), OutOf
 {
     match &annex.news {
         Some(news) => {
-            let kept = kept_of(*page.allocator(), side.txn(), news)?;
+            let kept = news.kept_of(*page.allocator(), side.txn())?;
             push_marks(page, side, &kept)
         }
         None => Ok(()),

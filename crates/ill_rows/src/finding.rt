@@ -2,7 +2,6 @@
 
 ghost use Rattle.std.specs.Prelude.{◌≡◌, ◌++◌, ◌∷◌, [], filter, map, option_map, IfOk, OnOk};
 ghost use Rattle.ill_words.specs.Possible.{item_asked, request_of};
-ghost use Rattle.ill_beside.specs.FileLines.{lines_of};
 ghost use Rattle.ill_beside.specs.Notes.{note_of};
 ghost use Rattle.ill_rows.specs.Finding.{folded, has_part, has_words, is_found, loan_number, tells, tells_any};
 
@@ -21,7 +20,7 @@ pub fn found_of<'a>(
     notes: &Notes,
 ) -> Result<Vec<&'a Side>, OutOfMemory>
     ensures { IfOk result (λ found. map (λ side. side.now) found.items
-        ≡ filter (is_found (option_map (λ words. words.now) find.entry) (lines_of notes.now)) (map (λ side. side.now) sides.now)) }
+        ≡ filter (is_found (option_map (λ words. words.now) find.entry) notes.now) (map (λ side. side.now) sides.now)) }
 {
     match find {
         None => Ok(Vec::from_slice(alloc, sides)?),
@@ -40,7 +39,7 @@ fn told_of<'a>(
     notes: &Notes,
 ) -> Result<Vec<&'a Side>, OutOfMemory>
     ensures { IfOk result (λ found. map (λ side. side.now) found.items
-        ≡ filter (has_words sought.now (lines_of notes.now)) (map (λ side. side.now) sides.now)) }
+        ≡ filter (has_words sought.now notes.now) (map (λ side. side.now) sides.now)) }
 {
     let mut found = Vec::new(alloc);
     for side in sides {
@@ -57,7 +56,7 @@ fn push_told<'a>(
     notes: &Notes,
 ) -> Result<(), OutOfMemory>
     ensures { OnOk result (map (λ side. side.now) found.new.items
-        ≡ map (λ side. side.now) found.old.items ++ filter (has_words sought.now (lines_of notes.now)) (side.now ∷ [])) }
+        ≡ map (λ side. side.now) found.old.items ++ filter (has_words sought.now notes.now) (side.now ∷ [])) }
 {
     if has_words(*found.allocator(), side, sought, notes)? {
         found.push(side)?;
@@ -67,7 +66,7 @@ fn push_told<'a>(
 
 /// Returns true if the number of a loan, its item or its note has the words `sought`.
 fn has_words(alloc: Global, side: &Side, sought: &[u8], notes: &Notes) -> Result<bool, OutOfMemory>
-    ensures { IfOk result (λ is. is ≡ has_words sought.now (lines_of notes.now) side.now) }
+    ensures { IfOk result (λ is. is ≡ has_words sought.now notes.now side.now) }
 {
     let number = loan_number(alloc, side.txn())?;
     Ok(
@@ -89,7 +88,7 @@ fn item_tells(alloc: Global, sought: &[u8], side: &Side) -> Result<bool, OutOfMe
 
 /// Returns true if the note of a loan has the words `sought`.
 fn note_tells(alloc: Global, sought: &[u8], txn: &TxnId, notes: &Notes) -> Result<bool, OutOfMemory>
-    ensures { IfOk result (λ is. is ≡ tells_any sought.now (note_of (lines_of notes.now) txn.now)) }
+    ensures { IfOk result (λ is. is ≡ tells_any sought.now (note_of notes.now txn.now)) }
 {
     match notes.note_of(txn)? {
         Some(words) => tells(alloc, sought, words.as_bytes()),

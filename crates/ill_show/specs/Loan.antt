@@ -71,7 +71,7 @@ pub record FilesBeside : Type 0 where
 -- Returns what the files beside a desk have.
 abbrev pub beside_of : Beside → FilesBeside
 beside_of beside = record {
-  notes = lines_of beside.notes.now;
+  notes = beside.notes.now;
   diary = lines_of beside.diary.now;
   came = beside.came.now;
 }

@@ -15,11 +15,11 @@ use crate::objects::push_kept_and_note;
 use crate::picture::picture_of;
 use ill_beside::diary::{Part, history_of, messages_of, push_history, push_history_field};
 use ill_beside::file_lines::FileLines;
-use ill_beside::kept::kept_of;
+use ill_beside::keyed_came::KeyedCame;
+use ill_beside::notes::Notes;
 use ill_saved::{Desk, DeskFault, Side, Store};
 use ill_text::fault::ToolFault;
 use ill_text::form::Form;
-use ill_text::input::apdus_in;
 use ill_text::json::push_plain;
 use ill_text::output::write_whole;
 use ill_values::{Apdu, OutOfMemory, TxnId};
@@ -63,7 +63,7 @@ pub struct LoanView<'a> {
 #[derive(Clone, Copy)]
 pub struct Beside<'a> {
     /// The notes of staff.
-    pub notes: &'a FileLines,
+    pub notes: &'a Notes,
     /// The diary.
     pub diary: &'a FileLines,
     /// The bytes of the messages that came.
@@ -107,11 +107,11 @@ fn text_of_loan(
     beside: &Beside<'_>,
 ) -> Result<Vec<u8>, OutOfMemory>
     ensures { IfOk result (λ text. IsTextOf
-        (loan_text form (note_of (lines_of beside.now.notes.now) (txn_of side.now)) (lines_of beside.now.diary.now)
+        (loan_text form (note_of beside.now.notes.now (txn_of side.now)) (lines_of beside.now.diary.now)
         (record { side = side.now; released = released })) (txn_of side.now) beside.now.came.now text.items) }
 {
-    let came = apdus_in(alloc, beside.came)?;
-    let kept = kept_of(alloc, side.txn(), &came)?;
+    let came = KeyedCame::read(alloc, beside.came)?;
+    let kept = came.kept_of(alloc, side.txn())?;
     let shown = ShownLoan {
         side,
         released,

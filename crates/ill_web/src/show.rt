@@ -14,6 +14,7 @@ use crate::trouble::Trouble;
 use ill_annex::open_with_annex;
 use ill_beside::annex::Annex;
 use ill_beside::file_lines::FileLines;
+use ill_beside::notes::Notes;
 use ill_browser::LoanName;
 use ill_commands::commands::slip;
 use ill_figures::figures::{FiguresView, Span};
@@ -203,7 +204,7 @@ fn lines_of<T: Files, S: Store>(
     let diary = diary_bytes(house.rt, house.alloc, place.desk, &mut sink())?;
     let diary = FileLines::read(house.alloc, &diary)?;
     let notes = notes_bytes(house.rt, house.alloc, place.desk)?;
-    let notes = FileLines::read(house.alloc, &notes)?;
+    let notes = Notes::read(house.alloc, &notes)?;
     let came = came_bytes(house.rt, house.alloc, place.desk)?;
     let beside = Beside {
         notes: &notes,

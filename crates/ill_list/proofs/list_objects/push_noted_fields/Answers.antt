@@ -2,7 +2,6 @@
 use Rattle.std.proofs.Common.{◌≡◌, ◌++◌, ℕ, List, [], Option, OnOk, ap, subst, ◌∙◌}
 use Rattle.ill_text.specs.Json.{joined, member}
 use Rattle.ill_text.proofs.JsonLemmas.{joined_further}
-use Rattle.ill_beside.specs.FileLines.{lines_of}
 use Rattle.ill_beside.specs.Notes.{note_fields, note_of}
 use Rattle.ill_show.specs.Objects.{names_of}
 use Rattle.ill_list.specs.ListObjects.{row_fields}
@@ -15,6 +14,6 @@ returns c =
     let row = row_fields c.args.work c.args.side.now (names_of c.args.today c.args.side.now) in
     let text = joined_further member [] old c.push_row_fields.new.text.items _ _ _ c.in_ok-push_row_fields.ensures
     ∙ ap (λ (note : Option (List ℕ)). old ++ joined member [] (row ++ note_fields note)) (c.in_ok-note.ensures
-    ∙ ap (note_of (lines_of c.args.notes.now)) c.txn.ensures) in
+    ∙ ap (note_of c.args.notes.now) c.txn.ensures) in
     subst (λ (shown : List ℕ). OnOk c.push_note_field.result (c.push_note_field.new.text.items ≡ shown)) text
     c.push_note_field.ensures

@@ -7,13 +7,13 @@ use Rattle.ill_news.specs.Told.{news_since, told_since}
 use Rattle.ill_news.proofs.news.news_since.Goals as goal
 
 -- Proves the contract of `news_since` if a day is given. The news are told by the lines of the diary and by what came.
-pub returns-in_ok-told_since-in-Some : goal.returns-in_ok-told_since-in-Some
-returns-in_ok-told_since-in-Some c =
+pub returns-in_ok-of-in-Some : goal.returns-in_ok-of-in-Some
+returns-in_ok-of-in-Some c =
     let annex = annex_of c.args.annex.now in
     let sides = c.args.sides.now.sides in
     let day = c.in-Some.is in
-    let told = c.in_ok-told_since-in-Some.ensures
-    ∙ ap (λ (lines : List (List ℕ)). told_since c.args.since annex.notes lines sides c.deref.result.now) c.as_lines.ensures
-    ∙ ap (λ (came : List Apdu). told_since c.args.since annex.notes annex.diary sides came) c.deref.ensures.value
+    let told = c.in_ok-of-in-Some.ensures ∙ c.in_ok-told-in-Some.ensures
+    ∙ ap (λ (lines : List (List ℕ)). told_since c.args.since annex.notes lines sides c.as_apdus.result.now) c.as_lines.ensures
+    ∙ ap (λ (came : List Apdu). told_since c.args.since annex.notes annex.diary sides came) c.as_apdus.ensures
     ∙ ap (λ (since : Option Date). told_since since annex.notes annex.diary sides annex.came) day in
     ap Some told ∙ sym (ap (λ (since : Option Date). news_since since annex sides) day)

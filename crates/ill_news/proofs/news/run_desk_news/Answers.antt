@@ -18,7 +18,7 @@ returns-in-Ok g c =
     let after = g.W.Write.contents c.write_whole.new.writer in
     let text = c.in-Ok.text.items in
     let came = c.args.came.now in
-    let told = told_since came.since (lines_of came.notes.now) (lines_of came.diary.now) in
+    let told = told_since came.since came.notes.now (lines_of came.diary.now) in
     let is = subst (λ (sides : SidesOf). IsTextOf (λ apdus. between listed.form listed.is_first
     ++ news_desk listed.form listed.is_headed came.last listed.path.now sides.sides (told sides.sides apdus))
     came.bytes.now text) c.sides.ensures.value c.in-Ok.ensures in

@@ -2,12 +2,11 @@
 use Rattle.std.proofs.Common.{◌≡◌, map, take, Bor}
 use Rattle.std.specs.Prelude.{filter}
 use Rattle.ill_values.specs.declared.apdu.Apdu.{Apdu}
-use Rattle.ill_beside.specs.FileLines.{lines_of}
 use Rattle.ill_news.specs.OpenAnswers.{is_left}
 use Rattle.ill_news.proofs.open_answers.left_open.Given as goal
 
 -- `left` has the open answers so far that `news` lack.
 abbrev pub invariant-loop-apdu : goal.invariant-loop-apdu
 invariant-loop-apdu l = record {
-  kept : map (λ (a : Bor Apdu). a.now) l.left.items ≡ filter (is_left (lines_of l.notes) l.news) (take l.apdu-index l.came);
+  kept : map (λ (a : Bor Apdu). a.now) l.left.items ≡ filter (is_left l.notes l.news) (take l.apdu-index l.came);
 }

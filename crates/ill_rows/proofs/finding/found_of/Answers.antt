@@ -3,14 +3,13 @@ use Rattle.std.proofs.Common.{ℕ, List, Option, Bor, map, option_map, ap, sym, 
 use Rattle.std.specs.Prelude.{filter}
 use Rattle.ill_record.specs.declared.side.Side.{Side}
 use Rattle.ill_rows.specs.Finding.{is_found}
-use Rattle.ill_beside.specs.FileLines.{lines_of}
 use Rattle.ill_rows.proofs.FindingLemmas.{all_found}
 use Rattle.ill_rows.proofs.finding.found_of.Goals as goal
 
 -- Proves the contract of `found_of` if no words are sought. By `all_found` all loans are found then.
 pub returns-in_ok-from_slice-in-None : goal.returns-in_ok-from_slice-in-None
 returns-in_ok-from_slice-in-None c =
-    let notes = lines_of c.args.notes.now in
+    let notes = c.args.notes.now in
     let sides = map (λ (side : Bor Side). side.now) c.args.sides.now in
     let found : Option (Bor (List ℕ)) → List Side = λ find.
     filter (is_found (option_map (λ words. words.now) find) notes) sides in

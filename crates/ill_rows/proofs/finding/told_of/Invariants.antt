@@ -3,12 +3,11 @@ use Rattle.std.proofs.Common.{◌≡◌, map, take, Bor}
 use Rattle.std.specs.Prelude.{filter}
 use Rattle.ill_record.specs.declared.side.Side.{Side}
 use Rattle.ill_rows.specs.Finding.{has_words}
-use Rattle.ill_beside.specs.FileLines.{lines_of}
 use Rattle.ill_rows.proofs.finding.told_of.Given as goal
 
 -- `found` has the loans so far of which a text has the words.
 abbrev pub invariant-loop-side : goal.invariant-loop-side
 invariant-loop-side l = record {
   found : map (λ (side : Bor Side). side.now) l.found.items
-      ≡ filter (has_words l.sought (lines_of l.notes)) (map (λ (side : Bor Side). side.now) (take l.side-index l.sides));
+      ≡ filter (has_words l.sought l.notes) (map (λ (side : Bor Side). side.now) (take l.side-index l.sides));
 }

@@ -1,7 +1,8 @@
 -- Answers the contract of `tell_file` (`src/telling.rt`).
-use Rattle.std.proofs.Common.{inr}
+use Rattle.std.proofs.Common.{inl, inr, refl}
 use Rattle.ill_saved.specs.ManySides.{sides_held}
 use Rattle.ill_beside.specs.FileLines.{lines_of}
+use Rattle.ill_visits.proofs.OpenLemmas.{open_fault}
 use Rattle.ill_visits.proofs.telling.tell_file.Goals as goal
 
 -- Proves the contract of `tell_file` if the files are opened. `run_desk_news` tells what came to its sides.
@@ -13,3 +14,9 @@ returns g c = inr (
   lines_of c.in_ok-diary.diary,
   (c.run_desk_news-told.result, c.run_desk_news-told.ensures, c.all_well.ensures),
 )
+
+-- If the file of the messages that came is not read, nothing is written.
+pub returns-in_err-bytes : goal.returns-in_err-bytes
+returns-in_err-bytes g c =
+    let result = c.from_residual-in_err-bytes.result in
+    inl (open_fault result c.in_err-bytes.field-0.0 c.from_residual-in_err-bytes.ensures.1 c.in_err-bytes.ensures, refl)

@@ -1,5 +1,5 @@
 -- Answers the contract of `push_file` (`src/visits.rt`).
-use Rattle.std.proofs.Common.{◌++◌, List, Option, option_map, Ok, Err, refl, ap, ◌∙◌}
+use Rattle.std.proofs.Common.{◌++◌, List, Option, Ok, Err, refl, ap, ◌∙◌}
 use Rattle.ill_values.specs.declared.apdu.Apdu.{Apdu}
 use Rattle.ill_report.specs.Report.{desk_text, report_of}
 use Rattle.ill_beside.specs.Since.{AnnexRead, annex_of}
@@ -10,7 +10,7 @@ pub returns-in_ok-told-in-Ok-clause-told : goal.returns-in_ok-told-in-Ok-clause-
 returns-in_ok-told-in-Ok-clause-told g c =
     let sides = c.sides-sides.result.now.sides in
     let annex = annex_of c.in-Ok.annex in
-    let news : Option (List Apdu) = option_map (λ apdus. apdus.items) c.in_ok-news-in-Ok.news in
+    let news : Option (List Apdu) = c.in_ok-news-in-Ok.news in
     let with : Option (List Apdu) → AnnexRead =
     λ (told : Option (List Apdu)). record { notes = annex.notes; diary = annex.diary; came = annex.came; news = told } in
     let told = c.in_ok-told-in-Ok.ensures

@@ -6,6 +6,9 @@ use Rattle.std.proofs.lemmas.Option.{none-some}
 use Rattle.ill_disk.proofs.Memory.{value_or}
 use Rattle.ill_mail_disk.specs.Keeping.{KeeperOf}
 use Rattle.ill_mail_disk.specs.Spots.{SpotOf}
+use Rattle.ill_disk.specs.Disk.{found_at}
+use Rattle.ill_disk.specs.Calls.{DiskState}
+use Rattle.ill_mail_disk.specs.Runs.{AddsMail, MailRunOf, cared_for}
 use Rattle.ill_mail_disk.specs.Runs.{IsSpread, are_spread, is_admitted, is_spread_from, is_spread_from_all, keeps_off, spares}
 
 -- An element of a list with one more is of the list, or the one more.
@@ -58,3 +61,19 @@ add_spread asked spots x spread is = record {
       (λ last. (and_parts (keeps_off asked spot) (is_spread_from_all spot spots) (told asked spots x spot is last.1)).0)
       (last_or spots x mail (Some spot) one);
 }
+
+-- What a call adds to a run is the mail for which it looked.
+module _ {D : Type 0} (state : D → DiskState) where
+  pub adds : (run old new : MailRunOf D) (spot_of : ℕ → SpotOf) (spots : List (Option SpotOf)) (spot : Option SpotOf) →
+      run ≡ old → spots ≡ run.spots → new.spots ≡ run.spots ++ spot ∷ [] →
+      ((state run.disk).is_honest ≡ true →
+      spot ≡ cared_for run.asked spots spot_of (found_at (spot_of zero).claimed (state run.disk).now.names)) →
+      AddsMail state spot_of old new
+  adds run old new spot_of spots spot view same added looked =
+      subst (λ (r : MailRunOf D). AddsMail state spot_of r new) view record {
+        spot = spot;
+        added = added;
+        is = λ honest. looked honest
+            ∙ ap (λ (l : List (Option SpotOf)).
+            cared_for run.asked l spot_of (found_at (spot_of zero).claimed (state run.disk).now.names)) same;
+      }

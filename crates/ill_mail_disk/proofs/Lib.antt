@@ -12,5 +12,6 @@ pub mod GivingBack
 pub mod Kept
 pub mod Running
 pub mod Adding
+pub mod Taken
 pub mod BadMails
 pub mod Wholly

@@ -6,8 +6,10 @@ mod keeper;
 pub mod laws;
 mod mail_disk;
 mod moves;
+mod path_set;
 mod run;
 mod spot;
+mod taken_paths;
 mod whole;
 
 pub use keeper::Keeper;

@@ -3,6 +3,7 @@
 ghost use Rattle.std.specs.Prelude.{◌≡◌, ◌⊎◌, true, slice_get, None, IfOk, IfSome, OnErr, OnOk, [], ◌∷◌, ◌++◌};
 ghost use Rattle.ill_disk.specs.Calls.{Answers};
 ghost use Rattle.ill_mail_disk.specs.Spots.{FlushesClaim, GivesMailBack, Gone, Aside, PutsMailAside, RemovesMail};
+ghost use Rattle.ill_mail_disk.specs.TakenPaths.{AreKnown, IsInOrder};
 ghost use Rattle.ill_mail_disk.specs.Runs as runs;
 ghost use Rattle.ill_mail_disk.specs.Runs.{AddsMail, AllKept, AllStayKept, AnyMail, AreKept, AreSpread, DoesAt, DoesNothing, GivesBackInRun, HasComeAlone, IsSpread, KeepsInRun, LooksFor, MailsSurvive, MovesInRun, admitted, has_come_as, is_admitted, is_spread_from, is_spread_from_all, keeps_off, misses, run_state, spares};
 
@@ -10,6 +11,7 @@ use crate::keeper::Keeper;
 use crate::mail_disk::MailDisk;
 use crate::moves::{flush_claim, give_mail_back, put_mail_aside, remove_mail};
 use crate::spot::{Paths, Spot};
+use crate::taken_paths::{TakenPaths, take_sets, with_paths};
 use ill_disk::DiskFault;
 use std::alloc::Global;
 use std::marker::Model;
@@ -23,6 +25,8 @@ use std::marker::Model;
 pub struct MailRun<D: MailDisk> {
     disk: D,
     spots: Vec<Option<Spot>>,
+    /// The paths of the mails. If memory ran out for them, there are none, and `add` compares a new mail with each.
+    taken: Option<TakenPaths>,
     asked: Keeper,
     folder: Vec<u8>,
 }
@@ -32,7 +36,7 @@ impl<D: MailDisk> Model for MailRun<D> {
 
     ghost view = { λ r. record { disk = r.disk; spots = r.spots.items; asked = r.asked; folder = r.folder.items } };
 
-    ghost invariant = { λ r. IsSpread r.asked r.spots.items };
+    ghost invariant = { λ r. IsInOrder r.asked r.taken r.spots.items };
 }
 
 impl<D: MailDisk> MailRun<D> {
@@ -43,6 +47,7 @@ impl<D: MailDisk> MailRun<D> {
         MailRun {
             disk,
             spots: Vec::new(alloc),
+            taken: Some(TakenPaths::new(alloc)),
             asked,
             folder,
         }
@@ -70,8 +75,14 @@ impl<D: MailDisk> MailRun<D> {
         ensures same { (D.state self.old.disk).is_honest ≡ true → (D.state self.new.disk).now ≡ (D.state self.old.disk).now }
         ensures asked { self.new.asked ≡ self.old.asked }
     {
-        let spot = spot_at(alloc, &mut self.disk, &self.asked, &self.spots, paths)?;
+        let others = Others {
+            spots: &self.spots,
+            taken: &self.taken,
+        };
+        let spot = spot_at(alloc, &mut self.disk, &self.asked, others, paths)?;
+        let taken = with_paths(take_sets(&mut self.taken), &spot);
         self.spots.push(spot)?;
+        self.taken = taken;
         Ok(())
     }
 
@@ -146,62 +157,83 @@ impl<D: MailDisk> MailRun<D> {
     }
 }
 
-/// Returns the mail with these paths, if its file stands at its claimed path, and a run with the mails `spots` takes care
-/// of it.
+/// The mails of a run, and their paths in sets, if there are sets.
+#[derive(Clone, Copy)]
+struct Others<'a> {
+    spots: &'a [Option<Spot>],
+    taken: &'a Option<TakenPaths>,
+}
+
+/// Returns the mail with these paths, if its file stands at its claimed path, and a run with the mails `others` takes
+/// care of it.
 fn spot_at<D: MailDisk>(
     alloc: Global,
     disk: &mut D,
     asked: &Keeper,
-    spots: &[Option<Spot>],
+    others: Others<'_>,
     paths: Paths<'_>,
 ) -> Result<Option<Spot>, DiskFault>
-    ensures looks { Answers (LooksFor asked.now spots.now (λ file. record {
+    requires { AreKnown others.taken.now others.spots.now }
+    ensures looks { Answers (LooksFor asked.now others.entry.spots.now (λ file. record {
       claimed = paths.entry.claimed.now;
       waiting = paths.entry.waiting.now;
       aside = paths.entry.aside.now;
       reason = paths.entry.reason.now;
       file = file;
     })) (D.state disk.old) result (D.state disk.new) }
-    ensures admitted { IfOk result (λ found. IfSome found (λ spot. is_admitted asked.now spots.now spot ≡ true)) }
+    ensures admitted { IfOk result (λ found. IfSome found (λ spot. is_admitted asked.now others.entry.spots.now spot ≡ true)) }
 {
     match disk.find(paths.claimed)? {
-        Some(found) => admit(alloc, asked, spots, paths, found.file),
+        Some(found) => admit(alloc, asked, others, paths, found.file),
         None => Ok(None),
     }
 }
 
-/// Returns the mail with these paths and this file, if a run with the mails `spots` takes care of it.
+/// Returns the mail with these paths and this file, if a run with the mails `others` takes care of it.
 fn admit(
     alloc: Global,
     asked: &Keeper,
-    spots: &[Option<Spot>],
+    others: Others<'_>,
     paths: Paths<'_>,
     file: u128,
 ) -> Result<Option<Spot>, DiskFault>
-    ensures found { IfOk result (λ found. found ≡ admitted asked.now spots.now (record {
+    requires { AreKnown others.taken.now others.spots.now }
+    ensures found { IfOk result (λ found. found ≡ admitted asked.now others.entry.spots.now (record {
       claimed = paths.entry.claimed.now;
       waiting = paths.entry.waiting.now;
       aside = paths.entry.aside.now;
       reason = paths.entry.reason.now;
       file = file;
     })) }
-    ensures admitted { IfOk result (λ found. IfSome found (λ spot. is_admitted asked.now spots.now spot ≡ true)) }
+    ensures admitted { IfOk result (λ found. IfSome found (λ spot. is_admitted asked.now others.entry.spots.now spot ≡ true)) }
 {
     let Some(spot) = Spot::at(alloc, paths, file)? else {
         return Ok(None);
     };
-    if is_admitted(asked, spots, &spot) {
+    if is_admitted(asked, others, &spot) {
         Ok(Some(spot))
     } else {
         Ok(None)
     }
 }
 
-/// Returns true if a mail takes no path of the messages that ask, or of `spots`.
-fn is_admitted(asked: &Keeper, spots: &[Option<Spot>], spot: &Spot) -> bool
-    ensures { result ≡ is_admitted asked.now spots.now spot.now }
+/// Returns true if a mail takes no path of the messages that ask, or of `others`.
+fn is_admitted(asked: &Keeper, others: Others<'_>, spot: &Spot) -> bool
+    requires { AreKnown others.taken.now others.spots.now }
+    ensures { result ≡ is_admitted asked.now others.entry.spots.now spot.now }
 {
-    keeps_off(asked, spot) && is_spread_from_all(spot, spots)
+    keeps_off(asked, spot) && is_spread_from_others(spot, others)
+}
+
+/// Returns true if a mail takes no path of any of `others`, and none of these takes one of it.
+fn is_spread_from_others(spot: &Spot, others: Others<'_>) -> bool
+    requires { AreKnown others.taken.now others.spots.now }
+    ensures { result ≡ is_spread_from_all spot.now others.entry.spots.now }
+{
+    match others.taken {
+        Some(taken) => taken.is_free(spot),
+        None => is_spread_from_all(spot, others.spots),
+    }
 }
 
 /// Returns true if a mail takes no path of the messages that ask.

@@ -1,8 +1,12 @@
 use Rattle.std.proofs.Common.{sym, subst, None}
-use Rattle.ill_mail_disk.specs.Runs.{IsSpread}
+use Rattle.ill_mail_disk.specs.TakenPaths.{IsInOrder}
 use Rattle.ill_mail_disk.proofs.Adding.{add_spread}
+use Rattle.ill_mail_disk.proofs.Taken.{known_still}
 use Rattle.ill_mail_disk.proofs.run.MailRun.add_unclaimed.Goals as goal
 
 pub invariant_of-self-2 : goal.invariant_of-self-2
-invariant_of-self-2 g c = subst (λ l. IsSpread c.self.inside.asked l) (sym c.in_ok-push.ensures.items)
-    (add_spread c.self.inside.asked c.self.inside.spots.items None c.self.invariant tt)
+invariant_of-self-2 g c = subst (λ l. IsInOrder c.self.inside.asked c.self.inside.taken l) (sym c.in_ok-push.ensures.items)
+    (record {
+      spread = add_spread c.self.inside.asked c.self.inside.spots.items None c.self.invariant.spread tt;
+      known = known_still c.self.inside.taken c.self.inside.spots.items c.self.invariant.known;
+    })

@@ -6,7 +6,7 @@ use Rattle.ill_mail_disk.proofs.run.MailRun.give_back.Goals as goal
 
 pub returns-clause-moves : goal.returns-clause-moves
 returns-clause-moves g c =
-    let moves = given_in_run c.self.inside.asked c.self.inside.spots.items c.self.invariant
+    let moves = given_in_run c.self.inside.asked c.self.inside.spots.items c.self.invariant.spread
     (g.D.Disk.state c.self.inside.disk) (g.D.Disk.state c.give_back_at.new.disk) c.args.mail c.give_back_at.result
     (slice_get c.deref.result.now c.args.mail)
     (ap (λ l. slice_get l c.args.mail) (sym c.deref.ensures.value))
@@ -18,7 +18,7 @@ returns-clause-moves g c =
 
 pub returns-clause-survive : goal.returns-clause-survive
 returns-clause-survive g c =
-    let survive = given_survive c.self.inside.asked c.self.inside.spots.items c.self.invariant
+    let survive = given_survive c.self.inside.asked c.self.inside.spots.items c.self.invariant.spread
     (g.D.Disk.state c.self.inside.disk) (g.D.Disk.state c.give_back_at.new.disk) c.args.mail c.give_back_at.result
     (slice_get c.deref.result.now c.args.mail)
     (ap (λ l. slice_get l c.args.mail) (sym c.deref.ensures.value))

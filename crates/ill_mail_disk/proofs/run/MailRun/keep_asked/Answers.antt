@@ -6,7 +6,7 @@ use Rattle.ill_mail_disk.proofs.run.MailRun.keep_asked.Goals as goal
 
 pub returns-then-is_empty-clause-keeps : goal.returns-then-is_empty-clause-keeps
 returns-then-is_empty-clause-keeps g c =
-    let keeps = keeps_in_run c.self.inside.asked c.self.inside.spots.items c.self.invariant
+    let keeps = keeps_in_run c.self.inside.asked c.self.inside.spots.items c.self.invariant.spread
     (g.D.Disk.state c.self.inside.disk) (g.D.Disk.state c.forget.new.disk) c.args.asked.now None c.forget.result
     (empty_is c.args.asked.now (sym c.is_empty.ensures ∙ c.if-is_empty.true)) c.forget.ensures in
     subst (λ r. KeepsInRun c.args.asked.now (run_state g.D.Disk.state r) c.forget.result
@@ -14,7 +14,7 @@ returns-then-is_empty-clause-keeps g c =
 
 pub returns-then-is_empty-clause-survive : goal.returns-then-is_empty-clause-survive
 returns-then-is_empty-clause-survive g c =
-    let survive = keeps_survive c.self.inside.asked c.self.inside.spots.items c.self.invariant
+    let survive = keeps_survive c.self.inside.asked c.self.inside.spots.items c.self.invariant.spread
     (g.D.Disk.state c.self.inside.disk) (g.D.Disk.state c.forget.new.disk) c.forget.ensures.touches in
     subst (λ r. (other : ℕ) (spot : SpotOf) → AnyMail other → slice_get r.spots other ≡ Some (Some spot) →
     Survives spot (g.D.Disk.state r.disk) (g.D.Disk.state c.forget.new.disk)) c.self.view_is
@@ -22,7 +22,7 @@ returns-then-is_empty-clause-survive g c =
 
 pub returns-clause-keeps : goal.returns-clause-keeps
 returns-clause-keeps g c =
-    let keeps = keeps_in_run c.self.inside.asked c.self.inside.spots.items c.self.invariant
+    let keeps = keeps_in_run c.self.inside.asked c.self.inside.spots.items c.self.invariant.spread
     (g.D.Disk.state c.self.inside.disk) (g.D.Disk.state c.keep.new.disk) c.args.asked.now (Some c.args.asked.now) c.keep.result
     refl c.keep.ensures in
     subst (λ r. KeepsInRun c.args.asked.now (run_state g.D.Disk.state r) c.keep.result
@@ -30,7 +30,7 @@ returns-clause-keeps g c =
 
 pub returns-clause-survive : goal.returns-clause-survive
 returns-clause-survive g c =
-    let survive = keeps_survive c.self.inside.asked c.self.inside.spots.items c.self.invariant
+    let survive = keeps_survive c.self.inside.asked c.self.inside.spots.items c.self.invariant.spread
     (g.D.Disk.state c.self.inside.disk) (g.D.Disk.state c.keep.new.disk) c.keep.ensures.touches in
     subst (λ r. (other : ℕ) (spot : SpotOf) → AnyMail other → slice_get r.spots other ≡ Some (Some spot) →
     Survives spot (g.D.Disk.state r.disk) (g.D.Disk.state c.keep.new.disk)) c.self.view_is

@@ -16,7 +16,7 @@ returns-clause-moves g c =
     (g.D.Disk.state c.put_aside_at.new.disk)) (DoesNothing s c.put_aside_at.result
     (g.D.Disk.state c.put_aside_at.new.disk)) (slice_get c.deref-2.result.now c.args.mail)) c.make_folder.ensures
     c.put_aside_at.ensures in
-    let moves = aside_in_run c.self.inside.asked c.self.inside.spots.items c.self.invariant
+    let moves = aside_in_run c.self.inside.asked c.self.inside.spots.items c.self.invariant.spread
     (g.D.Disk.state c.self.inside.disk) (g.D.Disk.state c.put_aside_at.new.disk) c.args.mail c.put_aside_at.result
     (slice_get c.deref-2.result.now c.args.mail)
     (ap (λ l. slice_get l c.args.mail) (sym c.deref-2.ensures.value)) does in
@@ -29,7 +29,7 @@ returns-clause-survive g c =
     (g.D.Disk.state c.put_aside_at.new.disk)) (DoesNothing s c.put_aside_at.result
     (g.D.Disk.state c.put_aside_at.new.disk)) (slice_get c.deref-2.result.now c.args.mail)) c.make_folder.ensures
     c.put_aside_at.ensures in
-    let survive = aside_survive c.self.inside.asked c.self.inside.spots.items c.self.invariant
+    let survive = aside_survive c.self.inside.asked c.self.inside.spots.items c.self.invariant.spread
     (g.D.Disk.state c.self.inside.disk) (g.D.Disk.state c.put_aside_at.new.disk) c.args.mail c.put_aside_at.result
     (slice_get c.deref-2.result.now c.args.mail)
     (ap (λ l. slice_get l c.args.mail) (sym c.deref-2.ensures.value)) does in

@@ -6,7 +6,7 @@ use Rattle.ill_mail_disk.proofs.run.MailRun.remove.Goals as goal
 
 pub returns-clause-moves : goal.returns-clause-moves
 returns-clause-moves g c =
-    let moves = removes_in_run c.self.inside.asked c.self.inside.spots.items c.self.invariant
+    let moves = removes_in_run c.self.inside.asked c.self.inside.spots.items c.self.invariant.spread
     (g.D.Disk.state c.self.inside.disk) (g.D.Disk.state c.remove_at.new.disk) c.args.mail c.remove_at.result
     (slice_get c.deref.result.now c.args.mail)
     (ap (λ l. slice_get l c.args.mail) (sym c.deref.ensures.value)) c.remove_at.ensures in
@@ -15,7 +15,7 @@ returns-clause-moves g c =
 
 pub returns-clause-survive : goal.returns-clause-survive
 returns-clause-survive g c =
-    let survive = others_survive c.self.inside.asked c.self.inside.spots.items c.self.invariant
+    let survive = others_survive c.self.inside.asked c.self.inside.spots.items c.self.invariant.spread
     (g.D.Disk.state c.self.inside.disk) (g.D.Disk.state c.remove_at.new.disk) c.args.mail c.remove_at.result
     (slice_get c.deref.result.now c.args.mail)
     (ap (λ l. slice_get l c.args.mail) (sym c.deref.ensures.value)) c.remove_at.ensures in
@@ -24,7 +24,7 @@ returns-clause-survive g c =
 
 pub returns-clause-kept : goal.returns-clause-kept
 returns-clause-kept g c =
-    let kept = removal_keeps c.self.inside.asked c.self.inside.spots.items c.self.invariant
+    let kept = removal_keeps c.self.inside.asked c.self.inside.spots.items c.self.invariant.spread
     (g.D.Disk.state c.self.inside.disk) (g.D.Disk.state c.remove_at.new.disk) c.args.mail c.remove_at.result
     (slice_get c.deref.result.now c.args.mail)
     (ap (λ l. slice_get l c.args.mail) (sym c.deref.ensures.value)) c.remove_at.ensures in

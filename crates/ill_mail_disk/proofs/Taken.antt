@@ -1,0 +1,355 @@
+-- The sets of the paths of a run tell if a mail is spread from all mails of it.
+use Rattle.std.proofs.Common.{◌≡◌, refl, sym, ◌∙◌, ap, subst, ℕ, Bool, true, false, not, ◌&&◌, ◌||◌, if◌then◌else◌, List, []}
+use Rattle.std.proofs.Common.{◌∷◌, ◌++◌, map, Option, Some, None, IfSome, Result, Ok, Err, OnOk, bytes_eq, Vec, Global}
+use Rattle.std.specs.List.{list_any}
+use Rattle.indexmap.specs.IndexSet.{insert_key}
+use Rattle.std.proofs.lemmas.Bool.{and_parts, and_from, true≢false, not-true}
+use Rattle.std.proofs.lemmas.Slice.Eq.{bytes_eq-Decides}
+use Rattle.ill_mail_disk.specs.Touches.{IsNoneOf}
+use Rattle.ill_mail_disk.specs.Spots.{SpotOf, aside_paths, is_none_of, paths_of}
+use Rattle.ill_mail_disk.specs.Runs.{is_spread_from, is_spread_from_all, misses, spares}
+use Rattle.ill_mail_disk.specs.TakenPaths.{TakenOf, AreKnown, AreTaken, GetsPath, GetsPaths, is_free, is_same_path}
+use Rattle.ill_mail_disk.specs.TakenPaths.{misses_mail, misses_mails}
+use Rattle.ill_mail_disk.proofs.Apart.{none_of}
+
+-- Two tests that pass alike are equal.
+same_test : (one other : Bool) → (one ≡ true → other ≡ true) → (other ≡ true → one ≡ true) → one ≡ other
+same_test true other there back = sym (there refl)
+same_test false true there back = back refl
+same_test false false there back = refl
+
+-- A test that does not pass fails.
+fails : (test : Bool) → (test ≡ true → ⊥) → not test ≡ true
+fails true never = absurd (never refl)
+fails false never = refl
+
+-- A path that is none of some is tested to be none of them.
+tested : (paths : List (List ℕ)) (path : List ℕ) → IsNoneOf paths path → is_none_of paths path ≡ true
+tested [] path none = refl
+tested (other ∷ paths) path none =
+    and_from (not (bytes_eq other path)) (is_none_of paths path)
+    (fails (bytes_eq other path) (λ is. none.0 ((bytes_eq-Decides other path).0 is))) (tested paths path none.1)
+
+-- ---- a set of paths
+
+-- It does not matter which of two paths comes first.
+same_bytes : (one other : List ℕ) → bytes_eq one other ≡ bytes_eq other one
+same_bytes one other =
+    same_test (bytes_eq one other) (bytes_eq other one)
+    (λ is. (bytes_eq-Decides other one).1 (sym ((bytes_eq-Decides one other).0 is)))
+    (λ is. (bytes_eq-Decides one other).1 (sym ((bytes_eq-Decides other one).0 is)))
+
+-- Returns the bytes of paths.
+abbrev bytes_all : List (Vec ℕ Global) → List (List ℕ)
+bytes_all keys = map (λ key. key.items) keys
+
+-- A path that no key of a set equals is none of its paths.
+pub lacks_all : (path : List ℕ) (keys : List (Vec ℕ Global)) →
+    not (list_any (λ key. bytes_eq path key.items) keys) ≡ is_none_of (bytes_all keys) path
+lacks_all path [] = refl
+lacks_all path (key ∷ keys) =
+    nor (bytes_eq path key.items) (list_any (λ key. bytes_eq path key.items) keys)
+    ∙ ap (λ test. not test && not (list_any (λ key. bytes_eq path key.items) keys)) (same_bytes path key.items)
+    ∙ ap (λ rest. not (bytes_eq key.items path) && rest) (lacks_all path keys)
+  where
+    nor : (a b : Bool) → not (a || b) ≡ (not a && not b)
+    nor true b = refl
+    nor false b = refl
+
+-- A path at the end of a set is tested as one at its beginning.
+last_key : (keys : List (Vec ℕ Global)) (key : Vec ℕ Global) (path : List ℕ) →
+    is_none_of (bytes_all (keys ++ key ∷ [])) path ≡ is_none_of (key.items ∷ bytes_all keys) path
+last_key [] key path = refl
+last_key (first ∷ keys) key path =
+    ap (λ rest. not (bytes_eq first.items path) && rest) (last_key keys key path)
+    ∙ turn (not (bytes_eq first.items path)) (not (bytes_eq key.items path)) (is_none_of (bytes_all keys) path)
+  where
+    turn : (a b c : Bool) → (a && (b && c)) ≡ (b && (a && c))
+    turn true true c = refl
+    turn true false c = refl
+    turn false true c = refl
+    turn false false c = refl
+
+-- A set that has got a key has got its path.
+module _ (keys : List (Vec ℕ Global)) (key : Vec ℕ Global) where
+  -- The key was there before.
+  there : list_any (is_same_path key) keys ≡ true → GetsPath key.items (bytes_all keys) (bytes_all keys)
+  there is other = by (bytes_eq key.items other) refl
+    where
+      by : (test : Bool) → bytes_eq key.items other ≡ test →
+          is_none_of (bytes_all keys) other ≡ (not (bytes_eq key.items other) && is_none_of (bytes_all keys) other)
+      by true equal =
+          ap (is_none_of (bytes_all keys)) (sym ((bytes_eq-Decides key.items other).0 equal))
+          ∙ sym (lacks_all key.items keys) ∙ ap not is
+          ∙ sym (ap (λ test. not test && is_none_of (bytes_all keys) other) equal)
+      by false equal = sym (ap (λ test. not test && is_none_of (bytes_all keys) other) equal)
+
+  -- The set has got the key, if it was not there.
+  gets : (new : List (Vec ℕ Global)) → new ≡ insert_key is_same_path keys key →
+      GetsPath key.items (bytes_all keys) (bytes_all new)
+  gets new is = by (list_any (is_same_path key) keys) refl
+    where
+      by : (test : Bool) → list_any (is_same_path key) keys ≡ test → GetsPath key.items (bytes_all keys) (bytes_all new)
+      by true found = subst (λ (l : List (Vec ℕ Global)). GetsPath key.items (bytes_all keys) (bytes_all l))
+          (sym (is ∙ ap (λ (test : Bool). if test then keys else keys ++ key ∷ []) found)) (there found)
+      by false found = subst (λ (l : List (Vec ℕ Global)). GetsPath key.items (bytes_all keys) (bytes_all l))
+          (sym (is ∙ ap (λ (test : Bool). if test then keys else keys ++ key ∷ []) found)) (last_key keys key)
+
+-- If a call has put a key into a set, the set has got its path.
+pub key_put : {A E : Type 0} (answer : Result A E) (keys new : List (Vec ℕ Global)) (key : Vec ℕ Global) (path : List ℕ)
+    (old : List (List ℕ)) → key.items ≡ path → bytes_all keys ≡ old →
+    OnOk answer (new ≡ insert_key is_same_path keys key) → OnOk answer (GetsPath path old (bytes_all new))
+key_put (Ok done) keys new key path old bytes same put =
+    subst (λ (l : List (List ℕ)). GetsPath path l (bytes_all new)) same
+    (subst (λ (p : List ℕ). GetsPath p (bytes_all keys) (bytes_all new)) bytes (gets keys key new put))
+key_put (Err fault) keys new key path old bytes same put = tt
+
+-- ---- one other mail
+
+-- The tests of a mail and of one other pass.
+record AreBoth (a b c d e f : Bool) : Type 0 where
+  first : a ≡ true
+  second : b ≡ true
+  third : c ≡ true
+  fourth : d ≡ true
+  fifth : e ≡ true
+  sixth : f ≡ true
+
+-- All six tests pass.
+six : (a b c d e f : Bool) → ((a && b && c) && (d && e && f)) ≡ true → AreBoth a b c d e f
+six a b c d e f is =
+    let halves = and_parts (a && b && c) (d && e && f) is in
+    let one = and_parts (a && b) c halves.0 in
+    let two = and_parts (d && e) f halves.1 in
+    let three = and_parts a b one.0 in
+    let four = and_parts d e two.0 in record {
+      first = three.0;
+      second = three.1;
+      third = one.1;
+      fourth = four.0;
+      fifth = four.1;
+      sixth = two.1;
+    }
+
+-- If six tests pass, all do.
+all_six : (a b c d e f : Bool) → AreBoth a b c d e f → ((a && b && c) && (d && e && f)) ≡ true
+all_six a b c d e f are =
+    and_from (a && b && c) (d && e && f)
+    (and_from (a && b) c (and_from a b are.first are.second) are.third)
+    (and_from (d && e) f (and_from d e are.fourth are.fifth) are.sixth)
+
+-- If three paths are none of three others, the others are none of them.
+module _ (a b c d e f : List ℕ) where
+  turned : IsNoneOf (d ∷ e ∷ f ∷ []) a → IsNoneOf (d ∷ e ∷ f ∷ []) b → IsNoneOf (d ∷ e ∷ f ∷ []) c →
+      IsNoneOf (a ∷ b ∷ c ∷ []) d × IsNoneOf (a ∷ b ∷ c ∷ []) e × IsNoneOf (a ∷ b ∷ c ∷ []) f
+  turned one two three = (
+    (λ is. one.0 (sym is), (λ is. two.0 (sym is), (λ is. three.0 (sym is), tt))),
+    (λ is. one.1.0 (sym is), (λ is. two.1.0 (sym is), (λ is. three.1.0 (sym is), tt))),
+    (λ is. one.1.1.0 (sym is), (λ is. two.1.1.0 (sym is), (λ is. three.1.1.0 (sym is), tt))),
+  )
+
+module _ (spot other : SpotOf) where
+  -- The six tests of a mail by the paths of one other.
+  abbrev Clears1 : Type 0
+  Clears1 = AreBoth (misses spot.reason other) (misses spot.claimed other) (misses spot.aside other)
+      (is_none_of (aside_paths other) spot.claimed) (is_none_of (aside_paths other) spot.waiting)
+      (is_none_of (aside_paths other) spot.aside)
+
+  -- A mail that is spread from another passes the six tests.
+  spread_clears : is_spread_from spot (Some other) ≡ true → Clears1
+  spread_clears is =
+      let are = six (misses spot.reason other) (misses spot.claimed other) (misses spot.aside other)
+      (misses other.reason spot) (misses other.claimed spot) (misses other.aside spot) is in
+      let back = turned other.reason other.claimed other.aside spot.claimed spot.waiting spot.aside
+      (none_of (paths_of spot) other.reason are.fourth) (none_of (paths_of spot) other.claimed are.fifth)
+      (none_of (paths_of spot) other.aside are.sixth) in record {
+        first = are.first;
+        second = are.second;
+        third = are.third;
+        fourth = tested (aside_paths other) spot.claimed back.0;
+        fifth = tested (aside_paths other) spot.waiting back.1;
+        sixth = tested (aside_paths other) spot.aside back.2;
+      }
+
+  -- A mail that passes the six tests is spread from the other.
+  clear_spreads : Clears1 → is_spread_from spot (Some other) ≡ true
+  clear_spreads are =
+      let back = turned spot.claimed spot.waiting spot.aside other.reason other.claimed other.aside
+      (none_of (aside_paths other) spot.claimed are.fourth) (none_of (aside_paths other) spot.waiting are.fifth)
+      (none_of (aside_paths other) spot.aside are.sixth) in
+      all_six (misses spot.reason other) (misses spot.claimed other) (misses spot.aside other)
+      (misses other.reason spot) (misses other.claimed spot) (misses other.aside spot) record {
+        first = are.first;
+        second = are.second;
+        third = are.third;
+        fourth = tested (paths_of spot) other.reason back.0;
+        fifth = tested (paths_of spot) other.claimed back.1;
+        sixth = tested (paths_of spot) other.aside back.2;
+      }
+
+-- ---- all mails
+
+-- The six tests of a mail by the paths of all mails pass.
+abbrev Clears : SpotOf → List (Option SpotOf) → Type 0
+Clears spot spots = AreBoth (misses_mails paths_of spots spot.reason) (misses_mails paths_of spots spot.claimed)
+    (misses_mails paths_of spots spot.aside) (misses_mails aside_paths spots spot.claimed)
+    (misses_mails aside_paths spots spot.waiting) (misses_mails aside_paths spots spot.aside)
+
+-- The six tests of a mail by the paths of one more, if there is one.
+abbrev ClearsOne : SpotOf → Option SpotOf → Type 0
+ClearsOne spot x = AreBoth (misses_mail paths_of spot.reason x) (misses_mail paths_of spot.claimed x)
+    (misses_mail paths_of spot.aside x) (misses_mail aside_paths spot.claimed x)
+    (misses_mail aside_paths spot.waiting x) (misses_mail aside_paths spot.aside x)
+
+-- A mail that is spread from one more passes the tests.
+one_clears : (spot : SpotOf) (x : Option SpotOf) → is_spread_from spot x ≡ true → ClearsOne spot x
+one_clears spot None is = record { first = refl; second = refl; third = refl; fourth = refl; fifth = refl; sixth = refl }
+one_clears spot (Some other) is = spread_clears spot other is
+
+-- A mail that passes the tests is spread from one more.
+one_spreads : (spot : SpotOf) (x : Option SpotOf) → ClearsOne spot x → is_spread_from spot x ≡ true
+one_spreads spot None are = refl
+one_spreads spot (Some other) are = clear_spreads spot other are
+
+-- A mail that is spread from all passes the six tests.
+all_clear : (spot : SpotOf) (spots : List (Option SpotOf)) → is_spread_from_all spot spots ≡ true → Clears spot spots
+all_clear spot [] is = record { first = refl; second = refl; third = refl; fourth = refl; fifth = refl; sixth = refl }
+all_clear spot (x ∷ spots) is =
+    let parts = and_parts (is_spread_from spot x) (is_spread_from_all spot spots) is in
+    let one = one_clears spot x parts.0 in
+    let rest = all_clear spot spots parts.1 in record {
+      first = and_from (misses_mail paths_of spot.reason x) (misses_mails paths_of spots spot.reason) one.first rest.first;
+      second = and_from (misses_mail paths_of spot.claimed x) (misses_mails paths_of spots spot.claimed) one.second
+          rest.second;
+      third = and_from (misses_mail paths_of spot.aside x) (misses_mails paths_of spots spot.aside) one.third rest.third;
+      fourth = and_from (misses_mail aside_paths spot.claimed x) (misses_mails aside_paths spots spot.claimed) one.fourth
+          rest.fourth;
+      fifth = and_from (misses_mail aside_paths spot.waiting x) (misses_mails aside_paths spots spot.waiting) one.fifth
+          rest.fifth;
+      sixth = and_from (misses_mail aside_paths spot.aside x) (misses_mails aside_paths spots spot.aside) one.sixth rest.sixth;
+    }
+
+-- A mail that passes the six tests is spread from all.
+clear_of_all : (spot : SpotOf) (spots : List (Option SpotOf)) → Clears spot spots → is_spread_from_all spot spots ≡ true
+clear_of_all spot [] are = refl
+clear_of_all spot (x ∷ spots) are =
+    let a = and_parts (misses_mail paths_of spot.reason x) (misses_mails paths_of spots spot.reason) are.first in
+    let b = and_parts (misses_mail paths_of spot.claimed x) (misses_mails paths_of spots spot.claimed) are.second in
+    let c = and_parts (misses_mail paths_of spot.aside x) (misses_mails paths_of spots spot.aside) are.third in
+    let d = and_parts (misses_mail aside_paths spot.claimed x) (misses_mails aside_paths spots spot.claimed) are.fourth in
+    let e = and_parts (misses_mail aside_paths spot.waiting x) (misses_mails aside_paths spots spot.waiting) are.fifth in
+    let f = and_parts (misses_mail aside_paths spot.aside x) (misses_mails aside_paths spots spot.aside) are.sixth in
+    and_from (is_spread_from spot x) (is_spread_from_all spot spots)
+    (one_spreads spot x record {
+      first = a.0;
+      second = b.0;
+      third = c.0;
+      fourth = d.0;
+      fifth = e.0;
+      sixth = f.0;
+    })
+    (clear_of_all spot spots record {
+      first = a.1;
+      second = b.1;
+      third = c.1;
+      fourth = d.1;
+      fifth = e.1;
+      sixth = f.1;
+    })
+
+-- The six tests of the sets are those of all mails.
+module _ (taken : TakenOf) (spots : List (Option SpotOf)) (are : AreTaken taken spots) (spot : SpotOf) where
+  -- A mail that is free by the sets is spread from all.
+  free_spreads : is_free taken spot ≡ true → is_spread_from_all spot spots ≡ true
+  free_spreads is =
+      let tests = six (is_none_of taken.places spot.reason) (is_none_of taken.places spot.claimed)
+      (is_none_of taken.places spot.aside) (is_none_of taken.moves spot.claimed) (is_none_of taken.moves spot.waiting)
+      (is_none_of taken.moves spot.aside) is in
+      clear_of_all spot spots record {
+        first = sym (are.places spot.reason) ∙ tests.first;
+        second = sym (are.places spot.claimed) ∙ tests.second;
+        third = sym (are.places spot.aside) ∙ tests.third;
+        fourth = sym (are.moves spot.claimed) ∙ tests.fourth;
+        fifth = sym (are.moves spot.waiting) ∙ tests.fifth;
+        sixth = sym (are.moves spot.aside) ∙ tests.sixth;
+      }
+
+  -- A mail that is spread from all is free by the sets.
+  spread_frees : is_spread_from_all spot spots ≡ true → is_free taken spot ≡ true
+  spread_frees is =
+      let rest = all_clear spot spots is in
+      all_six (is_none_of taken.places spot.reason) (is_none_of taken.places spot.claimed)
+      (is_none_of taken.places spot.aside) (is_none_of taken.moves spot.claimed) (is_none_of taken.moves spot.waiting)
+      (is_none_of taken.moves spot.aside) record {
+        first = are.places spot.reason ∙ rest.first;
+        second = are.places spot.claimed ∙ rest.second;
+        third = are.places spot.aside ∙ rest.third;
+        fourth = are.moves spot.claimed ∙ rest.fourth;
+        fifth = are.moves spot.waiting ∙ rest.fifth;
+        sixth = are.moves spot.aside ∙ rest.sixth;
+      }
+
+  -- The sets tell if a mail is spread from all.
+  pub free_is_spread : is_free taken spot ≡ is_spread_from_all spot spots
+  free_is_spread = same_test (is_free taken spot) (is_spread_from_all spot spots) free_spreads spread_frees
+
+-- ---- one more mail
+
+-- A test more at the end of a list of tests is one at its beginning.
+last_first : (of : SpotOf → List (List ℕ)) (path : List ℕ) (spots : List (Option SpotOf)) (x : Option SpotOf) →
+    misses_mails of (spots ++ x ∷ []) path ≡ (misses_mail of path x && misses_mails of spots path)
+last_first of path [] x = refl
+last_first of path (y ∷ spots) x =
+    ap (λ rest. misses_mail of path y && rest) (last_first of path spots x)
+    ∙ swapped (misses_mail of path y) (misses_mail of path x) (misses_mails of spots path)
+  where
+    swapped : (a b c : Bool) → (a && (b && c)) ≡ (b && (a && c))
+    swapped true true c = refl
+    swapped true false c = refl
+    swapped false true c = refl
+    swapped false false c = refl
+
+-- The tests of three paths and of more are those of the three and those of the more.
+split : (one two three path : List ℕ) (rest : List (List ℕ)) → is_none_of (one ∷ two ∷ three ∷ rest) path
+    ≡ (is_none_of (one ∷ two ∷ three ∷ []) path && is_none_of rest path)
+split one two three path rest =
+    apart (not (bytes_eq one path)) (not (bytes_eq two path)) (not (bytes_eq three path)) (is_none_of rest path)
+  where
+    apart : (a b c d : Bool) → (a && (b && (c && d))) ≡ ((a && (b && (c && true))) && d)
+    apart true true true d = refl
+    apart true true false d = refl
+    apart true false c d = refl
+    apart false b c d = refl
+
+-- Sets of the paths of mails that get those of one more have those of all.
+put_taken : (spot : SpotOf) (old new : TakenOf) (spots : List (Option SpotOf)) → AreTaken old spots → GetsPaths spot old new
+    → AreTaken new (spots ++ Some spot ∷ [])
+put_taken spot old new spots are gets = record {
+  places = λ path. gets.places path ∙ split spot.claimed spot.waiting spot.aside path old.places
+      ∙ ap (λ rest. is_none_of (paths_of spot) path && rest) (are.places path)
+      ∙ sym (last_first paths_of path spots (Some spot));
+  moves = λ path. gets.moves path ∙ split spot.reason spot.claimed spot.aside path old.moves
+      ∙ ap (λ rest. is_none_of (aside_paths spot) path && rest) (are.moves path)
+      ∙ sym (last_first aside_paths path spots (Some spot));
+}
+
+-- If there are sets with the paths of one more mail, they have those of all.
+pub known_with : (spot : SpotOf) (old : TakenOf) (sets : Option TakenOf) → IfSome sets (λ new. GetsPaths spot old new) →
+    (spots : List (Option SpotOf)) → AreTaken old spots → AreKnown sets (spots ++ Some spot ∷ [])
+known_with spot old None gets spots are = tt
+known_with spot old (Some new) gets spots are = put_taken spot old new spots are gets
+
+-- Sets have the paths of all mails after one of which the run takes no care.
+pub known_still : (sets : Option TakenOf) (spots : List (Option SpotOf)) → AreKnown sets spots →
+    AreKnown sets (spots ++ None ∷ [])
+known_still None spots are = tt
+known_still (Some old) spots are = record {
+  places = λ path. are.places path ∙ sym (last_first paths_of path spots None);
+  moves = λ path. are.moves path ∙ sym (last_first aside_paths path spots None);
+}
+
+-- The sets tell if a mail is spread from all, if there are sets.
+pub known_free : (sets : Option TakenOf) (taken : TakenOf) (spots : List (Option SpotOf)) → AreKnown sets spots →
+    sets ≡ Some taken → (spot : SpotOf) → is_free taken spot ≡ is_spread_from_all spot spots
+known_free sets taken spots known is spot =
+    free_is_spread taken spots (subst (λ (s : Option TakenOf). AreKnown s spots) is known) spot

@@ -1,0 +1,6 @@
+use Rattle.ill_mail_disk.proofs.Taken.{key_put}
+use Rattle.ill_mail_disk.proofs.path_set.PathSet.put.Goals as goal
+
+pub returns : goal.returns
+returns c = key_put c.insert_into.result c.self.inside.paths.keys c.insert_into.new.paths.keys c.in_ok-path.path
+    c.args.path.now c.args.self.now c.in_ok-path.ensures.items c.self.view_is c.insert_into.ensures

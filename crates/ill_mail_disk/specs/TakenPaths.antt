@@ -1,0 +1,64 @@
+-- The paths of the mails of a run, in two sets.
+use Rattle.std.specs.Prelude.{◌≡◌, ℕ, Bool, true, ◌&&◌, List, [], ◌∷◌, Option, Some, None, IfSome, Vec, bytes_eq}
+use Rattle.std.specs.declared.alloc.Global.{Global}
+use Rattle.ill_mail_disk.specs.Spots.{SpotOf, aside_paths, is_none_of, paths_of}
+use Rattle.ill_mail_disk.specs.Keeping.{KeeperOf}
+use Rattle.ill_mail_disk.specs.Runs.{IsSpread}
+
+-- The paths at which the files of mails may stand, and those that mails leave or take.
+pub record TakenOf : Type 0 where
+  pub places : List (List ℕ)
+  pub moves : List (List ℕ)
+
+-- Returns true if both paths have the same bytes.
+abbrev pub is_same_path : Vec ℕ Global → Vec ℕ Global → Bool
+is_same_path one other = bytes_eq one.items other.items
+
+-- A set has got one path.
+abbrev pub GetsPath : List ℕ → List (List ℕ) → List (List ℕ) → Type 0
+GetsPath path old new = (other : List ℕ) → is_none_of new other ≡ is_none_of (path ∷ old) other
+
+-- A set has got these three paths.
+abbrev pub GetsThree : List ℕ → List ℕ → List ℕ → List (List ℕ) → List (List ℕ) → Type 0
+GetsThree one two three old new = (path : List ℕ) → is_none_of new path ≡ is_none_of (one ∷ two ∷ three ∷ old) path
+
+-- Sets have got the paths of a mail.
+pub record GetsPaths (spot : SpotOf) (old new : TakenOf) : Type 0 where
+  pub places : GetsThree spot.claimed spot.waiting spot.aside old.places new.places
+  pub moves : GetsThree spot.reason spot.claimed spot.aside old.moves new.moves
+
+-- Returns true if the path is none of these paths of a mail, if there is a mail.
+abbrev pub misses_mail : (SpotOf → List (List ℕ)) → List ℕ → Option SpotOf → Bool
+misses_mail of path None = true
+misses_mail of path (Some spot) = is_none_of (of spot) path
+
+-- Returns true if the path is none of these paths of any mail.
+abbrev pub misses_mails : (SpotOf → List (List ℕ)) → List (Option SpotOf) → List ℕ → Bool
+misses_mails of [] path = true
+misses_mails of (spot ∷ spots) path = misses_mail of path spot && misses_mails of spots path
+
+-- The sets have the paths of these mails, and no others.
+pub record AreTaken (taken : TakenOf) (spots : List (Option SpotOf)) : Type 0 where
+  pub places : (path : List ℕ) → is_none_of taken.places path ≡ misses_mails paths_of spots path
+  pub moves : (path : List ℕ) → is_none_of taken.moves path ≡ misses_mails aside_paths spots path
+
+-- Returns true if no file of a mail with these paths may stand where another mail leaves or takes a path.
+abbrev pub leaves_places : List (List ℕ) → SpotOf → Bool
+leaves_places places spot = is_none_of places spot.reason && is_none_of places spot.claimed && is_none_of places spot.aside
+
+-- Returns true if none of these paths is one at which the file of the mail may stand.
+abbrev pub is_left : List (List ℕ) → SpotOf → Bool
+is_left moves spot = is_none_of moves spot.claimed && is_none_of moves spot.waiting && is_none_of moves spot.aside
+
+-- Returns true if a mail takes no path of these sets, and none of theirs is one of it.
+abbrev pub is_free : TakenOf → SpotOf → Bool
+is_free taken spot = leaves_places taken.places spot && is_left taken.moves spot
+
+-- The sets have the paths of these mails, if there are sets.
+abbrev pub AreKnown : Option TakenOf → List (Option SpotOf) → Type 0
+AreKnown taken spots = IfSome taken (λ sets. AreTaken sets spots)
+
+-- No mail of a run takes a path of another or of the messages that ask, and its sets have the paths of its mails.
+pub record IsInOrder (keeper : KeeperOf) (taken : Option TakenOf) (spots : List (Option SpotOf)) : Type 0 where
+  pub spread : IsSpread keeper spots
+  pub known : AreKnown taken spots

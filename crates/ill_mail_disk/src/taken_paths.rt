@@ -1,0 +1,121 @@
+//! The paths of the mails of a run, in two sets.
+
+ghost use Rattle.std.specs.Prelude.{◌≡◌, ◌∷◌, ◌++◌, [], List, Option, None, Some, IfSome, OnOk};
+ghost use Rattle.ill_mail_disk.specs.Spots.{SpotOf};
+ghost use Rattle.ill_mail_disk.specs.TakenPaths as taken;
+ghost use Rattle.ill_mail_disk.specs.TakenPaths.{AreKnown, GetsPaths, GetsThree, is_free, is_left, leaves_places};
+
+use crate::path_set::PathSet;
+use crate::spot::Spot;
+use std::alloc::{AllocError, Global};
+use std::marker::Model;
+use std::mem;
+
+/// The paths of the mails of a run. A look for one takes no longer if there are more mails.
+#[derive(Drop)]
+pub(crate) struct TakenPaths {
+    /// The paths at which the files of the mails may stand.
+    places: PathSet,
+    /// The paths that the mails leave or take.
+    moves: PathSet,
+}
+
+impl Model for TakenPaths {
+    ghost Value = { taken.TakenOf };
+
+    ghost view = { λ t. record { places = t.places; moves = t.moves } };
+}
+
+impl TakenPaths {
+    /// Returns the paths of a run without mails.
+    pub(crate) fn new(alloc: Global) -> TakenPaths
+        ensures { result ≡ record { places = []; moves = [] } }
+    {
+        TakenPaths {
+            places: PathSet::new(alloc),
+            moves: PathSet::new(alloc),
+        }
+    }
+
+    /// Returns true if a mail takes no path of these mails, and none of these takes one of it.
+    pub(crate) fn is_free(&self, spot: &Spot) -> bool
+        ensures { result ≡ is_free self.now spot.now }
+    {
+        leaves_places(&self.places, spot) && is_left(&self.moves, spot)
+    }
+
+    /// Puts the paths of a mail into the sets.
+    pub(crate) fn put(&mut self, spot: &Spot) -> Result<(), AllocError>
+        ensures { OnOk result (GetsPaths spot.now self.old self.new) }
+    {
+        put_three(
+            &mut self.places,
+            spot.claimed(),
+            spot.waiting(),
+            spot.aside(),
+        )?;
+        put_three(&mut self.moves, spot.reason(), spot.claimed(), spot.aside())
+    }
+}
+
+/// Returns true if no path that a mail leaves or takes is one of `places`.
+fn leaves_places(places: &PathSet, spot: &Spot) -> bool
+    ensures { result ≡ leaves_places places.now spot.now }
+{
+    places.lacks(spot.reason()) && places.lacks(spot.claimed()) && places.lacks(spot.aside())
+}
+
+/// Returns true if none of `moves` is a path at which the file of a mail may stand.
+fn is_left(moves: &PathSet, spot: &Spot) -> bool
+    ensures { result ≡ is_left moves.now spot.now }
+{
+    moves.lacks(spot.claimed()) && moves.lacks(spot.waiting()) && moves.lacks(spot.aside())
+}
+
+/// Puts three paths into a set.
+fn put_three(set: &mut PathSet, one: &[u8], two: &[u8], three: &[u8]) -> Result<(), AllocError>
+    ensures { OnOk result (GetsThree one.now two.now three.now set.old set.new) }
+{
+    set.put(three)?;
+    set.put(two)?;
+    set.put(one)
+}
+
+/// Takes the sets out of `taken`.
+pub(crate) fn take_sets(taken: &mut Option<TakenPaths>) -> Option<TakenPaths>
+    ensures taken { result ≡ taken.old }
+    ensures none { taken.new ≡ None }
+{
+    mem::replace(taken, None)
+}
+
+/// Returns the sets with the paths of a mail, if there are sets and a mail. Returns `None` if memory runs out.
+pub(crate) fn with_paths(taken: Option<TakenPaths>, spot: &Option<Spot>) -> Option<TakenPaths>
+    ensures { (spots : List (Option SpotOf)) → AreKnown taken spots → AreKnown result (spots ++ spot.now ∷ []) }
+{
+    match spot {
+        Some(spot) => with_spot(taken, spot),
+        None => taken,
+    }
+}
+
+/// Returns the sets with the paths of a mail, if there are sets. Returns `None` if memory runs out.
+fn with_spot(taken: Option<TakenPaths>, spot: &Spot) -> Option<TakenPaths>
+    ensures { (spots : List (Option SpotOf)) → AreKnown taken spots → AreKnown result (spots ++ Some spot.now ∷ []) }
+{
+    match taken {
+        Some(taken) => put_into(taken, spot),
+        None => None,
+    }
+}
+
+/// Returns the sets `taken` with the paths of a mail, or `None` if memory runs out.
+fn put_into(taken: TakenPaths, spot: &Spot) -> Option<TakenPaths>
+    ensures { IfSome result (λ sets. GetsPaths spot.now taken sets) }
+{
+    let mut taken = taken;
+    match taken.put(spot) {
+        Ok(()) => Some(taken),
+        Err(_) => None,
+    }
+}

@@ -12,7 +12,7 @@ use Rattle.ill_mail_disk.specs.Runs.{AddsMail, MailRunOf, cared_for}
 use Rattle.ill_mail_disk.specs.Runs.{IsSpread, are_spread, is_admitted, is_spread_from, is_spread_from_all, keeps_off, spares}
 
 -- An element of a list with one more is of the list, or the one more.
-last_or : {X : Type 0} (xs : List X) (y : X) (i : ℕ) (z : X) → slice_get (xs ++ y ∷ []) i ≡ Some z →
+pub last_or : {X : Type 0} (xs : List X) (y : X) (i : ℕ) (z : X) → slice_get (xs ++ y ∷ []) i ≡ Some z →
     (slice_get xs i ≡ Some z) ⊎ ((i ≡ length xs) × (y ≡ z))
 last_or [] y zero z is = inr (refl, ap (value_or y) is)
 last_or [] y (suc i) z is = absurd (none-some z is)

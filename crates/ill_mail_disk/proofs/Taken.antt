@@ -1,14 +1,19 @@
 -- The sets of the paths of a run tell if a mail is spread from all mails of it.
 use Rattle.std.proofs.Common.{◌≡◌, refl, sym, ◌∙◌, ap, subst, ℕ, Bool, true, false, not, ◌&&◌, ◌||◌, if◌then◌else◌, List, []}
+use Rattle.std.proofs.Common.{⊎_elim, zero, suc, slice_get}
 use Rattle.std.proofs.Common.{◌∷◌, ◌++◌, map, Option, Some, None, IfSome, Result, Ok, Err, OnOk, bytes_eq, Vec, Global}
+use Rattle.std.proofs.lemmas.Option.{none-some}
 use Rattle.std.specs.List.{list_any}
+use Rattle.ill_disk.proofs.Memory.{value_or}
+use Rattle.ill_mail_disk.proofs.Adding.{last_or}
 use Rattle.indexmap.specs.IndexSet.{insert_key}
 use Rattle.std.proofs.lemmas.Bool.{and_parts, and_from, true≢false, not-true}
 use Rattle.std.proofs.lemmas.Slice.Eq.{bytes_eq-Decides}
 use Rattle.ill_mail_disk.specs.Touches.{IsNoneOf}
 use Rattle.ill_mail_disk.specs.Spots.{SpotOf, aside_paths, is_none_of, paths_of}
-use Rattle.ill_mail_disk.specs.Runs.{is_spread_from, is_spread_from_all, misses, spares}
-use Rattle.ill_mail_disk.specs.TakenPaths.{TakenOf, AreKnown, AreTaken, GetsPath, GetsPaths, is_free, is_same_path}
+use Rattle.ill_mail_disk.specs.Runs.{HasComeAlone, has_come_as, is_spread_from, is_spread_from_all, misses}
+use Rattle.ill_mail_disk.specs.TakenPaths.{TakenOf, AreKnown, AreTaken, GetsPath, GetsPaths, IsOnce, is_free}
+use Rattle.ill_mail_disk.specs.TakenPaths.{is_same_path}
 use Rattle.ill_mail_disk.specs.TakenPaths.{misses_mail, misses_mails}
 use Rattle.ill_mail_disk.proofs.Apart.{none_of}
 
@@ -321,6 +326,44 @@ split one two three path rest =
     apart true false c d = refl
     apart false b c d = refl
 
+-- A path that misses all mails misses each.
+misses_each : (of : SpotOf → List (List ℕ)) (path : List ℕ) (spots : List (Option SpotOf)) (i : ℕ) (spot : SpotOf) →
+    misses_mails of spots path ≡ true → slice_get spots i ≡ Some (Some spot) → is_none_of (of spot) path ≡ true
+misses_each of path [] i spot misses is = absurd (none-some (Some spot) is)
+misses_each of path (x ∷ spots) zero spot misses is =
+    subst (λ (o : Option SpotOf). misses_mail of path o ≡ true) (ap (value_or x) is)
+    (and_parts (misses_mail of path x) (misses_mails of spots path) misses).0
+misses_each of path (x ∷ spots) (suc i) spot misses is =
+    misses_each of path spots i spot (and_parts (misses_mail of path x) (misses_mails of spots path) misses).1 is
+
+-- No mail waits at the path of one more, unless the places have it.
+none_waits : (taken : TakenOf) (spots : List (Option SpotOf)) → AreTaken taken spots → (mine spot : SpotOf) (i : ℕ) →
+    is_none_of taken.places mine.waiting ≡ true → slice_get spots i ≡ Some (Some spot) → spot.waiting ≡ mine.waiting → ⊥
+none_waits taken spots are mine spot i lacks is same =
+    (none_of (paths_of spot) mine.waiting
+    (misses_each paths_of mine.waiting spots i spot (sym (are.places mine.waiting) ∙ lacks) is)).1.0 same
+
+-- A name that is not shared after one more mail is that of one mail at most.
+once_more : (mine : SpotOf) (old new : TakenOf) (spots : List (Option SpotOf)) → AreTaken old spots → GetsPaths mine old new
+    → (path : List ℕ) → is_none_of new.shared path ≡ true → IsOnce path (spots ++ Some mine ∷ [])
+once_more mine old new spots are gets path lacks mail other spot second one two is_one is_two =
+    let parts = gets.shared path lacks in
+    ⊎_elim
+    (λ first. ⊎_elim
+    (λ also. are.shared path parts.0 mail other spot second first also is_one is_two)
+    (λ last. absurd (none_waits old spots are mine spot mail (parts.1 (mine_is second last.1 is_two)) first
+    (is_one ∙ sym (mine_is second last.1 is_two))))
+    (last_or spots (Some mine) other (Some second) two))
+    (λ last. ⊎_elim
+    (λ also. absurd (none_waits old spots are mine second other (parts.1 (mine_is spot last.1 is_one)) also
+    (is_two ∙ sym (mine_is spot last.1 is_one))))
+    (λ both. last.0 ∙ sym both.0)
+    (last_or spots (Some mine) other (Some second) two))
+    (last_or spots (Some mine) mail (Some spot) one)
+  where
+    mine_is : (z : SpotOf) → Some mine ≡ Some z → z.waiting ≡ path → mine.waiting ≡ path
+    mine_is z same is = ap (λ (s : SpotOf). s.waiting) (ap (value_or mine) same) ∙ is
+
 -- Sets of the paths of mails that get those of one more have those of all.
 put_taken : (spot : SpotOf) (old new : TakenOf) (spots : List (Option SpotOf)) → AreTaken old spots → GetsPaths spot old new
     → AreTaken new (spots ++ Some spot ∷ [])
@@ -331,6 +374,7 @@ put_taken spot old new spots are gets = record {
   moves = λ path. gets.moves path ∙ split spot.reason spot.claimed spot.aside path old.moves
       ∙ ap (λ rest. is_none_of (aside_paths spot) path && rest) (are.moves path)
       ∙ sym (last_first aside_paths path spots (Some spot));
+  shared = once_more spot old new spots are gets;
 }
 
 -- If there are sets with the paths of one more mail, they have those of all.
@@ -346,10 +390,37 @@ known_still None spots are = tt
 known_still (Some old) spots are = record {
   places = λ path. are.places path ∙ sym (last_first paths_of path spots None);
   moves = λ path. are.moves path ∙ sym (last_first aside_paths path spots None);
+  shared = λ path lacks mail other spot second one two.
+      are.shared path lacks mail other spot second (among mail spot one) (among other second two);
 }
+  where
+    among : (i : ℕ) (z : SpotOf) → slice_get (spots ++ None ∷ []) i ≡ Some (Some z) → slice_get spots i ≡ Some (Some z)
+    among i z is = ⊎_elim (λ first. first) (λ last. absurd (none-some z last.1)) (last_or spots None i (Some z) is)
 
 -- The sets tell if a mail is spread from all, if there are sets.
 pub known_free : (sets : Option TakenOf) (taken : TakenOf) (spots : List (Option SpotOf)) → AreKnown sets spots →
     sets ≡ Some taken → (spot : SpotOf) → is_free taken spot ≡ is_spread_from_all spot spots
 known_free sets taken spots known is spot =
     free_is_spread taken spots (subst (λ (s : Option TakenOf). AreKnown s spots) is known) spot
+
+-- A test that never passes fails.
+never_passes : (test : Bool) → (test ≡ true → ⊥) → test ≡ false
+never_passes true never = absurd (never refl)
+never_passes false never = refl
+
+-- Another mail has come under another name, if that of a mail is not shared.
+other_name : (taken : TakenOf) (spots : List (Option SpotOf)) → AreTaken taken spots → (mail other : ℕ) (spot : SpotOf)
+    (x : Option SpotOf) → slice_get spots mail ≡ Some (Some spot) → is_none_of taken.shared spot.waiting ≡ true →
+    (other ≡ mail → ⊥) → slice_get spots other ≡ Some x → has_come_as spot.waiting x ≡ false
+other_name taken spots are mail other spot None here lacks differ at = refl
+other_name taken spots are mail other spot (Some second) here lacks differ at =
+    never_passes (bytes_eq spot.waiting second.waiting)
+    (λ equal. differ (sym (are.shared spot.waiting lacks mail other spot second here at refl
+    (sym ((bytes_eq-Decides spot.waiting second.waiting).0 equal)))))
+
+-- If the name of a mail is not shared, each other mail has come under another one.
+pub once_alone : (sets : Option TakenOf) (taken : TakenOf) (spots : List (Option SpotOf)) → AreKnown sets spots →
+    sets ≡ Some taken → (mail : ℕ) (spot : SpotOf) → slice_get spots mail ≡ Some (Some spot) →
+    is_none_of taken.shared spot.waiting ≡ true → HasComeAlone spots mail spot.waiting
+once_alone sets taken spots known is mail spot here lacks = λ other x differ at.
+    other_name taken spots (subst (λ (s : Option TakenOf). AreKnown s spots) is known) mail other spot x here lacks differ at

@@ -1,14 +1,17 @@
 -- The paths of the mails of a run, in two sets.
 use Rattle.std.specs.Prelude.{◌≡◌, ℕ, Bool, true, ◌&&◌, List, [], ◌∷◌, Option, Some, None, IfSome, Vec, bytes_eq}
+use Rattle.std.specs.Prelude.{slice_get}
 use Rattle.std.specs.declared.alloc.Global.{Global}
 use Rattle.ill_mail_disk.specs.Spots.{SpotOf, aside_paths, is_none_of, paths_of}
 use Rattle.ill_mail_disk.specs.Keeping.{KeeperOf}
 use Rattle.ill_mail_disk.specs.Runs.{IsSpread}
 
--- The paths at which the files of mails may stand, and those that mails leave or take.
+-- The paths at which the files of mails may stand, those that mails leave or take, and the names of two mails or more in
+-- the folder from which they were claimed.
 pub record TakenOf : Type 0 where
   pub places : List (List ℕ)
   pub moves : List (List ℕ)
+  pub shared : List (List ℕ)
 
 -- Returns true if both paths have the same bytes.
 abbrev pub is_same_path : Vec ℕ Global → Vec ℕ Global → Bool
@@ -22,10 +25,16 @@ GetsPath path old new = (other : List ℕ) → is_none_of new other ≡ is_none_
 abbrev pub GetsThree : List ℕ → List ℕ → List ℕ → List (List ℕ) → List (List ℕ) → Type 0
 GetsThree one two three old new = (path : List ℕ) → is_none_of new path ≡ is_none_of (one ∷ two ∷ three ∷ old) path
 
+-- A set has got no path, or the one at which a mail waits, if that was among the places.
+abbrev pub Shares : List ℕ → List (List ℕ) → List (List ℕ) → List (List ℕ) → Type 0
+Shares path places old new = (other : List ℕ) → is_none_of new other ≡ true →
+    (is_none_of old other ≡ true) × (path ≡ other → is_none_of places path ≡ true)
+
 -- Sets have got the paths of a mail.
 pub record GetsPaths (spot : SpotOf) (old new : TakenOf) : Type 0 where
   pub places : GetsThree spot.claimed spot.waiting spot.aside old.places new.places
   pub moves : GetsThree spot.reason spot.claimed spot.aside old.moves new.moves
+  pub shared : Shares spot.waiting old.places old.shared new.shared
 
 -- Returns true if the path is none of these paths of a mail, if there is a mail.
 abbrev pub misses_mail : (SpotOf → List (List ℕ)) → List ℕ → Option SpotOf → Bool
@@ -37,10 +46,16 @@ abbrev pub misses_mails : (SpotOf → List (List ℕ)) → List (Option SpotOf) 
 misses_mails of [] path = true
 misses_mails of (spot ∷ spots) path = misses_mail of path spot && misses_mails of spots path
 
--- The sets have the paths of these mails, and no others.
+-- One mail at most has come under this name.
+abbrev pub IsOnce : List ℕ → List (Option SpotOf) → Type 0
+IsOnce path spots = (mail other : ℕ) (spot second : SpotOf) → slice_get spots mail ≡ Some (Some spot) →
+    slice_get spots other ≡ Some (Some second) → spot.waiting ≡ path → second.waiting ≡ path → mail ≡ other
+
+-- The sets have the paths of these mails, and no others. A name that is not shared is that of one mail at most.
 pub record AreTaken (taken : TakenOf) (spots : List (Option SpotOf)) : Type 0 where
   pub places : (path : List ℕ) → is_none_of taken.places path ≡ misses_mails paths_of spots path
   pub moves : (path : List ℕ) → is_none_of taken.moves path ≡ misses_mails aside_paths spots path
+  pub shared : (path : List ℕ) → is_none_of taken.shared path ≡ true → IsOnce path spots
 
 -- Returns true if no file of a mail with these paths may stand where another mail leaves or takes a path.
 abbrev pub leaves_places : List (List ℕ) → SpotOf → Bool

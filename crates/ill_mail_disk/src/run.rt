@@ -1,6 +1,6 @@
 //! The mails of a run on a disk that may lose its power.
 
-ghost use Rattle.std.specs.Prelude.{◌≡◌, ◌⊎◌, true, slice_get, None, IfOk, IfSome, OnErr, OnOk, [], ◌∷◌, ◌++◌};
+ghost use Rattle.std.specs.Prelude.{◌≡◌, ◌⊎◌, true, slice_get, None, Some, IfOk, IfSome, OnErr, OnOk, [], ◌∷◌, ◌++◌};
 ghost use Rattle.ill_disk.specs.Calls.{Answers};
 ghost use Rattle.ill_mail_disk.specs.Spots.{FlushesClaim, GivesMailBack, Gone, Aside, PutsMailAside, RemovesMail};
 ghost use Rattle.ill_mail_disk.specs.TakenPaths.{AreKnown, IsInOrder};
@@ -132,7 +132,11 @@ impl<D: MailDisk> MailRun<D> {
         ensures survive { MailsSurvive D.state AnyMail self.old self.new }
         ensures mails { self.new.spots ≡ self.old.spots }
     {
-        give_back_at(&mut self.disk, &self.spots, mail)
+        let others = Others {
+            spots: &self.spots,
+            taken: &self.taken,
+        };
+        give_back_at(&mut self.disk, others, mail)
     }
 
     /// Keeps `asked`, messages that ask. If there are none, no file is left.
@@ -336,38 +340,48 @@ fn put_aside_at<D: MailDisk>(
     }
 }
 
-/// Gives the mail `mail` of `spots` back, if the run takes care of it, and no other mail of the run has come under its
-/// name.
-fn give_back_at<D: MailDisk>(
-    disk: &mut D,
-    spots: &[Option<Spot>],
-    mail: usize,
-) -> Result<(), DiskFault>
+/// Gives the mail `mail` of a run back, if the run takes care of it, and no other mail of the run has come under its name.
+fn give_back_at<D: MailDisk>(disk: &mut D, others: Others<'_>, mail: usize) -> Result<(), DiskFault>
+    requires { AreKnown others.taken.now others.spots.now }
     ensures { DoesAt (λ spot. (D.state disk.new ≡ D.state disk.old)
-        ⊎ (HasComeAlone spots.now mail spot.waiting × GivesMailBack spot (D.state disk.old) (D.state disk.new)))
-        (DoesNothing (D.state disk.old) result (D.state disk.new)) (slice_get spots.now mail) }
+        ⊎ (HasComeAlone others.entry.spots.now mail spot.waiting × GivesMailBack spot (D.state disk.old) (D.state disk.new)))
+        (DoesNothing (D.state disk.old) result (D.state disk.new)) (slice_get others.entry.spots.now mail) }
 {
-    match spots.get(mail) {
-        Some(Some(spot)) => give_back_if_alone(disk, spots, mail, spot),
+    match others.spots.get(mail) {
+        Some(Some(spot)) => give_back_if_alone(disk, others, mail, spot),
         Some(None) => Ok(()),
         None => Ok(()),
     }
 }
 
-/// Gives `spot`, the mail `mail` of `spots`, back, if no other mail of the run has come under its name.
+/// Gives `spot`, the mail `mail` of a run, back, if no other mail of the run has come under its name.
 fn give_back_if_alone<D: MailDisk>(
     disk: &mut D,
-    spots: &[Option<Spot>],
+    others: Others<'_>,
     mail: usize,
     spot: &Spot,
 ) -> Result<(), DiskFault>
+    requires known { AreKnown others.taken.now others.spots.now }
+    requires here { slice_get others.spots.now mail ≡ Some (Some spot.now) }
     ensures { (D.state disk.new ≡ D.state disk.old)
-        ⊎ (HasComeAlone spots.now mail spot.now.waiting × GivesMailBack spot.now (D.state disk.old) (D.state disk.new)) }
+        ⊎ (HasComeAlone others.entry.spots.now mail spot.now.waiting × GivesMailBack spot.now (D.state disk.old) (D.state disk.new)) }
 {
-    if !has_come_alone(spots, mail, spot.waiting()) {
+    if !is_alone(others, mail, spot) {
         return Ok(());
     }
     give_mail_back(disk, spot)
+}
+
+/// Returns true if each other mail of a run than `spot`, which is the mail `mail`, has come under another name.
+fn is_alone(others: Others<'_>, mail: usize, spot: &Spot) -> bool
+    requires known { AreKnown others.taken.now others.spots.now }
+    requires here { slice_get others.spots.now mail ≡ Some (Some spot.now) }
+    ensures { result ≡ true → HasComeAlone others.entry.spots.now mail spot.now.waiting }
+{
+    match others.taken {
+        Some(taken) => taken.is_alone(spot),
+        None => has_come_alone(others.spots, mail, spot.waiting()),
+    }
 }
 
 /// Returns true if each other mail of `spots` than `mail` has come under another name than `path`.

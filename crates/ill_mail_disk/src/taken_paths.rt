@@ -1,9 +1,9 @@
-//! The paths of the mails of a run, in two sets.
+//! The paths of the mails of a run, in sets.
 
 ghost use Rattle.std.specs.Prelude.{◌≡◌, ◌∷◌, ◌++◌, [], List, Option, None, Some, IfSome, OnOk};
-ghost use Rattle.ill_mail_disk.specs.Spots.{SpotOf};
+ghost use Rattle.ill_mail_disk.specs.Spots.{SpotOf, is_none_of};
 ghost use Rattle.ill_mail_disk.specs.TakenPaths as taken;
-ghost use Rattle.ill_mail_disk.specs.TakenPaths.{AreKnown, GetsPaths, GetsThree, is_free, is_left, leaves_places};
+ghost use Rattle.ill_mail_disk.specs.TakenPaths.{AreKnown, GetsPaths, GetsThree, Shares, is_free, is_left, leaves_places};
 
 use crate::path_set::PathSet;
 use crate::spot::Spot;
@@ -18,22 +18,25 @@ pub(crate) struct TakenPaths {
     places: PathSet,
     /// The paths that the mails leave or take.
     moves: PathSet,
+    /// The paths at which two mails or more wait if they are given back.
+    shared: PathSet,
 }
 
 impl Model for TakenPaths {
     ghost Value = { taken.TakenOf };
 
-    ghost view = { λ t. record { places = t.places; moves = t.moves } };
+    ghost view = { λ t. record { places = t.places; moves = t.moves; shared = t.shared } };
 }
 
 impl TakenPaths {
     /// Returns the paths of a run without mails.
     pub(crate) fn new(alloc: Global) -> TakenPaths
-        ensures { result ≡ record { places = []; moves = [] } }
+        ensures { result ≡ record { places = []; moves = []; shared = [] } }
     {
         TakenPaths {
             places: PathSet::new(alloc),
             moves: PathSet::new(alloc),
+            shared: PathSet::new(alloc),
         }
     }
 
@@ -44,10 +47,18 @@ impl TakenPaths {
         leaves_places(&self.places, spot) && is_left(&self.moves, spot)
     }
 
+    /// Returns true if no other of these mails has come under the name of a mail.
+    pub(crate) fn is_alone(&self, spot: &Spot) -> bool
+        ensures { result ≡ is_none_of self.now.shared spot.now.waiting }
+    {
+        self.shared.lacks(spot.waiting())
+    }
+
     /// Puts the paths of a mail into the sets.
     pub(crate) fn put(&mut self, spot: &Spot) -> Result<(), AllocError>
         ensures { OnOk result (GetsPaths spot.now self.old self.new) }
     {
+        share(&mut self.shared, &self.places, spot.waiting())?;
         put_three(
             &mut self.places,
             spot.claimed(),
@@ -70,6 +81,16 @@ fn is_left(moves: &PathSet, spot: &Spot) -> bool
     ensures { result ≡ is_left moves.now spot.now }
 {
     moves.lacks(spot.claimed()) && moves.lacks(spot.waiting()) && moves.lacks(spot.aside())
+}
+
+/// Puts `path` into `shared`, if `places` has it.
+fn share(shared: &mut PathSet, places: &PathSet, path: &[u8]) -> Result<(), AllocError>
+    ensures { OnOk result (Shares path.now places.now shared.old shared.new) }
+{
+    if places.lacks(path) {
+        return Ok(());
+    }
+    shared.put(path)
 }
 
 /// Puts three paths into a set.

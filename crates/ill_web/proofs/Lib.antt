@@ -1,3 +1,4 @@
 pub mod DeskLemmas
+pub mod EntryLemmas
 pub mod PlaceLemmas
 pub mod TurnLemmas

@@ -2,7 +2,6 @@
 use Rattle.std.proofs.Common.{◌≡◌, ◌⊎◌, inl, inr, ℕ, Bool, true, false, List, Option, Some, None, Result, Ok, Err, refl, sym, ap}
 use Rattle.std.proofs.Common.{subst, ◌∙◌, rules}
 use Rattle.std.specs.Io.KnownBytes.{Consumes}
-use Rattle.ill_values.specs.Day.{Date}
 use Rattle.ill_browser.specs.declared.fault.VisitFault.{VisitFault}
 use Rattle.ill_browser.specs.declared.wanted.Wanted.{Wanted}
 use Rattle.ill_browser.specs.BadAsking.{MisreadsVisit, look_changes}
@@ -14,8 +13,10 @@ use Rattle.ill_web.specs.declared.trouble.Trouble.{Trouble}
 use Rattle.ill_web.specs.declared.trouble.Trouble.TheVariants.{Refused}
 use Rattle.ill_post.specs.declared.answer.Posted.{Posted}
 use Rattle.ill_post.specs.Post.{DeskState}
-use Rattle.ill_web.specs.Acts.{ActsIf, ActsIn, AnswersSent, SentForm, TellsAnswer, Turn, may_act}
-use Rattle.ill_web.specs.Replies.{ActsHere, AnswersAt, AnswersRequest, Follows, HouseShown, IsReply, IsTurnOf, Replies, TakesTurn}
+use Rattle.ill_text.specs.Diary.{Stamped}
+use Rattle.ill_web.specs.Acts.{ActsIf, ActsIn, AnswersSent, IsTurnOf, SentForm, TellsAnswer, Turn, may_act}
+use Rattle.ill_web.specs.Entries.{stamp_on}
+use Rattle.ill_web.specs.Replies.{ActsHere, AnswersAt, AnswersRequest, Follows, HouseShown, IsReply, Replies, TakesTurn}
 use Rattle.ill_web.specs.Replies.{rules_of}
 
 -- The law that no request is misread.
@@ -104,15 +105,15 @@ own_has_turn law operator v left rest turn reply (result, (wanted, answers, foll
     own_follows law operator v left rest turn result wanted answers follows
 
 -- A form that has a turn has one of its own.
-turn_of_form : (today : Date) (sent : SentForm) (may : Bool) (turn : Turn) (result : Result (List ℕ) Trouble)
-    → ActsIf may today sent (Some turn) result → IsTurnOf today sent turn
-turn_of_form today sent false turn result (none, e) = no_turn turn none
-turn_of_form today sent true turn result (at, (answer, (posted, answers, of), told)) = (at, (posted, answers))
+turn_of_form : (stamp : Stamped) (sent : SentForm) (may : Bool) (turn : Turn) (result : Result (List ℕ) Trouble)
+    → ActsIf may stamp sent (Some turn) result → IsTurnOf stamp sent turn
+turn_of_form stamp sent false turn result (none, e) = no_turn turn none
+turn_of_form stamp sent true turn result (of, told) = of
 
 -- What has a turn is an act, and the turn is its own.
 act_of_turn : (house : HouseShown) (asked : Asked) (turn : Turn) (result : Result (List ℕ) Trouble)
     → AnswersAt house asked (Some turn) result
-    → (sent : SentForm) × (asked ≡ Act sent.loan sent.stamp sent.words) × IsTurnOf house.today sent turn
+    → (sent : SentForm) × (asked ≡ Act sent.loan sent.stamp sent.words) × IsTurnOf (stamp_on house.today house.user) sent turn
 act_of_turn house (Desks find) turn result (none, at) = no_turn turn none
 act_of_turn house (Loan loan) turn result (none, at) = no_turn turn none
 act_of_turn house (Slip loan) turn result (none, at) = no_turn turn none
@@ -120,7 +121,7 @@ act_of_turn house (Figures from to) turn result (none, at) = no_turn turn none
 act_of_turn house (Note loan note) turn result (none, at) = no_turn turn none
 act_of_turn house (Act loan stamp words) turn result (inl (named, acts)) =
     let sent : SentForm = record { loan = loan; stamp = stamp; words = words } in
-    (sent, refl, turn_of_form house.today sent (may_act house.user) turn result acts)
+    (sent, refl, turn_of_form (stamp_on house.today house.user) sent (may_act house.user) turn result acts)
 act_of_turn house (Act loan stamp words) turn result (inr (named, none, e)) = no_turn turn none
 
 -- The turn of a request is that of its form.
@@ -166,8 +167,9 @@ refused_is_told operator v left rest turn reply refusal e (result, (wanted, answ
     (then.0, read.1, subst (λ result. IsReply operator.today result reply) then.1 is)
 
 -- A form that was answered at a desk has a turn there.
-pub has_turn : (today : Date) (sent : SentForm) (old new : DeskState) (answer : Result Posted Trouble)
-    (result : Result (List ℕ) Trouble) → AnswersSent today sent old answer new → TellsAnswer today sent.loan answer result
-    → (turn : Option Turn) × ActsIn today sent turn result
-has_turn today sent old new answer result answers told =
-    (Some (record { file = sent.loan.desk; old = old; new = new }), (refl, (answer, answers, told)))
+pub has_turn : (stamp : Stamped) (sent : SentForm) (old new : DeskState) (answer : Result Posted Trouble)
+    (result : Result (List ℕ) Trouble) → AnswersSent stamp sent old answer new
+    → TellsAnswer stamp.day sent.loan answer result → (turn : Option Turn) × ActsIn stamp sent turn result
+has_turn stamp sent old new answer result (came, entered, answers, enters, of) told =
+    let turn : Turn = record { file = sent.loan.desk; old = old; new = new; came = came; entered = entered } in
+    (Some turn, ((refl, answers, enters), subst (λ answer. TellsAnswer stamp.day sent.loan answer result) of told))

@@ -1,13 +1,11 @@
 -- What a form does: an act at one desk, under the lock of its file, or a note beside it.
 use Rattle.std.specs.Prelude.{◌≡◌, ◌⊎◌, ℕ, Bool, true, false, List, [], ◌++◌, Option, Some, None, Result, Ok, Err}
 use Rattle.std.specs.Prelude.{IsErrAnd}
-use Rattle.std.specs.Prelude.{length, IsUtf8, ◌==◌, ◌||◌, ◌+◌, ◌∷◌, if◌then◌else◌}
+use Rattle.std.specs.Prelude.{length, ◌==◌, ◌||◌}
 use Rattle.ill_values.specs.Day.{Date}
-use Rattle.ill_values.specs.TxnId.{Qualifiers}
 use Rattle.ill_saved.specs.declared.fault.DeskFault.{DeskFault}
 use Rattle.ill_record.specs.declared.role.Role.{Role}
-use Rattle.ill_record.specs.declared.side.Action.{Action}
-use Rattle.ill_text.specs.Diary.{diary_line, is_name}
+use Rattle.ill_text.specs.Diary.{Stamped, is_name}
 use Rattle.ill_text.specs.Fault.{desk_fault}
 use Rattle.ill_text.specs.declared.fault.ToolFault.{ToolFault}
 use Rattle.ill_beside.specs.Notes.{is_note}
@@ -24,6 +22,7 @@ use Rattle.ill_page.specs.Reply.{seen_reply}
 use Rattle.ill_web.specs.declared.trouble.Trouble.{Trouble}
 use Rattle.ill_web.specs.declared.trouble.Trouble.TheVariants as troubles
 use Rattle.ill_web.specs.Actions.{action_of}
+use Rattle.ill_web.specs.Entries.{Entered, EntersTurn, form_line}
 use Rattle.ill_web.specs.Troubles.{Telling, no_memory}
 use Rattle.ill_web.specs.Pages.{AtDesk, Gives, IsUnread, ShowsLoan}
 
@@ -40,22 +39,31 @@ abbrev pub form_of : Date → Role → SentForm → FormShown
 form_of today role sent =
     record { txn = sent.loan.txn; stamp = sent.stamp; action = action_of role today sent.words }
 
--- A turn of a form at the desk in a file, under the lock of the file: the desk before it and after it.
+-- A turn of a form at the desk in a file, under the lock of the file: the desk before it and after it, what came of the
+-- form, and what was entered in the diary.
 pub record Turn : Type 0 where
   pub file : List ℕ
   pub old : DeskState
   pub new : DeskState
+  pub came : Result Posted DeskFault
+  pub entered : Entered
 
 -- Returns what came of a form, or the fault of its desk.
 abbrev pub of_post : Result Posted DeskFault → Result Posted Trouble
 of_post (Ok posted) = Ok posted
 of_post (Err fault) = Err (troubles.Desk (desk_fault fault))
 
--- A form was answered at a desk, exactly as `AnswersPost` says.
-abbrev pub AnswersSent : Date → SentForm → DeskState → Result Posted Trouble → DeskState → Type 0
-AnswersSent today sent old answer new =
-    (posted : Result Posted DeskFault) × AnswersPost (form_of today old.live.role sent) old posted new
-    × (answer ≡ of_post posted)
+-- A form was answered at a desk, exactly as `AnswersPost` says. Its line was entered in the diary beside a file.
+abbrev pub PostsAt : (beside line : List ℕ) → FormShown → DeskState → Result Posted Trouble → DeskState → Type 0
+PostsAt beside line form old answer new =
+    (came : Result Posted DeskFault) × (entered : Entered) × AnswersPost form old came new
+    × EntersTurn came beside line entered × (answer ≡ of_post came)
+
+-- The form was answered at its desk, on the day of the stamp. Its line has this stamp.
+abbrev pub AnswersSent : Stamped → SentForm → DeskState → Result Posted Trouble → DeskState → Type 0
+AnswersSent stamp sent old answer new =
+    PostsAt sent.loan.desk (form_line stamp (form_of stamp.day old.live.role sent) old.live)
+    (form_of stamp.day old.live.role sent) old answer new
 
 -- ---- what is told of it
 
@@ -103,44 +111,32 @@ IsEarly troubles.NoName = Unit {0}
 IsEarly troubles.OtherGroup = Unit {0}
 IsEarly trouble = IsUnread trouble
 
--- The form had its turn at the desk that its text names, and the reply tells what came of it.
-abbrev pub HasTurn : Date → SentForm → Turn → Result (List ℕ) Trouble → Type 0
-HasTurn today sent turn result =
+-- A turn is that of a form. It is at the desk that the form names, and the form is answered there as `AnswersPost` says.
+-- What is entered beside that desk is the line of the form with this stamp, as `EntersPost` says.
+abbrev pub IsTurnOf : Stamped → SentForm → Turn → Type 0
+IsTurnOf stamp sent turn =
     (turn.file ≡ sent.loan.desk)
-    × ((answer : Result Posted Trouble) × AnswersSent today sent turn.old answer turn.new
-    × TellsAnswer today sent.loan answer result)
+    × AnswersPost (form_of stamp.day turn.old.live.role sent) turn.old turn.came turn.new
+    × EntersTurn turn.came sent.loan.desk (form_line stamp (form_of stamp.day turn.old.live.role sent) turn.old.live)
+    turn.entered
+
+-- The form had its turn, and the reply tells what came of it.
+abbrev pub HasTurn : Stamped → SentForm → Turn → Result (List ℕ) Trouble → Type 0
+HasTurn stamp sent turn result = IsTurnOf stamp sent turn × TellsAnswer stamp.day sent.loan (of_post turn.came) result
 
 -- The form had a turn. Or it was refused before, and had none.
-abbrev pub ActsIn : Date → SentForm → Option Turn → Result (List ℕ) Trouble → Type 0
-ActsIn today sent (Some turn) result = HasTurn today sent turn result
-ActsIn today sent None result = IsErrAnd result IsEarly
+abbrev pub ActsIn : Stamped → SentForm → Option Turn → Result (List ℕ) Trouble → Type 0
+ActsIn stamp sent (Some turn) result = HasTurn stamp sent turn result
+ActsIn stamp sent None result = IsErrAnd result IsEarly
 
 -- Returns true if a diary can name the user, or nobody is named.
 abbrev pub may_act : (user : List ℕ) → Bool
 may_act user = length user == 0 || is_name user
 
 -- The form acts, if a diary can name its user, so that it `may_act`.
-abbrev pub ActsIf : (may_act : Bool) → Date → SentForm → Option Turn → Result (List ℕ) Trouble → Type 0
-ActsIf true today sent turn result = ActsIn today sent turn result
-ActsIf false today sent turn result = (turn ≡ None) × (result ≡ Err troubles.NoName)
-
--- ---- the diary
-
--- Returns the name of the user, if there is one.
-abbrev pub user_named : (user : List ℕ) → Option (List ℕ)
-user_named user = if length user == 0 then None else Some user
-
--- The line names an action by its verb, as the next message of a loan with `issued` messages. It is empty if the verb is no
--- text.
-abbrev pub IsVerbLine : Date → (by : Option (List ℕ)) → Qualifiers → (verb : List ℕ) → (issued : ℕ) → (line : List ℕ) → Type 0
-IsVerbLine day by txn verb issued line =
-    (line ≡ diary_line day by txn verb (issued + 1)) ⊎ ((IsUtf8 verb → ⊥) × (line ≡ []))
-
--- The line of a diary names the action of a form by the first of its words. It is empty if the form names no action.
-abbrev pub IsTurnLine : Option Action → Date → (by : Option (List ℕ)) → Qualifiers → (words : List (List ℕ)) → (issued : ℕ) →
-    (line : List ℕ) → Type 0
-IsTurnLine (Some action) day by txn (verb ∷ words) issued line = IsVerbLine day by txn verb issued line
-IsTurnLine action day by txn words issued line = line ≡ []
+abbrev pub ActsIf : (may_act : Bool) → Stamped → SentForm → Option Turn → Result (List ℕ) Trouble → Type 0
+ActsIf true stamp sent turn result = ActsIn stamp sent turn result
+ActsIf false stamp sent turn result = (turn ≡ None) × (result ≡ Err troubles.NoName)
 
 -- ---- a note
 

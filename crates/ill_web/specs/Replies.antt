@@ -8,16 +8,14 @@ use Rattle.ill_browser.specs.declared.wanted.Wanted.{Wanted}
 use Rattle.ill_browser.specs.Visit.{RulesShown, VisitShown, body_size}
 use Rattle.ill_browser.specs.Wanted.{Answers, Asked, Desks, Loan, Slip, Figures, Act, Note, asked_of, wanted_of}
 use Rattle.ill_commands.specs.Streams.{Streams}
-use Rattle.ill_post.specs.declared.answer.Posted.{Posted}
-use Rattle.ill_post.specs.Post.{AnswersPost}
-use Rattle.ill_saved.specs.declared.fault.DeskFault.{DeskFault}
 use Rattle.ill_page.specs.declared.reply.Status.TheVariants.{Good}
 use Rattle.ill_web.specs.declared.operator.Operator.{Operator}
 use Rattle.ill_web.specs.declared.house.House.{House}
 use Rattle.ill_web.specs.declared.serve.TheConstants.{NO_MEMORY}
 use Rattle.ill_web.specs.declared.trouble.Trouble.{Trouble}
 use Rattle.ill_web.specs.declared.trouble.Trouble.TheVariants as troubles
-use Rattle.ill_web.specs.Acts.{ActsIf, Notes, SentForm, Turn, form_of, may_act}
+use Rattle.ill_web.specs.Acts.{ActsIf, IsTurnOf, Notes, SentForm, Turn, may_act}
+use Rattle.ill_web.specs.Entries.{stamp_on}
 use Rattle.ill_web.specs.Pages.{AtDesk, ShowsDesks, ShowsFigures, ShowsLoan, ShowsSlip, file_named}
 use Rattle.ill_web.specs.Troubles.{no_memory, tells, trouble_reply}
 
@@ -44,7 +42,8 @@ rules_of operator = record { origin = operator.origin.now; is_open = operator.is
 -- The form acts, if its text for a desk names one. Else it has no turn.
 abbrev pub ActsHere : HouseShown → SentForm → Option Turn → Result (List ℕ) Trouble → Type 0
 ActsHere house sent turn result =
-    ((file_named house.files sent.loan.desk ≡ Some sent.loan.desk) × ActsIf (may_act house.user) house.today sent turn result)
+    ((file_named house.files sent.loan.desk ≡ Some sent.loan.desk)
+    × ActsIf (may_act house.user) (stamp_on house.today house.user) sent turn result)
     ⊎ ((file_named house.files sent.loan.desk ≡ None) × (turn ≡ None) × (result ≡ Err troubles.NoDesk))
 
 -- What was asked for was answered. Only an act has a turn at a desk.
@@ -112,15 +111,9 @@ Serves operator v old status new =
 
 -- ---- what a turn is
 
--- The form in `body` has its turn at the desk that it names, and is answered there as `AnswersPost` says.
-abbrev pub IsTurnOf : Date → SentForm → Turn → Type 0
-IsTurnOf today sent turn =
-    (turn.file ≡ sent.loan.desk)
-    × ((posted : Result Posted DeskFault) × AnswersPost (form_of today turn.old.live.role sent) turn.old posted turn.new)
-
--- The input began with a form that has this turn.
+-- The input began with a form that has this turn. The turn has the day of the operator, and the name of the user.
 abbrev pub TakesTurn : Operator → VisitShown → (left rest : Option (List ℕ)) → Turn → Type 0
 TakesTurn operator v left rest turn =
     (body : List ℕ) × (sent : SentForm) × Consumes left rest body
     × (wanted_of (rules_of operator) v body ≡ Ok (Act sent.loan sent.stamp sent.words))
-    × IsTurnOf operator.today sent turn
+    × IsTurnOf (stamp_on operator.today v.user) sent turn

@@ -1,26 +1,25 @@
 //! One act of a form, at a desk in a file, under its lock.
 
-ghost use Rattle.std.specs.Prelude.{◌≡◌, ◌⊎◌, map, option_map, string_bytes, Option, Some, Result, Err, IfErr, IfOk};
+ghost use Rattle.std.specs.Prelude.{◌≡◌, ◌⊎◌, map, option_map, string_bytes, Option, Some, Err, IfErr, IfOk};
 ghost use Rattle.ill_browser.specs.Wanted.{loan_asked};
-ghost use Rattle.ill_post.specs.Post.{AnswersPost, form_shown, state_of};
-ghost use Rattle.ill_post.specs.declared.answer.Posted.{Posted};
-ghost use Rattle.ill_saved.specs.declared.fault.DeskFault.{DeskFault};
+ghost use Rattle.ill_post.specs.Post.{form_shown, state_of};
 ghost use Rattle.ill_record.specs.declared.side.Action.TheVariants.{Deed};
 ghost use Rattle.ill_text.specs.Fault.{IsOpenFault};
 ghost use Rattle.ill_words.specs.Words.{deed_of};
 ghost use Rattle.ill_web.specs.Actions.{action_of};
-ghost use Rattle.ill_web.specs.Acts.{ActsIf, ActsIn, AnswersSent, IsEarly, IsNotice, IsRefusal, IsTurnLine, IsVerbLine, TellsAnswer, TellsPosted, TellsWhy, Turn, may_act, of_post, status_of, user_named};
+ghost use Rattle.ill_web.specs.Acts.{ActsIf, ActsIn, AnswersSent, IsEarly, IsNotice, IsRefusal, PostsAt, TellsAnswer, TellsPosted, TellsWhy, Turn, may_act, of_post, status_of};
+ghost use Rattle.ill_web.specs.Entries.{stamp_on};
 ghost use Rattle.ill_web.specs.Pages.{asked_at, said};
 ghost use Rattle.ill_web.specs.Replies.{ActsHere, house_shown};
 ghost use Rattle.ill_web.specs.Sent.{sent_form};
 ghost use Rattle.ill_web.specs.Troubles.{no_memory};
 
+use crate::entry::{turn_entry, turn_line};
 use crate::house::House;
 use crate::show::loan_reply;
 use crate::told::Told;
 use crate::trouble::Trouble;
 use ill_browser::LoanName;
-use ill_commands::late_diary::late_entry;
 use ill_files::open::open_locked;
 use ill_files::paths::folder_of;
 use ill_files::shelf::{desk_name, is_named_on_shelf, is_shelf};
@@ -29,12 +28,11 @@ use ill_page::{Status, seen_reply};
 use ill_post::{Form, Posted, post};
 use ill_report::link::Place;
 use ill_saved::{Action, Desk, DeskFault, LockFiles, Role, Store};
-use ill_text::diary::{Stamp, diary_line, is_name};
+use ill_text::diary::is_name;
 use ill_text::fault::ToolFault;
-use ill_values::{Day, OutOfMemory, TxnId};
+use ill_values::{Day, OutOfMemory};
 use ill_words::words::{deed, wish};
 use std::alloc::Global;
-use std::io::sink;
 use std::path::Path;
 use std::rt::Files;
 
@@ -68,8 +66,8 @@ pub fn act<T: LockFiles>(
 
 /// Performs the act of a form, if a diary can name its user.
 fn act_as<T: LockFiles>(house: &House<'_, T>, sent: &Sent<'_>) -> Result<Vec<u8>, Trouble>
-    ensures { (turn : Option Turn) × ActsIf (may_act house.now.user.now) house.now.operator.now.today (sent_form sent.now) turn
-        (said result) }
+    ensures { (turn : Option Turn) × ActsIf (may_act house.now.user.now)
+        (stamp_on house.now.operator.now.today house.now.user.now) (sent_form sent.now) turn (said result) }
 {
     if may_act(house.user) {
         take_turn(house, sent)
@@ -87,7 +85,8 @@ fn may_act(user: &str) -> bool
 
 /// Lets a form have its turn at its desk, under the lock of the desk's file.
 fn take_turn<T: LockFiles>(house: &House<'_, T>, sent: &Sent<'_>) -> Result<Vec<u8>, Trouble>
-    ensures { (turn : Option Turn) × ActsIn house.now.operator.now.today (sent_form sent.now) turn (said result) }
+    ensures { (turn : Option Turn) × ActsIn (stamp_on house.now.operator.now.today house.now.user.now) (sent_form sent.now)
+        turn (said result) }
 {
     let mut locked = open_locked(house.rt, house.alloc, sent.place.desk)?;
     refuse_other_group(house, sent.place, locked.desk.role())?;
@@ -121,14 +120,14 @@ fn has_shelf<T: Files>(house: &House<'_, T>, folder: &str) -> Result<bool, ToolF
     Ok(is_shelf(house.rt, house.alloc, folder)?)
 }
 
-/// Answers the form `sent` at `desk`.
+/// Answers the form `sent` at `desk`. If there is no memory for its line in the diary, nothing is done.
 fn answer<T: Files, S: Store>(
     house: &House<'_, T>,
     desk: &mut Desk<S>,
     sent: &Sent<'_>,
 ) -> Result<Posted, Trouble>
-    ensures { AnswersSent house.now.operator.now.today (sent_form sent.now) (state_of S.state desk.old) result
-        (state_of S.state desk.new) }
+    ensures { AnswersSent (stamp_on house.now.operator.now.today house.now.user.now) (sent_form sent.now)
+        (state_of S.state desk.old) result (state_of S.state desk.new) }
 {
     let words = slices(house.alloc, sent.words)?;
     let action = action(house.alloc, desk.role(), house.operator.today, &words)?;
@@ -137,7 +136,8 @@ fn answer<T: Files, S: Store>(
         stamp: sent.stamp,
         action,
     };
-    let line = line_of(house, &form, &words, desk.shown(form.txn).issued);
+    let issued = desk.shown(form.txn).issued;
+    let line = turn_line(house, form.txn, &form.action, issued)?;
     perform(house, sent.place.desk, desk, &form, line)
 }
 
@@ -152,20 +152,19 @@ fn slices(alloc: Global, words: &[Vec<u8>]) -> Result<Vec<&[u8]>, OutOfMemory>
     Ok(slices)
 }
 
-/// Performs the action of `form` at `desk`, in `file`. If it is done, `line` is entered in the diary beside `file`.
+/// Performs the action of `form` at `desk`. If it is done, `line` is entered in the diary beside `file` before the save. A
+/// diary that fails stops no form.
 fn perform<T: Files, S: Store>(
     house: &House<'_, T>,
     file: &str,
     desk: &mut Desk<S>,
     form: &Form<'_>,
-    line: Result<Vec<u8>, OutOfMemory>,
+    line: Vec<u8>,
 ) -> Result<Posted, Trouble>
-    ensures { (posted : Result Posted DeskFault)
-        × AnswersPost (form_shown form.now) (state_of S.state desk.old) posted (state_of S.state desk.new)
-        × (result ≡ of_post posted) }
+    ensures { PostsAt file.now line.items (form_shown form.now) (state_of S.state desk.old) result
+        (state_of S.state desk.new) }
 {
-    let mut errors = sink();
-    let mut entry = late_entry(house.rt, house.alloc, file, line, &mut errors);
+    let mut entry = turn_entry(house, file, line);
     of_post(post(house.alloc, desk, form, &mut entry))
 }
 
@@ -223,59 +222,6 @@ fn tell_why<T: Files>(
         notice: notice.as_str(),
     };
     loan_reply(house, place, told)
-}
-
-/// Returns the line of a diary that names the action of a form, as the next message of its loan.
-fn line_of<T>(
-    house: &House<'_, T>,
-    form: &Form<'_>,
-    words: &[&[u8]],
-    issued: u8,
-) -> Result<Vec<u8>, OutOfMemory>
-    ensures { IfOk result (λ line. IsTurnLine form.now.action house.now.operator.now.today (user_named house.now.user.now)
-        form.now.txn.now (map (λ word. word.now) words.now) issued line.items) }
-{
-    match (&form.action, words.first()) {
-        (Some(_), Some(verb)) => verb_line(house, form.txn, verb, issued),
-        _ => Ok(Vec::new(house.alloc)),
-    }
-}
-
-/// Returns the line of a diary that names an action by its verb, as the next message of the loan of `txn`.
-fn verb_line<T>(
-    house: &House<'_, T>,
-    txn: &TxnId,
-    verb: &[u8],
-    issued: u8,
-) -> Result<Vec<u8>, OutOfMemory>
-    ensures { IfOk result (λ line. IsVerbLine house.now.operator.now.today (user_named house.now.user.now)
-        txn.now verb.now issued line.items) }
-{
-    match str::from_utf8(verb) {
-        Ok(verb) => {
-            let stamp = stamp_of_user(house);
-            diary_line(house.alloc, &stamp, txn, verb, u32::from(issued) + 1)
-        }
-        Err(_) => Ok(Vec::new(house.alloc)),
-    }
-}
-
-/// Returns the day of the operator, and the name of the user, if there is one.
-fn stamp_of_user<'a, T>(house: &House<'a, T>) -> Stamp<'a>
-    ensures day { result.day ≡ house.now.operator.now.today }
-    ensures by { option_map (λ name. name.now) result.by ≡ user_named house.now.user.now }
-{
-    Stamp {
-        day: house.operator.today,
-        by: user_named(house.user),
-    }
-}
-
-/// Returns the name of the user, if there is one.
-fn user_named(user: &str) -> Option<&str>
-    ensures { option_map (λ name. name.now) result ≡ user_named user.now }
-{
-    if user.is_empty() { None } else { Some(user) }
 }
 
 /// Returns the status of the reply to a form that was not done.

@@ -5,6 +5,7 @@
 #![tactic(auto)]
 
 mod act;
+mod entry;
 mod house;
 mod laws;
 mod note;

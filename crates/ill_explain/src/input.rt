@@ -1,6 +1,6 @@
 //! The lines about the faulty message of an input.
 
-ghost use Rattle.std.specs.Prelude.{None};
+ghost use Rattle.std.specs.Prelude.{◌≡◌, ◌+◌, ◌-◌, ◌^◌, None, min, option_map};
 
 use ill_der::{DerFault, Feed, size};
 use ill_line::command_line::Name;
@@ -19,7 +19,10 @@ pub struct Passed {
 
 impl Passed {
     /// Returns these messages and one more, of `size` bytes.
-    fn and(self, size: usize) -> Passed {
+    fn and(self, size: usize) -> Passed
+        ensures messages { result.messages ≡ min (self.messages + 1) (2 ^ 64 - 1) }
+        ensures bytes { result.bytes ≡ min (self.bytes + size) (2 ^ 64 - 1) }
+    {
         Passed {
             messages: self.messages.saturating_add(1),
             bytes: self.bytes.saturating_add(size as u64),
@@ -54,7 +57,9 @@ impl<'a, R> Watched<'a, R> {
     }
 
     /// Returns the messages that it has passed on, if it has counted all of them.
-    pub fn passed(&self) -> Option<Passed> {
+    pub fn passed(&self) -> Option<Passed>
+        ensures { result ≡ option_map (λ _. self.now.passed) self.now.feed }
+    {
         match self.feed {
             Some(_) => Some(self.passed),
             None => None,

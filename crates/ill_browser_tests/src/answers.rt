@@ -3,39 +3,19 @@
 use crate::case::{Case, length_text};
 use ill_browser::{LoanName, VisitFault, Wanted, read_wanted};
 use ill_test_kit::marks::{TRIES, begin, is_refused, is_refused_or_without};
-use ill_test_kit::{INDENT, Lines, Page};
+use ill_test_kit::{AnswersCases, Page};
 use ill_values::Day;
 use std::alloc::Global;
 
-/// Performs each line of the input as a case.
+/// Answers the cases of requests.
 #[derive(Drop)]
-pub struct Cases {
-    /// The allocator of all values.
-    pub alloc: Global,
-}
+pub struct Requests;
 
-impl Lines for Cases {
-    /// Adds `line` with its answer below it. A line that is itself an answer is dropped.
-    fn perform(&mut self, page: &mut Page, line: &str) {
-        if !line.starts_with(INDENT) {
-            push_case(self.alloc, page, line);
-        }
-    }
-
-    fn end(&mut self, _page: &mut Page) -> Option<()> {
+impl AnswersCases for Requests {
+    fn answer(&mut self, alloc: Global, page: &mut Page, line: &str) -> Option<()> {
+        push_request(alloc, page, line)?;
+        page.line("");
         Some(())
-    }
-}
-
-/// Adds a line and, if it is a case, its answer below it.
-fn push_case(alloc: Global, output: &mut Page, line: &str) {
-    output.line(line);
-    if !line.is_empty() && !line.starts_with("#") {
-        output.text(INDENT);
-        if push_request(alloc, output, line).is_none() {
-            output.text("no case");
-        }
-        output.line("");
     }
 }
 

@@ -20,10 +20,10 @@
 mod answers;
 mod case;
 
-use answers::Cases;
-use ill_test_kit::answer_lines;
+use answers::Requests;
+use ill_test_kit::{Cases, answer_lines};
 use std::io;
 
 fn main(rt: HostRuntime) -> io::Result<()> {
-    answer_lines(&rt, &mut Cases { alloc: rt.alloc() })
+    answer_lines(&rt, &mut Cases::new(rt.alloc(), Requests))
 }

@@ -7,36 +7,17 @@ use crate::reading::{Reading, decoded};
 use crate::values::{push_id, push_item, push_later_day, push_new_day, push_number, push_read_day};
 use crate::words::push_apdu;
 use ill_der::DerFault;
-use ill_test_kit::{INDENT, Lines, Page, number_in, octet_in};
+use ill_test_kit::{AnswersCases, Page, number_in, octet_in};
 use std::alloc::Global;
 
-/// Performs each line of the input as a case.
+/// Answers the cases of encodings and values.
 #[derive(Drop)]
-pub struct Cases {
-    /// The allocator of all values.
-    pub alloc: Global,
-}
+pub struct Encodings;
 
-impl Lines for Cases {
-    /// Adds `line` with its answers below it. A line that is itself an answer is dropped.
-    fn perform(&mut self, page: &mut Page, line: &str) {
-        if !line.starts_with(INDENT) {
-            push_case(self.alloc, page, line);
-        }
-    }
-
-    fn end(&mut self, _page: &mut Page) -> Option<()> {
+impl AnswersCases for Encodings {
+    fn answer(&mut self, alloc: Global, page: &mut Page, line: &str) -> Option<()> {
+        push_answers(alloc, page, line);
         Some(())
-    }
-}
-
-/// Adds a line and, if it is a case, its answers below it.
-fn push_case(alloc: Global, output: &mut Page, line: &str) {
-    output.line(line);
-    if !line.is_empty() && !line.starts_with("#") {
-        let mut answers = Page::new(alloc);
-        push_answers(alloc, &mut answers, line);
-        output.page_after(INDENT.as_bytes(), &answers);
     }
 }
 

@@ -52,10 +52,10 @@ mod reading;
 mod values;
 mod words;
 
-use answers::Cases;
-use ill_test_kit::answer_lines;
+use answers::Encodings;
+use ill_test_kit::{Cases, answer_lines};
 use std::io;
 
 fn main(rt: HostRuntime) -> io::Result<()> {
-    answer_lines(&rt, &mut Cases { alloc: rt.alloc() })
+    answer_lines(&rt, &mut Cases::new(rt.alloc(), Encodings))
 }

@@ -4,38 +4,18 @@ use crate::case::{bytes_in, case_in, fault_word, key_in};
 use crate::changes::{push_each_bit, push_each_front};
 use ill_seal::{Key, KeyFault, hmac, seal, unseal};
 use ill_test_kit::marks::{quietly, tried};
-use ill_test_kit::{INDENT, Lines, Page};
+use ill_test_kit::{AnswersCases, Page};
 use std::alloc::{AllocError, Global};
 
-/// Performs each line of the input as a case.
+/// Answers the cases of letters and keys.
 #[derive(Drop)]
-pub struct Cases {
-    /// The allocator of all values.
-    pub alloc: Global,
-}
+pub struct Letters;
 
-impl Lines for Cases {
-    /// Adds `line` with its answer below it. A line that is itself an answer is dropped.
-    fn perform(&mut self, page: &mut Page, line: &str) {
-        if !line.starts_with(INDENT) {
-            push_case(self.alloc, page, line);
-        }
-    }
-
-    fn end(&mut self, _page: &mut Page) -> Option<()> {
+impl AnswersCases for Letters {
+    fn answer(&mut self, alloc: Global, page: &mut Page, line: &str) -> Option<()> {
+        push_answer(alloc, page, line)?;
+        page.line("");
         Some(())
-    }
-}
-
-/// Adds a line and, if it is a case, its answer below it.
-fn push_case(alloc: Global, output: &mut Page, line: &str) {
-    output.line(line);
-    if !line.is_empty() && !line.starts_with("#") {
-        output.text(INDENT);
-        if push_answer(alloc, output, line).is_none() {
-            output.text("no case");
-        }
-        output.line("");
     }
 }
 

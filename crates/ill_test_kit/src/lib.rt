@@ -2,6 +2,7 @@
 //! values by words, reads numbers, makes a temporary folder, and gives streams that fail or are slow.
 #![tactic(auto)]
 
+mod cases;
 mod folder;
 mod lines;
 pub mod marks;
@@ -10,6 +11,7 @@ mod numbers;
 mod page;
 mod streams;
 
+pub use cases::{AnswersCases, Cases};
 pub use folder::make_folder;
 pub use lines::{INDENT, Lines, answer_lines};
 pub use naming::named;

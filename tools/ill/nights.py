@@ -138,12 +138,16 @@ class Night:
             if name.startswith("out/"):
                 self.write(new_of(name), b"ILL1")
 
-    def prepare(self):
+    def run_whole(self):
         """The whole night, and the calls of the system that it makes."""
         self.leave_over()
         self.begin()
         self.whole = self.run()
         self.calls = read(self.log).decode().splitlines()
+
+    def prepare(self):
+        """The whole night, and the records that another night may leave."""
+        self.run_whole()
         self.end = self.files()
         self.judge_end()
         if self.records[-1] != self.end["loan"]:
@@ -310,11 +314,8 @@ class ShelfNight(Night):
         return [mail for mail, fate, desk in self.mails.values() if fate == "taken" and desk == name]
 
     def prepare(self):
-        """The whole night, and the calls of the system that it makes."""
-        self.leave_over()
-        self.begin()
-        self.whole = self.run()
-        self.calls = read(self.log).decode().splitlines()
+        """The whole night, which leaves the last record of each desk."""
+        self.run_whole()
         self.end = self.judge_end()
         for name, records in self.desks.items():
             if self.end.get(name) != records[-1]:

@@ -39,10 +39,7 @@ pub fn run_desk_copy_over<S: Store, C: Store>(
         (known (C.state copy.new)) }
     ensures never_fewer { (C.state copy.old).failures ≤ (C.state copy.new).failures }
 {
-    let judged = match judge_copy(alloc, desk.sides(), copy) {
-        Ok(judged) => judged,
-        Err(fault) => return Err(fault),
-    };
+    let judged = judge_copy(alloc, desk.sides(), copy)?;
     if judged != Copied::Done {
         return Ok(judged);
     }
@@ -84,10 +81,7 @@ fn judge_sides(alloc: Global, own: &Sides, copied: &Sides) -> Result<Copied, Too
     ensures judged { IfOk result (ReplacesSides own.now copied.now) }
     ensures fault { IfErr result (λ fault. fault ≡ OutOfMemory) }
 {
-    let all = match all_of(alloc, copied) {
-        Ok(all) => all,
-        Err(_) => return Err(ToolFault::OutOfMemory),
-    };
+    let all = all_of(alloc, copied)?;
     if own.role() == copied.role() && have_all(own, &all) {
         Ok(Copied::Done)
     } else {
@@ -141,10 +135,7 @@ pub fn run_desk_copy<S: Store, C: Store>(
     ensures counted { CountsToolFailure result (C.state copy.old).failures (C.state copy.new).failures }
 {
     ill_saved::laws::sides_read_again();
-    let record = match encode_record2(alloc, desk.sides()) {
-        Ok(record) => record,
-        Err(_) => return Err(ToolFault::OutOfMemory),
-    };
+    let record = encode_record2(alloc, desk.sides())?;
     match copy.save(alloc, &record) {
         Ok(()) => Ok(()),
         Err(fault) => Err(DeskFault::from(fault).into()),

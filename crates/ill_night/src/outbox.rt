@@ -30,14 +30,8 @@ pub fn run_desk_outbox<S: Store, O: Outgoing>(
 ) -> Result<usize, ToolFault>
     ensures { RunsOutbox (PutsAll O.after) asking.now desk.now.live.held (O.mails out.old) (O.mails out.new) result }
 {
-    let asking = match apdus_in(alloc, asking) {
-        Ok(asking) => asking,
-        Err(_) => return Err(ToolFault::OutOfMemory),
-    };
-    let leaving = match leaving_desk(alloc, desk, &asking) {
-        Ok(leaving) => leaving,
-        Err(_) => return Err(ToolFault::OutOfMemory),
-    };
+    let asking = apdus_in(alloc, asking)?;
+    let leaving = leaving_desk(alloc, desk, &asking)?;
     put_all(alloc, &leaving, out)
 }
 

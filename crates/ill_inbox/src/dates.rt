@@ -205,18 +205,9 @@ fn run_deeds<H: Holdings<Key = TxnId>, S: Store, D: Write, W: Write>(
     ensures counted { CountsToolFailure result (S.state desk.old.store).failures
         (S.state desk.new.store).failures }
 {
-    let done = match perform(alloc, desk, on_day.today, on_day.dues) {
-        Ok(done) => done,
-        Err(fault) => return Err(fault),
-    };
-    let told = match told_deeds(alloc, on_day.form, desk, &done) {
-        Ok(told) => told,
-        Err(_) => return Err(ToolFault::OutOfMemory),
-    };
-    let entries = match diary.lines(alloc, desk, &done) {
-        Ok(entries) => entries,
-        Err(_) => return Err(ToolFault::OutOfMemory),
-    };
+    let done = perform(alloc, desk, on_day.today, on_day.dues)?;
+    let told = told_deeds(alloc, on_day.form, desk, &done)?;
+    let entries = diary.lines(alloc, desk, &done)?;
     diary.enter(&entries);
     if let Err(fault) = save_any(alloc, desk, &done) {
         return Err(fault);

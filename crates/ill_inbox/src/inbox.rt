@@ -63,10 +63,7 @@ fn run_inbox<H: Holdings, S: Store, F: Write, W: Write>(
         (with_kept (F.contents came.new) (command_state (view_of S.state desk.new) (W.contents writer.new))) }
     ensures never_fewer { (S.state desk.old.store).failures ≤ (S.state desk.new.store).failures }
 {
-    let sorted = match sort(alloc, desk, batch) {
-        Ok(sorted) => sorted,
-        Err(fault) => return Err(fault),
-    };
+    let sorted = sort(alloc, desk, batch)?;
     if let Err(fault) = keep_and_save(alloc, desk, came, &sorted.kept) {
         return Err(fault);
     }
@@ -99,10 +96,7 @@ fn sort<H: Holdings, S: Store>(
     ensures fault { IfErr result (λ fault. fault ≡ OutOfMemory) }
     ensures store { desk.new.store ≡ desk.old.store }
 {
-    let mut sorted = match sort_mails(alloc, desk, batch) {
-        Ok(sorted) => sorted,
-        Err(fault) => return Err(fault),
-    };
+    let mut sorted = sort_mails(alloc, desk, batch)?;
     let tally = Tally::of(&sorted.verdicts);
     match tell_tally(&mut sorted.told, sorted.form, &tally, batch.waiting) {
         Ok(()) => Ok(sorted),
@@ -194,14 +188,8 @@ impl Sorted {
         ensures fault { IfErr result (λ fault. fault ≡ OutOfMemory) }
         ensures store { desk.new.store ≡ desk.old.store }
     {
-        let apdu = match read.to_apdu(alloc) {
-            Ok(apdu) => apdu,
-            Err(_) => return Err(ToolFault::OutOfMemory),
-        };
-        let outcome = match hand(alloc, desk, &apdu) {
-            Ok(outcome) => outcome,
-            Err(fault) => return Err(fault),
-        };
+        let apdu = read.to_apdu(alloc)?;
+        let outcome = hand(alloc, desk, &apdu)?;
         let now = desk.shown(H::key_of(&apdu)).once_saved();
         self.tell(bytes, read, outcome, now)?;
         Ok(outcome)

@@ -15,6 +15,7 @@ use crate::slip_parts::{
 use ill_saved::{Desk, DeskFault, Role, Side, Store};
 use ill_text::fault::ToolFault;
 use ill_text::html::push_text;
+use ill_text::json::push_plain;
 use ill_text::output::write_whole;
 use ill_values::{Day, OutOfMemory, TxnId};
 use ill_words::possible::item_asked;
@@ -52,7 +53,7 @@ fn slip_of(alloc: Global, side: &Side) -> Result<Vec<u8>, OutOfMemory>
     push_head(&mut page, side)?;
     push_names(&mut page, side)?;
     push_code(&mut page, side.txn())?;
-    page.extend_from_slice(NOTE.as_bytes())?;
+    push_plain(&mut page, NOTE)?;
     Ok(page)
 }
 
@@ -60,10 +61,10 @@ fn slip_of(alloc: Global, side: &Side) -> Result<Vec<u8>, OutOfMemory>
 fn push_head(page: &mut Vec<u8>, side: &Side) -> Result<(), OutOfMemory>
     ensures { OnOk result (page.new.items ≡ page.old.items ++ head_part side.now) }
 {
-    page.extend_from_slice(PAGE.as_bytes())?;
+    push_plain(page, PAGE)?;
     push_title(page, side)?;
-    page.extend_from_slice(ROLE.as_bytes())?;
-    page.extend_from_slice(role_text(side.role()).as_bytes())?;
+    push_plain(page, ROLE)?;
+    push_plain(page, role_text(side.role()))?;
     Ok(())
 }
 
@@ -94,12 +95,12 @@ fn role_text(role: Role) -> &'static str
 fn push_names(page: &mut Vec<u8>, side: &Side) -> Result<(), OutOfMemory>
     ensures { OnOk result (page.new.items ≡ page.old.items ++ names_part side.now) }
 {
-    page.extend_from_slice(GROUP.as_bytes())?;
+    push_plain(page, GROUP)?;
     push_text(page, side.txn().group())?;
-    page.extend_from_slice(TRANSACTION.as_bytes())?;
+    push_plain(page, TRANSACTION)?;
     push_text(page, side.txn().transaction())?;
     push_due(page, side.due())?;
-    page.extend_from_slice(NAMED.as_bytes())?;
+    push_plain(page, NAMED)?;
     Ok(())
 }
 
@@ -110,7 +111,7 @@ fn push_due(page: &mut Vec<u8>, due: Option<Day>) -> Result<(), OutOfMemory>
     let Some(day) = due else {
         return Ok(());
     };
-    page.extend_from_slice(DUE.as_bytes())?;
+    push_plain(page, DUE)?;
     page.extend_from_slice(&day.iso())
 }
 
@@ -151,24 +152,24 @@ fn loan_words(alloc: Global, txn: &TxnId) -> Result<Vec<u8>, OutOfMemory>
 }
 
 /// Appends the picture of the code of `text`.
+#[tactic(auto, unfolding(crate::specs::Slip::code_picture))]
 fn push_picture(page: &mut Vec<u8>, text: &[u8]) -> Result<(), OutOfMemory>
     requires { length text.now ≤ 129 }
     ensures { OnOk result (page.new.items ≡ page.old.items ++ code_picture text.now) }
 {
     let width = 11 * text.len() + 55;
-    page.extend_from_slice(CODE.as_bytes())?;
+    push_plain(page, CODE)?;
     push_number(page, width)?;
-    page.extend_from_slice(VIEW.as_bytes())?;
+    push_plain(page, VIEW)?;
     push_number(page, width)?;
-    page.extend_from_slice(BARS.as_bytes())?;
+    push_plain(page, BARS)?;
     push_path(page, text)?;
-    page.extend_from_slice(CODE_END.as_bytes())?;
-    Ok(())
+    push_plain(page, CODE_END)
 }
 
 /// Appends `number`.
 fn push_number(page: &mut Vec<u8>, number: usize) -> Result<(), OutOfMemory>
     ensures { OnOk result (page.new.items ≡ page.old.items ++ decimal number) }
 {
-    page.extend_from_slice(Buffer::new().format(number).as_bytes())
+    push_plain(page, Buffer::new().format(number))
 }

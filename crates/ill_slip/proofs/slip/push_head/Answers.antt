@@ -13,16 +13,13 @@ unfolding head_part
 returns c =
     let side = c.args.side.now in
     let before = c.args.page.now.items in
-    let first = c.extend_from_slice.new.self.items in
+    let first = c.push_plain.new.text.items in
     let second = c.push_title.new.page.items in
-    let third = c.extend_from_slice-2.new.self.items in
-    let last = c.extend_from_slice-3.new.self.items in
+    let third = c.push_plain-2.new.text.items in
+    let last = c.push_plain-3.new.text.items in
     let title = title_part (item_asked (request_of side)) in
     let role = role_text (role_of side) in
-    grown before first last PAGE.now (title ++ (ROLE.now ++ role))
-    (c.in_ok-extend_from_slice.ensures.items ∙ ap (λ bytes. before ++ bytes) c.as_bytes.ensures.value)
+    grown before first last PAGE.now (title ++ (ROLE.now ++ role)) c.in_ok-push_plain.ensures
     (grown first second last title (ROLE.now ++ role) c.in_ok-push_title.ensures
-    (grown second third last ROLE.now role
-    (c.in_ok-extend_from_slice-2.ensures.items ∙ ap (λ bytes. second ++ bytes) c.as_bytes-2.ensures.value)
-    (c.in_ok-extend_from_slice-3.ensures.items
-    ∙ ap (λ bytes. third ++ bytes) (c.as_bytes-3.ensures.value ∙ c.role_text.ensures ∙ ap role_text c.role.ensures))))
+    (grown second third last ROLE.now role c.in_ok-push_plain-2.ensures
+    (c.in_ok-push_plain-3.ensures ∙ ap (λ bytes. third ++ bytes) (c.role_text.ensures ∙ ap role_text c.role.ensures))))

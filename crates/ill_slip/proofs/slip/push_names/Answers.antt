@@ -14,25 +14,24 @@ unfolding names_part
 returns c =
     let side = c.args.side.now in
     let before = c.args.page.now.items in
-    let first = c.extend_from_slice.new.self.items in
+    let first = c.push_plain.new.text.items in
     let second = c.push_text.new.page.items in
-    let third = c.extend_from_slice-2.new.self.items in
+    let third = c.push_plain-2.new.text.items in
     let fourth = c.push_text-2.new.page.items in
     let fifth = c.push_due.new.page.items in
-    let last = c.extend_from_slice-3.new.self.items in
+    let last = c.push_plain-3.new.text.items in
     let group = html_text (txn_of side).group in
     let transaction = html_text (txn_of side).transaction in
     let due = due_part (due_date_of side) in
     grown before first last GROUP.now (group ++ (TRANSACTION.now ++ (transaction ++ (due ++ NAMED.now))))
-    (c.in_ok-extend_from_slice.ensures.items ∙ ap (λ bytes. before ++ bytes) c.as_bytes.ensures.value)
+    c.in_ok-push_plain.ensures
     (grown first second last group (TRANSACTION.now ++ (transaction ++ (due ++ NAMED.now)))
     (c.in_ok-push_text.ensures.text
     ∙ ap (λ text. first ++ html_text text) (c.group.ensures.value ∙ ap (λ (txn : Qualifiers). txn.group) c.txn.ensures))
-    (grown second third last TRANSACTION.now (transaction ++ (due ++ NAMED.now))
-    (c.in_ok-extend_from_slice-2.ensures.items ∙ ap (λ bytes. second ++ bytes) c.as_bytes-2.ensures.value)
+    (grown second third last TRANSACTION.now (transaction ++ (due ++ NAMED.now)) c.in_ok-push_plain-2.ensures
     (grown third fourth last transaction (due ++ NAMED.now)
     (c.in_ok-push_text-2.ensures.text
     ∙ ap (λ text. third ++ html_text text)
     (c.transaction.ensures.value ∙ ap (λ (txn : Qualifiers). txn.transaction) c.txn-2.ensures))
     (grown fourth fifth last due NAMED.now (c.in_ok-push_due.ensures ∙ ap (λ day. fourth ++ due_part day) c.due.ensures)
-    (c.in_ok-extend_from_slice-3.ensures.items ∙ ap (λ bytes. fifth ++ bytes) c.as_bytes-3.ensures.value)))))
+    c.in_ok-push_plain-3.ensures))))

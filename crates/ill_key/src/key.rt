@@ -93,10 +93,7 @@ fn read<T: Files, R: Read, W: Write, E: Write>(
     ensures { ReadsKey (R.remaining reader.old) (R.remaining reader.new)
         (W.contents machine.old.writer) (W.contents machine.new.writer) result }
 {
-    let key = match key_on(machine.alloc, reader) {
-        Ok(key) => key,
-        Err(fault) => return Err(fault),
-    };
+    let key = key_on(machine.alloc, reader)?;
     keep(machine, file, &key)
 }
 

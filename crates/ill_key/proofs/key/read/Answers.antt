@@ -4,4 +4,4 @@ use Rattle.ill_key.proofs.key.read.Goals as goal
 
 -- Proves that the input is the text of the key whose file is made.
 pub returns : goal.returns
-returns g c = inr (c.in-Ok.key, c.in-Ok.ensures.key, c.keep.ensures)
+returns g c = inr (c.in_ok-key.key, c.in_ok-key.ensures.key, c.keep.ensures)

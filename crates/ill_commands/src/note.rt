@@ -69,10 +69,7 @@ fn keep_at<T: Files, W: Write, E: Write>(
     ensures { KeepsAtFile (kept_line view.now.txn.now (text_of view.now)) (W.contents machine.old.writer)
         (W.contents machine.new.writer) result }
 {
-    let mut notes = match open_notes(machine.rt, machine.alloc, file) {
-        Ok(notes) => notes,
-        Err(fault) => return Err(fault),
-    };
+    let mut notes = open_notes(machine.rt, machine.alloc, file)?;
     if notes.torn() > 0 {
         machine.warn(file, TORN);
     }

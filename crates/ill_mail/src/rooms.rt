@@ -137,14 +137,8 @@ fn settle_run<T, S: Store, R: Room, W: Write, E: Write>(
     ensures silent { machine.new.writer ≡ machine.old.writer }
 {
     room.tell_person(desk.sides().role(), &verdicts, &mut machine.errors);
-    let asked = match asked_by(machine.alloc, desk, batch.mails, &verdicts) {
-        Ok(asked) => asked,
-        Err(_) => return Err(ToolFault::OutOfMemory),
-    };
-    let settled = match file_verdicts(machine.alloc, batch.mails, &verdicts) {
-        Ok(settled) => settled,
-        Err(_) => return Err(ToolFault::OutOfMemory),
-    };
+    let asked = asked_by(machine.alloc, desk, batch.mails, &verdicts)?;
+    let settled = file_verdicts(machine.alloc, batch.mails, &verdicts)?;
     let judged = Judged {
         mails: batch.mails,
         verdicts: &settled,
@@ -281,10 +275,7 @@ pub(crate) fn put_asked<T, S: Store, O: Outgoing, W: Write, E>(
     ensures puts { PutsAsked (PutsWith O.after (option_map sealing_of sending.entry.seal)) sending.entry.asking.now desk.now.live (O.mails out.old)
         (O.mails out.new) result }
 {
-    let sent = match run_outbox_with(machine.alloc, desk, sending.asking, sending.seal, out) {
-        Ok(sent) => sent,
-        Err(fault) => return Err(fault),
-    };
+    let sent = run_outbox_with(machine.alloc, desk, sending.asking, sending.seal, out)?;
     let text = sent_text(machine.alloc, sending.form, sent)?;
     write_and_flush(&mut machine.writer, &text)
 }

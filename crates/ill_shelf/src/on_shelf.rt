@@ -415,10 +415,7 @@ fn end_night<T: Files, W: Write, E: Write>(
         folder: night.outgoing,
         key: ending.key,
     };
-    let sent = match send_last_words(machine, shelf, outlet) {
-        Ok(sent) => sent,
-        Err(fault) => return Err(fault),
-    };
+    let sent = send_last_words(machine, shelf, outlet)?;
     if let Some(sent) = sent.unless_failed(answer) {
         let own = shelf.own_desk(machine.alloc)?;
         if let Err(fault) = beat(machine, night.beat, own.as_str(), sent) {

@@ -128,7 +128,7 @@ impl Name {
             Name::Key => "Make, show or read a key, which two libraries hold",
             Name::Send => "Write the bytes of one message of a loan",
             Name::List => "List the loans of desks by the work of the day",
-            Name::News => "Tell what came to desks, in the order in which it came",
+            Name::News => "Show what came to desks, in the order in which it came",
             Name::Figures => "Count the loans of desks that were asked in a span of days",
             Name::Status => "Show how each loan in a file stands",
             Name::Loan => "Show all of one loan: request, messages, what may be done",
@@ -136,7 +136,7 @@ impl Name {
             Name::Slip => "Write a slip of one loan, to print and to lay in its item",
             Name::Report => "Write a page for a browser of the loans of desks",
             Name::Retire => "Replace a desk whose loans are over by a mark of its group",
-            Name::Verify => "Read a desk, and tell what it has or what is wrong with it",
+            Name::Verify => "Read a desk, and show what it has or what is wrong with it",
             Name::Show => "Show each APDU on standard input",
             Name::Check => "Check the APDUs on standard input and count them",
             Name::Simulate => "Perform a script of both sides of a loan, from standard input",
@@ -449,7 +449,7 @@ pub enum Argument {
     To,
     /// Set if figures are records of CSV.
     Csv,
-    /// The day from which on news are told.
+    /// The day from which on news are shown.
     Since,
     /// The number of messages that are shown.
     Last,
@@ -465,7 +465,7 @@ pub enum Argument {
     ShowKey,
     /// Set if a key is read from the input.
     ReadKey,
-    /// Set if more is told of a fault. Each command has it, and it is no global option of `clap`: of matches with one the
+    /// Set if more is said of a fault. Each command has it, and it is no global option of `clap`: of matches with one the
     /// contracts of `clap` say nothing.
     Explain,
 }
@@ -532,7 +532,7 @@ impl Argument {
             Argument::In => "The folder of the mails that have come",
             Argument::Out => "The folder of the mails that are to go",
             Argument::NightDay => "The day of the run, as 20250301",
-            Argument::Overdue => "Say of each loan that is past its due date that it is",
+            Argument::Overdue => "Issue an Overdue for each loan past its due date",
             Argument::Expire => "End each request that is past its last day",
             Argument::Copy => "Copy the desk to this file before anything is sent",
             Argument::Beat => "Make this file anew when the run has ended",
@@ -542,12 +542,12 @@ impl Argument {
             Argument::Today => "The day of the action, as 20250301; a responder needs it",
             Argument::By => "The name of who gives the command, for FILE.diary",
             Argument::Seen => "Act only if this is what was shown of the loan",
-            Argument::DryRun => "Tell what would come, and save nothing",
+            Argument::DryRun => "Show what would come, and save nothing",
             Argument::Title => "Write the item of the loan below the line",
             Argument::Words => "The words of the action",
             Argument::NoteWords => "The words of the note; '' removes it",
             Argument::Number => "The number of the message, 1 to 255",
-            Argument::Long => "Tell which message each was, and what it said",
+            Argument::Long => "Show which message each was, and what it said",
             Argument::Keep => "Keep each message that is taken, in FILE.came",
             Argument::Picture => "Draw the messages of the loan, for Mermaid",
             Argument::Open => "Leave out the loans that are over",
@@ -566,8 +566,8 @@ impl Argument {
             Argument::From => "The first day of the span, as 20250301",
             Argument::To => "The last day of the span, which is in it, too",
             Argument::Csv => "Write records of CSV, one for each desk",
-            Argument::Since => "Tell what came on this day or later, as 20250301",
-            Argument::Last => "Tell only the last N messages, 1 to 255",
+            Argument::Since => "Show what came on this day or later, as 20250301",
+            Argument::Last => "Show only the last N messages, 1 to 255",
             Argument::NewGroup => "Begin the group of the loan, if the shelf has none",
             Argument::Key => "Open or seal a letter with the key in this file",
             Argument::NightKey => "Carry all messages in letters sealed with the key in this file",

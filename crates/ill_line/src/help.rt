@@ -10,9 +10,9 @@ The commands stand in groups:
   for over 1,000 loans  shelf, which has commands of its own
   to look inside        verify, show, check, simulate, simulate-desks
 
-A desk is the loans of one library in one role, and it is kept in a file. How
-messages are carried, by mail or by hand, is left to the libraries. `ill COMMAND
---help` tells more of a command. What follows holds of all of them.
+A desk is the loans of one library in one role, and it is kept in a file. The
+libraries carry the messages, by mail or by hand. `ill COMMAND --help` explains
+a command. What follows holds for all of them.
 
 A loan is named by its GROUP and TRANSACTION, of 1 to 64 characters of ASCII
 each, from space to tilde. If one begins with a hyphen, `--` goes before the
@@ -30,32 +30,31 @@ until its input ends. `list`, `news`, `loan`, `slip`, `status`, `report`,
 `figures`, `send` and `verify` wait for nobody.
 
 PATH is the file of a desk, or a folder of desks. A folder's desks come in the
-order of their names: all regular files, but for those that begin with a dot or
-that lie beside a desk, as `ill new --help` names them. Of a folder with a
-shelf, only the desks of its groups come. Of several desks `list`, `news` and
-`figures` write a line `PATH:` before each of which they tell something, and an
-empty line before each but the first. A desk that cannot be read is told on
-standard error, and the others come. So is a name in a folder that is no UTF-8,
-which counts as `store failed`. The exit status is that of the first desk that
-fails.
+order of their names. They are its regular files, but for those that begin with
+a dot or lie beside a desk (`ill new --help` names these). Of a folder with a
+shelf, only the desks of its groups come. With several desks `list`, `news` and
+`figures` print a line `PATH:` before each desk that has something to show, and
+an empty line before each but the first. Standard error names a desk that cannot
+be read, and the others come. It also names a file whose name is no UTF-8, which
+counts as `store failed`. The exit status is that of the first desk that fails.
 
 Only `take`, `key`, `show`, `check`, `simulate` and `simulate-desks` read
 standard input. `take`, `show` and `check` read APDUs, in the short form, one
 after another up to its end: at most 100,000 of them, each of 359 bytes at most.
 
 A character on which a terminal or an editor may act is shown by its number, as
-\\u{202e}. So is a space of a group or transaction at an edge, or after another
-one, in a line of `list` or `news`. Only `show` without --json writes each
+\\u{202e}. In a line of `list` or `news` so is a space at an edge of a group or
+transaction, or after another space. Only `show` without --json prints each
 character as it is.
 
-With --json each loan or message is an object of JSON on a line, in the order of
-the text and with its labels, which have `_` for a hyphen. Its `kind` comes
-first. Of several desks each object has its PATH in `file`.
+With --json each loan or message is an object of JSON on a line. It has its
+`kind` first, and then the labels of the text in their order, with `_` for a
+hyphen. With several desks each object has its PATH in `file`.
 
-With --explain, lines after that of a fault tell which word, file or message is
-wrong, and what would be right. It stands before the command, or after it before
-the words of an action or a note. The lines begin with spaces, and no program
-may rest on them.
+With --explain, lines after that of a fault say which word, file or message is
+wrong, and what would be right. The option stands before the command, or after
+it but before the words of an action or a note. The lines begin with spaces, and
+no program may depend on them.
 
 The start of a loan, with the requester's desk in the file `here` and the
 responder's in the file `there`:
@@ -112,18 +111,18 @@ Any command may end with `arguments`, `write` or `memory`. One on a FILE, PATH
 or DIR may also end with `store failed` or `store too-large`, and each of these
 but `new` with `no-record` or for a bad record. One with a KEYFILE may also end
 with `key missing`, `key unreadable`, `key open` or `key size`. The help of a
-command tells its other ends.";
+command lists its other ends.";
 
 pub const NEW: &str = "\
 Begin a desk of one role, in a file.
 
-The desk has no loan yet. A library that both asks and is asked has two desks,
+The desk has no loan yet. A library that both borrows and lends has two desks,
 one as requester and one as responder, in two files.
 
 FILE must not be there yet, and its folder must. Its name may not end in .new,
 .lck, .came, .notes, .diary, .mail or .retired: what lies beside a desk has such
-names, and is the program's. A record is written by way of FILE.new. One line,
-`done`, is written to standard output.
+names, and belongs to the program. A record is written to FILE.new first. One
+line, `done`, is printed.
 
 The exit status is 0 if the desk is saved, and 1 with `exists`.";
 
@@ -136,8 +135,8 @@ pub const NEW_EXAMPLE: &str = "Example:
 pub const ACT: &str = "\
 Perform one action in a loan, and save it.
 
-A requester's `request` begins a loan, and the ILL-Request that `take` takes
-begins a responder's. A desk has room for 1,000 loans.
+At a requester's desk `request` begins a loan. At a responder's desk an
+ILL-Request begins it, when `take` takes that. A desk has room for 1,000 loans.
 
 The words of a requester:
   request EXPIRY ITEM    ask for the item; after the day EXPIRY the responder
@@ -162,40 +161,40 @@ The words of a responder, on the day that --today says:
 DUE is a day or `+N`, N one to five digits: N days after the day of the action.
 EXPIRY and WISHED are days or `none`. RESULT is conditional, retry, unfilled,
 locations-provided, will-supply, hold-placed or estimate. ITEM is all the words
-that remain, of 200 bytes at most. None of the words may hold a space, so a
-title has no quotes round it: `request none War and Peace`.
+that remain, of 200 bytes at most. No word may contain a space, so a title has
+no quotes round it: `request none War and Peace`.
 
-A responder's action needs --today. With it, for either role, an action that is
-done gets a line in FILE.diary before it is saved, and `ill loan` tells its day.
-The line has the name of --by, which has no space, or `-`. Nothing is decided by
-that file, and an action is done too if it fails: then a line on standard error
+A responder's action needs --today. With it, in either role, an action gets a
+line in FILE.diary before it is saved, and `ill loan` shows its day. The line
+has the name of --by, without a space, or `-`. That file decides nothing. If it
+cannot be written, the action is done all the same, and a line on standard error
 says so.
 
-Options stand before the words. Among them an option of any command is
-`arguments`; if `--` stands right before the words, it is one of them, as of a
-title.
+Options stand before the words. Among the words an option of any command is
+`arguments`. After `--`, right before the words, it is a word like the others,
+as in a title.
 
-With --long the item of the loan stands on a line below that of the action,
-after `item`, if the loan has one.
+With --long a line below that of the action has the item of the loan, after
+`item`, if there is one.
 
-With --seen the action is done only on a loan that is shown as its value, which
-is what stands after the OUTCOME of an earlier command. Else nothing is done,
-and the OUTCOME is `changed`. With --dry-run the line is that of the action, and
-nothing is saved.
+With --seen the action is done only if the loan still stands as the value says:
+that is what an earlier command printed after its OUTCOME. Else nothing is done,
+and the OUTCOME is `changed`. With --dry-run the line of the action is printed,
+and nothing is saved.
 
-One action issues one message; `take` may issue one too, as `ill take --help`
-tells. The messages of each loan are numbered 1, 2, 3, up to 255. If at most 10
-numbers are left after an action, a line on standard error says how many.
+One action issues one message; `take` may issue one too (`ill take --help`). The
+messages of each loan are numbered 1, 2, 3, up to 255. If at most 10 numbers are
+left after an action, a line on standard error says how many.
 
-The action is saved in FILE before a line of it is written to standard output:
+The action is saved in FILE before its line is printed:
   OUTCOME STATE DUE RELEASED/ISSUED
 OUTCOME is `done`. Then come the state of the loan, its due date or `-`, how
-many of its messages may be sent, and how many it has issued: after `done`, the
-message of the action is the last one. If the action is refused, nothing
+many of its messages may be sent, and how many it has issued. After `done` the
+last of these is the message of the action. If the action is refused, nothing
 changes, and OUTCOME says why:
   no-such-transaction    the desk has no such loan; `request` begins one
   desk-full              `request`, and the desk has 1,000 loans
-  not-now                it has no place in this state
+  not-now                the state of the loan does not allow it
   date-earlier           DUE of `ship` is before today
   date-not-later         DUE of `renew-answer` is not after the due date
   not-due                `overdue`, and the due date is not past
@@ -224,10 +223,10 @@ pub const ACT_EXAMPLE: &str = "Example:
 pub const TAKE: &str = "\
 Take the APDUs on standard input, and save what they change.
 
-The APDUs are messages of other libraries, as `ill send` gives them there:
-`ill take FILE < message`. Each is for the loan that it names.
+The APDUs are messages of other libraries, as `ill send` prints them there: `ill
+take FILE < message`. Each is for the loan that it names.
 
-For each of them a line is written to standard output:
+A line is printed for each of them:
   OUTCOME STATE DUE RELEASED/ISSUED
 OUTCOME is one of these; after it the line says how its loan stands, as that of
 `ill act`:
@@ -235,39 +234,39 @@ OUTCOME is one of these; after it the line says how its loan stands, as that of
   repeat                 the desk knows it already; the partner may lack the
                          answer, so send all messages of the loan again
   stale                  it answers what is no longer open: nothing is to do
-  conflict               it has no place in this state: somebody should look
+  conflict               the state does not allow it: somebody should look
   no-such-transaction    it is of a loan that the desk has not, and begins none
   desk-full              it would begin a loan, and the desk has 1,000
   wrong-role             it is of a kind that this desk sends
   numbers-used           it wants an answer, and all 255 numbers are used
 
-With --long the line begins with what the message is, and its further fields
-stand after it, as `ill show` has them, each on an indented line of its own:
+With --long the line begins with the loan, type and number of the message. Its
+further fields follow, each on an indented line, as `ill show` prints them:
   GROUP TRANSACTION TYPE NUMBER OUTCOME STATE DUE RELEASED/ISSUED
 
-With --keep each message that is taken is kept as it came, in FILE.came, before
-that it was taken is saved. `ill news` tells all of them in words, `ill show <
-FILE.came` shows them, and `ill loan` those of a loan. Nothing is decided by
-that file: it may be put away. If a message cannot be kept, it is `store
+With --keep each message that is taken is kept in FILE.came, as it came, before
+it is saved in FILE. `ill news` shows all of them in words, `ill show <
+FILE.came` their fields, and `ill loan` those of a loan. That file decides
+nothing: it may be put away. If a message cannot be kept, that is `store
 failed`, and the message is not saved. Then or after a crash it may be kept
 twice.
 
 With --keep and --today each message that is taken also gets a line in
 FILE.diary, with that day and the name of --by, as an action of `ill act` does.
 
-Only what is taken changes the desk, and it is saved in FILE before its line is
-written. To take a message twice does no harm.
+Only a message that is taken changes the desk, and it is saved in FILE before
+its line is printed. To take a message twice does no harm.
 
-A message that is taken may issue one: a responder that takes a
-Conditional-Reply no, by which the requester declines its conditions, issues an
-ILL-Answer unfilled. ISSUED has risen by one then, as from 1/1 to 2/2, and that
-message has to be sent, like one of an action: `ill send FILE G1 T1 2`.
+One message issues another: if the requester declines the conditions, by a
+Conditional-Reply no, the responder issues an ILL-Answer unfilled. ISSUED has
+risen by one then, as from 1/1 to 2/2, and that message has to be sent: `ill
+send FILE G1 T1 2`.
 
 With --key the input is one sealed letter of the other library, as its `ill send
---key` gives it. Its messages are taken in their order. An input that is no such
-letter, was sealed with another key or was changed on its way is `not-sealed`,
-and changes nothing. So is a letter of this library itself. An old letter that
-comes again does no harm: each of its messages is a repeat.
+--key` prints it. Its messages are taken in their order. An input that is no
+such letter, was sealed with another key or was changed on its way is
+`not-sealed`, and changes nothing. So is a letter of this library itself. An old
+letter that comes again does no harm: each of its messages is a repeat.
 
 The exit status is 0 if each was taken, a repeat or stale, and 1 if one was
 anything else. It is 2 if the input has a faulty message or too many, or with
@@ -295,22 +294,22 @@ pub const INBOX: &str = "\
 Take the mails of a folder, and save what they change once.
 
 A mail is a regular file of FOLDER whose name begins with no dot, with one APDU:
-a message of another library, as `ill send` gives it there. One line end may
+a message of another library, as `ill send` prints it there. One line end may
 stand after it.
 
 FOLDER may be neither the folder of FILE nor a shelf, and lie in no folder whose
 name ends in .mail: files there belong to desks.
 
-First each mail is moved into a folder in FILE.mail/in, and read there, in the
-order of the bytes of their names and 10,000 at most in one run. Those that a
-run has moved that was killed come before the others. FILE.mail is made for the
-owner of FILE alone, also if root runs this, and has to be on the disk of
-FOLDER. Then the mails are taken: those without a message, and after them those
-of each loan, in the order of their numbers.
+First each mail is moved into a folder in FILE.mail/in and read there, in the
+order of the bytes of their names and 10,000 at most in one run. Mails that a
+killed run has moved come before the others. FILE.mail is made for the owner of
+FILE alone, also if root runs this, and has to be on the disk of FOLDER. Then
+the mails are taken: first those without a message, then those of each loan, in
+the order of their numbers.
 
 Each message that is taken is kept in FILE.came, as `ill take --keep` does. With
---today it gets a line in FILE.diary, which may have the name of --by. Then
-the desk is saved, once, if a message was taken. Only then files go:
+--today it gets a line in FILE.diary, which may have the name of --by. Then the
+desk is saved, once, if a message was taken. Only then the mails go:
   removed                the desk has done with the mail: its message is taken,
                          a repeat, stale or in conflict, or comes again
   put aside              no desk will ever take it; its file becomes
@@ -318,23 +317,22 @@ the desk is saved, once, if a message was taken. Only then files go:
                          line that says why. DIGEST is the SHA-256 of the mail,
                          without the line end after its message, of at most its
                          first 362 bytes.
-Any other mail goes back to FOLDER. If a fault comes, all stay in FILE.mail/in
-for the next run: to take a message twice does no harm. FILE.mail/asked has the
+Any other mail goes back to FOLDER. After a fault all stay in FILE.mail/in for
+the next run: to take a message twice does no harm. FILE.mail/asked has the
 messages that came for loans that are over, which `ill outbox` answers.
 
-With --key each file of FOLDER is to be a sealed letter of the other library,
-as its `ill outbox --key` makes it. Each message in it is taken as a mail of its
-own is, under the name of the letter. Any other file changes nothing, and is put
-aside as `not-sealed`; but the record of a desk stays. The file of a letter goes
-back to FOLDER if one of its messages stays. Else it is put aside if one is put
-aside, and else removed. What then comes again does no harm. DIGEST is that of
-at most the first 1,048,614 bytes of the letter.
+With --key each file of FOLDER is to be a sealed letter of the other library, as
+its `ill outbox --key` makes it. Each message in it is taken as a mail is, under
+the name of the letter. Any other file changes nothing, and is put aside as
+`not-sealed`; but the record of a desk stays. The letter goes back to FOLDER if
+one of its messages stays. Else it is put aside if one is put aside, and else
+removed. To take a message of it again does no harm. DIGEST is that of at most
+the first 1,048,614 bytes of the letter.
 
-Once the desk is saved, the lines of `ill take --long` are written to standard
-output for each mail with a message. They tell how the loan stood after that
-message, before those that come after it. Of a mail that is put aside or stays,
-a line `NAME aside REASON` or `NAME left REASON` stands after them. The reasons
-to put a mail aside:
+Once the desk is saved, the lines of `ill take --long` are printed for each mail
+with a message. They show how the loan stood right after that message. For a
+mail that is put aside or stays, a line `NAME aside REASON` or `NAME left
+REASON` comes after them. The reasons to put a mail aside:
   short at N             the mail ends within a message, after N bytes of it
   tag at N               it is no message: a wrong field, at its byte N
   length at N            it is none: a wrong length, at its byte N
@@ -357,9 +355,9 @@ The last line counts the mails:
 again, with its request. `waiting` counts the mails beyond the first 10,000.
 
 The exit status is 0 if all mails are done, 1 if one was put aside or in
-conflict, and 3 with `left`. Then mails stay or wait; what else was to be done
-is done. A file that cannot be removed or put aside is named on standard error,
-and then it is `store failed`.";
+conflict, and 3 with `left`. Then mails stay or wait, and all else is done. A
+file that cannot be removed or put aside is named on standard error, and then it
+is `store failed`.";
 
 pub const INBOX_EXAMPLE: &str = "Example:
   $ ill new here requester
@@ -383,8 +381,8 @@ pub const INBOX_EXAMPLE: &str = "Example:
 pub const OUTBOX: &str = "\
 Put the messages that want sending into a folder of mails.
 
-Nothing tells that a message has come. So a loan wants sending until it is over:
-all its messages that are saved leave again, in their order, in every run. A
+A desk never learns that its message has come. So a loan wants sending until it
+is over: all its saved messages leave again, in their order, in every run. A
 loan is over in CANCELLED and NOT-SUPPLIED; at a responder in CHECKED-IN; at a
 requester in RETURNED with the mark checked-in. Then a requester is silent. A
 responder sends if a message of the loan came in the last `ill inbox`: its last
@@ -394,16 +392,16 @@ Each message becomes a file of FOLDER, whole or not at all, also after a loss of
 power. Its name is made of its loan and its number, as
 `7ce619cb6e23ba0dd166097fce0754f3-001`, and is the same in every run. So a mail
 that nobody has fetched is there once. It is written to a file with a dot before
-this name, and renamed once the disk has it. A line `sent N` tells how many they
-are. FOLDER may be what `ill inbox` lets it be.
+this name, and renamed once the disk has it. A line `sent N` counts the
+messages. What `ill inbox` asks of FOLDER holds here too.
 
 With --key the messages leave in a sealed letter, as many as fit into 1,048,576
 bytes, and further ones in another. Its name is `letter-` and 32 digits of its
-SHA-256, so it tells no number of loans. A run with the same messages makes the
-same letter. Without messages there is none.
+SHA-256, so it does not show how many loans there are. A run with the same
+messages makes the same letter. Without messages there is none.
 
-With --stream the messages are written to standard output in place of FOLDER,
-one after another and nothing else. No key may be given then.
+With --stream the messages go to standard output in place of FOLDER, one after
+another and nothing else. No key may be given then.
 
 The exit status is 0 if all messages are there. Else the first ones may be.";
 
@@ -425,30 +423,29 @@ Take the mails of a folder, and send into another.
 
 A run does this, for a machine that works by itself:
   1. The mails of the folder IN are taken, as `ill inbox` does.
-  2. With --overdue a responder says of each loan that is past its due date on
-     DAY that it is overdue. With --expire it ends each request that is past its
-     last day. Both want --today. Each gets a line in FILE.diary, and then a
-     line is written:
+  2. With --overdue a responder issues an Overdue for each loan that is past its
+     due date on DAY. With --expire it ends each request that is past its last
+     day. Both want --today. Each gets a line in FILE.diary, and then a line is
+     printed:
        GROUP TRANSACTION VERB done STATE DUE RELEASED/ISSUED
   3. With --copy the desk is copied to a file, which should be on another disk.
-     A copy is replaced only if the desk has its role, its loans, and in each
-     its messages as the first ones. Any other copy stays, and so does what is
-     no record of a desk: that is a failure.
+     A copy is replaced only by a desk that has its role, all its loans, and in
+     each loan its messages first. Any other file stays: that is a failure.
   4. The messages that want sending are put into the folder OUT, as `ill outbox`
      does.
-  5. With --beat a file is made anew: its time tells when a run ended. It has
-     one byte, and no file with more is removed for it.
-If one of these fails, the further ones are not done: without a copy nothing is
+  5. With --beat a file is made anew: its time shows when a run ended. It has
+     one byte, and it never replaces a longer file.
+If one of these fails, the later ones are not done: without a copy nothing is
 sent. The desk is locked from the first to the last. A run may be killed at any
 moment, and run again.
 
 A night is the run of the requester, that of the responder, and the requester's
 again, which takes the answers.
 
-Before the first step the folders are looked at. IN is not OUT, and each may be
-what `ill inbox` and `ill outbox` let it be. The copy is another file than FILE,
-in a folder that is there. Neither it nor the file of --beat may be in IN or
-OUT. Both get the owner of FILE, also if root runs this.
+Before the first step the folders are checked. IN is not OUT, and what `ill
+inbox` asks of FOLDER holds for both. The copy is another file than FILE, in a
+folder that is there. Neither it nor the file of --beat may be in IN or OUT.
+Both get the owner of FILE, also if root runs this.
 
 Standard output has the lines of `ill inbox`, those of the second step and the
 line `sent N`. Standard error has a line for each mail that wants a person: one
@@ -463,7 +460,7 @@ line. A deed has `verb`, `group` and `transaction` before `state` and the rest.
 The last object has the number of `messages` that are sent.
 
 With --key all messages come and go in sealed letters, as `ill inbox --key` and
-`ill outbox --key` tell. No other file of IN is taken.
+`ill outbox --key` take and make them. No other file of IN is taken.
 
 The exit status is 0 if nothing wants a person, 1 if something does, and 3 if a
 mail stays for the next run (`left`).";
@@ -485,15 +482,16 @@ Write the bytes of one message of a loan.
 
 The messages of each loan are numbered 1, 2, 3, in the order in which `act` and
 `take` issued them. NUMBER has one to three digits, with a value from 1 to 255.
-The message must be saved, which what `act` and `take` have told always is.
+The message must be saved: it always is once `act` or `take` has printed its
+line.
 
-Its bytes, and nothing else, are written to standard output: 16 to 359 of them,
-which are not for a terminal. Give them to a file or another program, as in
-`ill send FILE G1 T1 1 > message`. FILE is not changed, so nothing tells what
-was sent. A message may be sent again at any time, and has the same bytes then.
+Its bytes, and nothing else, go to standard output: 16 to 359 of them, which are
+not for a terminal. Give them to a file or another program, as in `ill send FILE
+G1 T1 1 > message`. FILE is not changed, so no file shows what was sent. A
+message may be sent again at any time, and has the same bytes then.
 
-With --key a sealed letter with the message is written in its place, for `ill
-take --key` of the other library. It has 37 bytes more.
+With --key a sealed letter with the message goes out in its place, for `ill take
+--key` of the other library. It has 37 bytes more.
 
 The exit status is 0 if the message is written, and 1 with
 `no-such-transaction`, `no-such-message` or `not-saved`.";
@@ -521,15 +519,15 @@ The key seals letters: with --key the messages of `ill send`, `ill outbox` and
 exchange` of the other library alone open them.
 
 With neither --show nor --read a new key is made in KEYFILE, of the randomness
-of the system, and `done` is written. KEYFILE must not be there yet. It has 32
+of the system, and `done` is printed. KEYFILE must not be there yet. It has 32
 bytes, and nobody but its owner may read or write it, or else it is `key open`.
 Its name may not have an ending that `ill new --help` names.
 
-With --show the key in KEYFILE is written, for the other library: 17 groups of
+With --show the key in KEYFILE is printed, for the other library: 17 groups of
 four digits or letters from a to f, with spaces between them. The last group
-checks the others. Tell it by telephone or by a letter on paper, and never by
-the way on which the messages go. Who knows the key can write messages in the
-name of both libraries. Each pair of desks wants a key of its own.
+checks the others. Give it by telephone or by a letter on paper, and never by
+the way that the messages take. Who knows the key can write messages in the name
+of both libraries. Each pair of desks wants a key of its own.
 
 With --read the other library makes its KEYFILE of such groups on standard
 input. Spaces and ends of lines may stand anywhere in them, and letters may be
@@ -581,11 +579,11 @@ These options say which loans are listed; all that are given hold:
 
 With --notes the note on a loan stands on a line below it, after `note`. With
 --since-when such a line has the day of its last message, after `since`. It is
-there if FILE.diary tells that day, as `ill loan` does.
+there if FILE.diary has that day.
 
 With --since DAY the news of a loan since DAY stand below it, on a line for each
-message, after `news`. The words are those of `ill news`, whose help says what
-is told.
+message, after `news`. The words are those of `ill news`, whose help says which
+messages are shown.
 
 With --mine and --since DAY the list is one of a morning: a line for each loan
 that wants a hand or has news. It has no state. Before the title stand the news,
@@ -605,7 +603,7 @@ With --since `news` is an array, and each message in it has `number` and
 `words`. Without it `news` is null. After the loans an object whose `kind` is
 counts has `loans`, `open`, `todo` and `room`.
 
-`ill --help` tells which desks a PATH has, and what comes of several.";
+`ill --help` says which desks a PATH has, and how several are shown.";
 
 pub const LIST_EXAMPLE: &str = "Example:
   $ ill new here requester
@@ -627,12 +625,12 @@ pub const LIST_EXAMPLE: &str = "Example:
   loans 1, open 1, to do 1, room for 999";
 
 pub const NEWS: &str = "\
-Tell what came to desks, in the order in which it came, a line for each message.
+Show what came to desks, in the order in which it came, a line for each message.
 
 The messages are those that `take` with --keep, `inbox` and `exchange` have kept
-in FILE.came. One is told only if the record of its loan shows that it was
-taken, and only once. Nothing is decided by that file: it may be put away, and
-then there is no news. The columns of a line:
+in FILE.came. One is shown only if the record of its loan has it as taken, and
+only once. That file decides nothing: it may be put away, and then there is no
+news. The columns of a line:
   group                  the group qualifier of the loan
   transaction            the transaction qualifier of the loan
   number                 the number of the message, of the other library
@@ -672,26 +670,26 @@ The words of what a responder has sent:
   overdue notice sent              Overdue of its own
   expired                          Expired of its own
 
-With --since only what came on DAY or later is told. FILE.diary says on which
-day a message came, if the command that took it had --today. Told is all that
-stands after the last message of an earlier day. So a message without a day is
-told with those around it. A message that came on an earlier day, too, is not
-told again. Last come an Overdue and an Expired that the desk itself has sent.
-Such a message is told if FILE.diary has it on DAY or later, and not before.
+With --since only what came on DAY or later is shown. FILE.diary has the day on
+which a message came, if the command that took it had --today. All that stands
+after the last message of an earlier day is shown. So a message without a day is
+shown with those around it. A message that came on an earlier day, too, is not
+shown again. Last come an Overdue and an Expired that the desk itself has sent.
+Such a message is shown if FILE.diary has it on DAY or later, and not before.
 
 First of all come open answers of earlier days, whatever DAY is. They have ended
-a loan and ask staff for something: to try again later, or to read a letter that
-tells a price or other libraries. An answer is open until the note of its loan
+a loan and ask staff for something: to try again later, or to read a letter with
+a price or with other libraries. An answer is open until the note of its loan
 begins with the word `done`: `ill note DESK GROUP TRANSACTION done: too dear`.
-From then on it is told as any other message.
+From then on it is shown as any other message is.
 
-With --last only the last N messages are told, 1 to 255. The last line counts
+With --last only the last N messages are shown, 1 to 255. The last line counts
 the messages, and those of them that are shown.
 
 With --json a message has `kind`, which is news, `group`, `transaction`,
 `number`, `words` and `item`. No line has counts.
 
-`ill --help` tells which desks a PATH has, and what comes of several.";
+`ill --help` says which desks a PATH has, and how several are shown.";
 
 pub const NEWS_EXAMPLE: &str = "Example:
   $ ill new here requester
@@ -750,7 +748,7 @@ With --csv a record of CSV (RFC 4180) comes for each desk, after one with the
 names of the fields. Its first field is the path, in quotes. A mean is a field
 of its own after its number of loans, and is empty without a loan.
 
-`ill --help` tells which desks a PATH has, and what comes of several.";
+`ill --help` says which desks a PATH has, and how several are shown.";
 
 pub const FIGURES_EXAMPLE: &str = "Example:
   $ ill new here requester
@@ -785,8 +783,8 @@ pub const FIGURES_EXAMPLE: &str = "Example:
 pub const STATUS: &str = "\
 Show how each loan in a file stands.
 
-Seven lines for each loan are written to standard output, in the order in which
-the loans were begun; none, if the desk has no loan:
+Seven lines for each loan are printed, in the order in which the loans were
+begun; none, if the desk has no loan:
   role                   requester or responder
   group                  the group qualifier of the loan
   transaction            the transaction qualifier of the loan
@@ -827,16 +825,16 @@ come these:
   expiry                 the last day of the request, or `-`
 
 A loan without a request has no line `item` and no line `expiry`. Then a
-responder tells what it has taken, by the numbers of messages, each a number or
+responder shows what it has taken, by the numbers of messages, each a number or
 `-`:
   accepted               the conditions that were accepted last
   last-cancel            the last Cancel
   last-renew             the last Renew
 
-A requester tells this in their place:
+A requester shows this in their place:
   held                   the conditions that stand, by their number, or `-`
 
-If `ill note` has kept a note on the loan, a line tells it:
+If `ill note` has kept a note on the loan, a line has it:
   note                   the note
 
 Then come the messages that the loan has issued, in order. An empty line stands
@@ -855,8 +853,8 @@ It has only messages that the loan has:
                          the number of the message
 
 With --picture the messages are drawn in place of all this, as a sequence chart
-in the language of Mermaid. The order of each side is right, and so is what
-answers a message; how both orders lay in time, nobody knows.
+in the language of Mermaid. It has the right order for each side, and shows
+which message answers which. How both orders lay in time, nobody knows.
 
 With --json the loan also has the labels of `ill status --json`. Its `messages`
 are an array of those that it has issued, and its `came` one of those that were
@@ -902,7 +900,7 @@ depends on it. A loan has one note, and a new one replaces it. `ill list
 words in it.
 
 An answer that asks staff for something stays news until the note begins with
-the word `done`, in capitals or not: `ill news --help` tells which answers.
+the word `done`, in capitals or not: `ill news --help` says which answers.
 
 The note is all WORDS, the words that remain, of 200 bytes at most, without a
 control character. An empty one, '', removes the note of the loan. Among WORDS
@@ -912,12 +910,11 @@ one of them.
 The note is kept in FILE.notes, a line for each: GROUP, TRANSACTION and WORDS.
 The last line of a loan counts. A space of GROUP or TRANSACTION is written by
 its number. So is a character of WORDS on which a terminal or an editor may act,
-as \\u{202e}. Nothing is decided by that file: it may be put away, and then there
-is no note. A part of a line that a crash has left at its end is cut off, and a
-line on standard error says so.
+as \\u{202e}. That file decides nothing: it may be put away, and then there is no
+note. A part of a line that a crash has left at its end is cut off, and a line
+on standard error says so.
 
-One line, `done`, is written to standard output once the note is on the disk.
-FILE.notes has at most 67,108,864 bytes.
+One line, `done`, is printed once the note is on the disk.
 
 The exit status is 0 if the note is kept, and 1 with `no-such-transaction`.
 After `store failed` the note may be kept or not: `ill loan` shows which.";
@@ -962,19 +959,19 @@ pub const SLIP_EXAMPLE: &str = "Example:
   $ ill slip box G1 T1 > slip.html";
 
 pub const VERIFY: &str = "\
-Read a desk, and tell what it has or what is wrong with it.
+Read a desk, and show what it has or what is wrong with it.
 
-These lines are written to standard output:
+These lines are printed:
   version                that of its record
   role                   requester or responder
   loans                  how many loans it has
   messages               how many messages these have issued, all together
   room                   for how many more loans there is room
 
-A record that is none, or was damaged, is a fault, which tells the place of the
+A file that is no record, or a damaged one, is a fault, with the place of the
 first wrong byte if there is one. With --json `kind` is record, or else fault:
 then the object has the word of the fault, as `fault`, and its place, as `at`.
-The fault is told on standard error, too.";
+The fault is on standard error, too.";
 
 pub const VERIFY_EXAMPLE: &str = "Example:
   $ ill new box requester
@@ -992,8 +989,8 @@ pub const REPORT: &str = "\
 Write a page for a browser of the loans of desks.
 
 The page is one file of HTML, on standard output. It has no scripts, and it
-needs nothing from elsewhere. It may be printed. `ill --help` tells which desks
-a PATH has.
+needs nothing from elsewhere. It may be printed. `ill --help` says which desks a
+PATH has.
 
 Of each desk the page counts the loans that want a hand on the day of --today,
 those that are not over, all loans, and the room for more. Then it has a table
@@ -1003,8 +1000,8 @@ that are over stand last. A due date is soon if it is at most 7 days away.
 
 A row has the title of a loan, the note on it, its group and transaction, and
 its state in plain words. Below that stands the day of its last message, if
-FILE.diary tells it. With --since DAY its news since that day stand there, too,
-in the words of `ill news`. It has the day on which the item is due, or else the
+FILE.diary has it. With --since DAY its news since that day stand there, too, in
+the words of `ill news`. It has the day on which the item is due, or else the
 day after which the request may expire. Last it has the verbs that `ill act`
 takes on the day of --today. In each table the earliest of these days stands
 first, and loans without one last. A day is written YYYY-MM-DD.
@@ -1023,8 +1020,8 @@ pub const REPORT_EXAMPLE: &str = "Example:
 pub const SHOW: &str = "\
 Show each APDU on standard input.
 
-Of each its type, its transaction, its number and its further fields are written
-to standard output, a line for each: `ill show < FILE`.
+For each, its type, its transaction, its number and its further fields are
+printed, a line for each: `ill show < FILE`.
 
 With --json an APDU has `kind`, message, before the labels of its lines.
 
@@ -1041,8 +1038,8 @@ pub const SHOW_EXAMPLE: &str = "Example:
 pub const CHECK: &str = "\
 Check the APDUs on standard input and count them.
 
-After the last of them their number is written to standard output: `ill check <
-FILE`. If one of them has a fault, nothing is written there.
+Their number is printed after the last of them: `ill check < FILE`. If one of
+them has a fault, standard output has nothing.
 
 The exit status is 0 if they are counted. It is 2 if one has a fault or there
 are too many, and 3 with `read`.";
@@ -1056,8 +1053,8 @@ Perform a script of both sides of a loan, from standard input.
 
 The script, as in `ill simulate G1 T1 < FILE`, has at most 100,000 lines, of at
 most 1,024 bytes each. A line says one event; an empty one, and one that begins
-with `#`, says nothing. For each event a line is written to standard output: its
-number, what is seen of it, and how both sides stand after it.
+with `#`, says nothing. A line is printed for each event: its number, what is
+seen of it, and how both sides stand after it.
 
 The lines of a script:
   requester request EXPIRY ITEM
@@ -1080,7 +1077,7 @@ SIDE is requester or responder. EXPIRY, WISHED, TODAY and DUE are days; EXPIRY,
 WISHED and HEX may be `none`. RESULT is as for `ill act`.
 
 The exit status is 0 if the whole script was performed. It is 2 for a line that
-is no event, and 3 with `read`. The lines of the events before are written.";
+is no event, and 3 with `read`. The lines of the events before are printed.";
 
 pub const SIMULATE_EXAMPLE: &str = "Example:
   $ printf 'requester request none Maps\\nsave requester\\n' | ill simulate G1 T1
@@ -1105,7 +1102,7 @@ begin one more than 1,000.
 
 The exit status is 0 if the whole script was performed. It is 2 for a line that
 is no event and no use, and 3 with `read`. The lines of the events before are
-written.";
+printed.";
 
 pub const SIMULATE_DESKS_EXAMPLE: &str = "Example:
   $ printf 'use G1 T1\\nrequester request none Maps\\n' | ill simulate-desks
@@ -1122,9 +1119,9 @@ each loan, which says how the loan ended, and no title.
 
 The next `ill shelf exchange` removes each mail of the group. If the mark has
 the last message of its loan, that is sent again: so a requester who missed it
-ends the loan. Else standard error tells of the mail, once a month for a group.
+ends the loan. Else standard error names the mail, once a month for a group.
 
-One line is written: `done`, or `not-now` if a loan of the group is not over.
+One line is printed: `done`, or `not-now` if a loan of the group is not over.
 Then nothing is changed. After `done`, nothing else is known of the loans. Both
 libraries may retire a group as soon as its loans are over.
 
@@ -1176,7 +1173,7 @@ pub const SHELF_NEW: &str = "\
 Begin a shelf of one role, in a folder.
 
 DIR is made, if it is not there. Its folder must be there. One line, `done`, is
-written. `exists` tells that DIR is a shelf already.
+printed. `exists` says that DIR is a shelf already.
 
 The exit status is 0 if the shelf is saved, and 1 with `exists`.";
 
@@ -1211,8 +1208,8 @@ pub const SHELF_STATUS: &str = "\
 Show how each loan stands, desk by desk.
 
 The path of each desk stands on a line before its loans, which are shown as `ill
-status` shows them. With --json it does not. A desk that cannot be read is told
-on standard error, and the others are shown.";
+status` shows them. With --json it does not. Standard error names a desk that
+cannot be read, and the others are shown.";
 
 pub const SHELF_TAKE: &str = "\
 Take the APDUs on standard input, each at the desk of its group.
@@ -1236,19 +1233,19 @@ is loaded and saved once. The shelf's own desk takes what has no desk: what is
 no message is put aside in DIR/.shelf.mail/aside.
 
 An ILL-Request of a new group makes its desk at a responder's shelf. A run makes
-16 desks at most; standard error tells of each, and of the requests that wait. A
+16 desks at most; standard error names each, and the requests that wait. A
 message of a retired group is removed. The next `ill shelf outbox` answers it,
-or standard error tells of it, once a month for a group.
+or standard error names it, once a month for a group.
 
-A desk that fails is told on standard error, and the others go on. So is a desk
-that is lost, in each run: DESK.came or DESK.mail is there, and DESK is not. It
-counts as mails that are left.
+Standard error names a desk that fails, and the others go on. It names a lost
+desk in each run: DESK.came or DESK.mail is there, and DESK is not. That counts
+as mails that are left.
 
 With --key the sealed letters in FOLDER are opened first, and the messages in
 them are put into DIR/.opened, each in a file of its own. From there they go to
 the desks as mails do, and one that stays goes back there. A letter is removed
-once the disk has its messages. Standard error tells of any other file: it is
-put aside as `not-sealed`, or stays if it is the record of a desk.
+once the disk has its messages. Standard error names any other file: it is put
+aside as `not-sealed`, or stays if it is the record of a desk.
 
 The exit status is that of the first desk that fails, as of `ill inbox`. If none
 fails, it is 3 if mails are left, 1 if one was put aside or in conflict, else 0.
@@ -1258,9 +1255,9 @@ pub const SHELF_OUTBOX: &str = "\
 Put the messages of all desks that want sending into a folder.
 
 Each desk puts its messages into FOLDER, or onto standard output, as `ill
-outbox` does. A line of its path stands before what it tells of FOLDER. The last
+outbox` does. A line of its path stands before its line `sent N`. The last
 messages of retired groups for which mail has asked in the last `ill shelf
-inbox` go into FOLDER too, and no line tells it.
+inbox` go into FOLDER too, and no line counts them.
 
 With --key each desk seals a letter of its own, and so do these groups together.";
 
@@ -1270,9 +1267,9 @@ Take the mails of a folder, and send into another.
 The mails of IN are sorted to the desks, as `ill shelf inbox` does, and then
 each desk does what `ill exchange` does, after a line of its path; with --json
 that line is left out. At the end go the last messages of retired groups for
-which mail has asked. The folders are looked at first, as by `ill exchange`.
-With --key all messages come and go in sealed letters, as `ill shelf inbox
---key` and `ill shelf outbox --key` tell.
+which mail has asked. The folders are checked first, as by `ill exchange`. With
+--key all messages come and go in sealed letters, as `ill shelf inbox --key` and
+`ill shelf outbox --key` take and make them.
 
 --copy names a folder, which has to be there and is not DIR: each desk is copied
 into it before its messages leave, and the mark of each retired group. If it has

@@ -6,7 +6,7 @@ It reads the help as the module `command_line` has it, which is what the program
   a number in no such phrase is a fault, and so is a phrase that no text has. Of the man page it reads what is written
   by hand;
 - the status of each fault of the list of `ill --help`, and those of each command, with what the program answers. Ends
-  that all commands have, or all on a desk, are told by `ill --help` alone;
+  that all commands have, or all on a desk, stand in `ill --help` alone;
 - lists of words: roles, actions, results, outcomes, marks, lines of a script and lines of a status;
 - each word in backquotes, in capitals or with the name of a message, with the words that there are;
 - the numbers, verbs, results and reserved names in the sentences of `--explain`.
@@ -55,7 +55,7 @@ The first day of the span, as {day}
 want the day: `--today {day}`; DAY is {day_digits} digits, as {day}; The day of the work, as {day}; came on this day or later, as {day}
 at most DAYS days away: {first} to {last}, or {ahead} without this option; a due date is soon, or {ahead}
 N days after that day, {first} to {last}; the last N messages, {first} to {last}
-only the last N messages are told, {first} to {last}; no count of messages: it is {first} to {last}
+only the last N messages are shown, {first} to {last}; no count of messages: it is {first} to {last}
 days {first_day} to {last_day}
 N one to {days_digits} digits
 one to {number_digits} digits, with a value from {first} to {last}; The number of the message, {first} to {last}
@@ -496,7 +496,7 @@ def compare_lists(text, arguments):
     parts = ("come these:", "each a number or\n`-`:", "in their place:", "and one more:", "after it this:")
     lines = [line for after in parts for line in heads(table(text["LOAN"], after))]
     expect_same("lists", sorted(lines), sorted(loan_labels()), "LOAN: the lines")
-    lines = heads(table(text["VERIFY"], "are written to standard output:"))
+    lines = heads(table(text["VERIFY"], "These lines are printed:"))
     expect_same("lists", lines, labels_in(read(f"{SHOW}/verify.rt")), "VERIFY: the lines")
     for role, forms in actions().items():
         compare_forms(f"ACT: the words of a {role}", heads(table(text["ACT"], f"The words of a {role}")), forms)

@@ -85,7 +85,7 @@ fn tell_told_before(text: &mut String, path: &str) -> Result<(), OutOfMemory> {
     let shown = Shown::of(path);
     writeln!(
         text,
-        "  The line before tells which file or folder it is. Without one {shown} is not saved: look at"
+        "  The line before names the file or folder. If there is none, {shown} is not saved: look at"
     )?;
     writeln!(
         text,

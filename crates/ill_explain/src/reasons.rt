@@ -148,7 +148,7 @@ fn tell_fault<T: LockFiles>(
         ToolFault::TooMany => writeln!(text, "  Divide the input, and give its parts one by one."),
         ToolFault::Left => writeln!(
             text,
-            "  Mails stay in the folder for the next run: their lines, and the last one, tell why."
+            "  Mails stay in the folder for the next run: their lines, and the last one, say why."
         ),
         ToolFault::Read => writeln!(text, "  Standard input cannot be read to its end."),
         ToolFault::Write => writeln!(

@@ -33,7 +33,7 @@ pub fn tell_shelf_fault<T: LockFiles>(
         }
         None => writeln!(
             text,
-            "  A line before tells which folder, or which desk of {shown}, it is."
+            "  A line before names the folder, or the desk of {shown}."
         ),
     }
 }

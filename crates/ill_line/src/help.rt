@@ -49,7 +49,8 @@ character as it is.
 
 With --json each loan or message is an object of JSON on a line. It has its
 `kind` first, and then the labels of the text in their order, with `_` for a
-hyphen. With several desks each object has its PATH in `file`.
+hyphen. With several desks each object has its PATH in `file`. All fields stand
+in docs/ill.schema.json.
 
 With --explain, lines after that of a fault say which word, file or message is
 wrong, and what would be right. The option stands before the command, or after
@@ -391,9 +392,9 @@ word may be lost.
 Each message becomes a file of FOLDER, whole or not at all, also after a loss of
 power. Its name is made of its loan and its number, as
 `7ce619cb6e23ba0dd166097fce0754f3-001`, and is the same in every run. So a mail
-that nobody has fetched is there once. It is written to a file with a dot before
-this name, and renamed once the disk has it. A line `sent N` counts the
-messages. What `ill inbox` asks of FOLDER holds here too.
+that nobody has fetched is there once. While it is written, a dot stands before
+its name. A line `sent N` counts the messages. What `ill inbox` asks of FOLDER
+holds here too.
 
 With --key the messages leave in a sealed letter, as many as fit into 1,048,576
 bytes, and further ones in another. Its name is `letter-` and 32 digits of its
@@ -451,13 +452,6 @@ Standard output has the lines of `ill inbox`, those of the second step and the
 line `sent N`. Standard error has a line for each mail that wants a person: one
 that is put aside or stays, and a conflict that no lost, late or repeated mail
 explains. So cron mails only these.
-
-With --json each of these is an object. Its `kind` is message, mail, mails, deed
-or sent. A message has `outcome`, `state`, `due`, `released` and `issued` before
-the labels of `ill show --json`. A mail that stays has `name`, `verdict`, which
-is aside or left, and `reason`. The object of kind mails has the counts of the
-line. A deed has `verb`, `group` and `transaction` before `state` and the rest.
-The last object has the number of `messages` that are sent.
 
 With --key all messages come and go in sealed letters, as `ill inbox --key` and
 `ill outbox --key` take and make them. No other file of IN is taken.
@@ -597,12 +591,6 @@ says how many more loans may want a hand by their dates. Each open loan that has
 at most 10 numbers left for its messages has such a line, whichever loans are
 listed.
 
-With --json a loan has `kind`, which is loan, `work`, `state`, `due`, `group`,
-`transaction`, `now` (what `act` takes now), `item`, `note`, `since` and `news`.
-With --since `news` is an array, and each message in it has `number` and
-`words`. Without it `news` is null. After the loans an object whose `kind` is
-counts has `loans`, `open`, `todo` and `room`.
-
 `ill --help` says which desks a PATH has, and how several are shown.";
 
 pub const LIST_EXAMPLE: &str = "Example:
@@ -684,10 +672,7 @@ begins with the word `done`: `ill note DESK GROUP TRANSACTION done: too dear`.
 From then on it is shown as any other message is.
 
 With --last only the last N messages are shown, 1 to 255. The last line counts
-the messages, and those of them that are shown.
-
-With --json a message has `kind`, which is news, `group`, `transaction`,
-`number`, `words` and `item`. No line has counts.
+the messages, and those of them that are shown; with --json there is none.
 
 `ill --help` says which desks a PATH has, and how several are shown.";
 
@@ -717,11 +702,10 @@ Count the loans of desks that were asked in a span of days, and how long they
 took.
 
 The days are those of FILE.diary, where `act`, `take`, `inbox` and `exchange`
-enter them if they are given --today. All else is in FILE and in FILE.came,
-where `take` with --keep, `inbox` and `exchange` keep what came. A line of the
-diary counts only if the loan has the message that it names; of several lines
-that name one message, the last counts. --from and --to are days of the span,
-too, and --to may not be before --from. The lines of a desk:
+enter them if they are given --today. All else is in FILE and in FILE.came. A
+line of the diary counts only if the loan has the message that it names; of
+several lines that name one message, the last counts. --from and --to are days
+of the span, too, and --to may not be before --from. The lines of a desk:
   from DAY to DAY        the span
   asked                  the loans whose request has a day in the span
   filled                 those whose item was shipped
@@ -745,8 +729,7 @@ shown as the mean of the loans in which both days are known, to a tenth of a
 day. The number of these loans comes after it. Without one the line has `-`.
 
 With --csv a record of CSV (RFC 4180) comes for each desk, after one with the
-names of the fields. Its first field is the path, in quotes. A mean is a field
-of its own after its number of loans, and is empty without a loan.
+names of the fields.
 
 `ill --help` says which desks a PATH has, and how several are shown.";
 
@@ -793,10 +776,7 @@ begun; none, if the desk has no loan:
   messages               RELEASED/ISSUED: how many of its messages may be sent,
                          and how many it has issued
   marks                  those that are set of `received` (a Received was
-                         issued, or taken), `checked-in` and `declined`, or `-`
-
-With --json a loan has `kind`, which is loan, and `released` and `issued` in
-place of `messages`.";
+                         issued, or taken), `checked-in` and `declined`, or `-`";
 
 pub const STATUS_EXAMPLE: &str = "Example:
   $ ill new box requester
@@ -852,15 +832,10 @@ It has only messages that the loan has:
                          of an action or the type of a message that came, and
                          the number of the message
 
-With --picture the messages are drawn in place of all this, as a sequence chart
-in the language of Mermaid. It has the right order for each side, and shows
-which message answers which. How both orders lay in time, nobody knows.
-
-With --json the loan also has the labels of `ill status --json`. Its `messages`
-are an array of those that it has issued, and its `came` one of those that were
-kept. Without a note its `note` is null. Its `history` is an array of objects,
-in order, with the day, the name, which is null for `-`, the word of the message
-and its number. With --picture too it is the object.
+With --picture, but not with --json, the messages are drawn in place of all
+this, as a sequence chart in the language of Mermaid. It has the right order for
+each side, and shows which message answers which. How both orders lay in time,
+nobody knows.
 
 The exit status is 0 if the loan is shown, and 1 with `no-such-transaction`.";
 
@@ -969,9 +944,8 @@ These lines are printed:
   room                   for how many more loans there is room
 
 A file that is no record, or a damaged one, is a fault, with the place of the
-first wrong byte if there is one. With --json `kind` is record, or else fault:
-then the object has the word of the fault, as `fault`, and its place, as `at`.
-The fault is on standard error, too.";
+first wrong byte if there is one. With --json the object has the fault, which is
+on standard error, too.";
 
 pub const VERIFY_EXAMPLE: &str = "Example:
   $ ill new box requester
@@ -1022,8 +996,6 @@ Show each APDU on standard input.
 
 For each, its type, its transaction, its number and its further fields are
 printed, a line for each: `ill show < FILE`.
-
-With --json an APDU has `kind`, message, before the labels of its lines.
 
 The exit status is 0 if all of them are shown. It is 2 if one has a fault or
 there are too many, and 3 with `read`. The APDUs before a fault are shown.";

@@ -1,0 +1,72 @@
+-- Proves what is known of a desk that is opened at a place.
+use Rattle.std.proofs.Common.{◌≡◌, ℕ, List, Option, None, Some, Result, Ok, Err, IfOk, inr, refl, sym, subst, ◌∙◌}
+use Rattle.std.proofs.lemmas.Option.{none-some, same_Some}
+use Rattle.std.specs.Prelude.{true}
+use Rattle.ill_record.specs.declared.role.Role.{Role}
+use Rattle.ill_store.specs.declared.store.NextCall.{NextCall}
+use Rattle.ill_saved.specs.Desk.{AreAllReleased, Begins, Creates, DeskLoads, DeskOf}
+use Rattle.ill_saved.specs.ManySides.{DeskContents, many_sides, no_sides}
+use Rattle.ill_place.specs.BadPlaces.{IsElsewhere, no_path, no_record, other_path, other_sides, unsaved}
+use Rattle.ill_place.specs.Place.{BeginsAt, HasLandedAs, IsAt, OpensAt, PlaceOf, StartsAt}
+
+-- A desk that starts over an honest store has the sides of the landed record.
+has_landed : {S : Type 0} (landed : Option (List ℕ)) (plan : Option NextCall) (desk : DeskOf DeskContents S)
+    → Begins {S = S} many_sides.read many_sides.begins (λ (desk : DeskOf DeskContents S). desk.live) landed plan (Ok desk)
+    → HasLandedAs landed desk.live
+has_landed (Some bytes) plan desk begins = (bytes, refl, begins.0)
+has_landed None plan desk begins = absurd begins
+
+-- A desk that starts over a store of a place starts at the place.
+pub started : {S : Type 0} (place : PlaceOf S) (store : S) (desk : DeskOf DeskContents S) → IsAt place store
+    → ((place.state store).is_honest ≡ true
+    → Begins {S = S} many_sides.read many_sides.begins (λ (desk : DeskOf DeskContents S). desk.live)
+    (place.state store).landed (place.state store).plan (Ok desk))
+    → AreAllReleased many_sides desk.live
+    → DeskLoads {X = Unit {0}} (place.state store) (Ok tt) (place.state desk.store)
+    → StartsAt place desk
+started place store desk at begins released loads = record {
+  path = loads.path ∙ at;
+  landed = λ honest.
+      let was = sym loads.honest ∙ honest in
+      subst (λ (landed : Option (List ℕ)). HasLandedAs landed desk.live) (sym (loads.landed was))
+      (has_landed (place.state store).landed (place.state store).plan desk (begins was));
+  released = released;
+}
+
+-- An honest store over which a desk is created has no record.
+has_none : (landed : Option (List ℕ)) (plan : Option NextCall) → Creates landed plan (Ok tt) → landed ≡ None
+has_none None plan creates = refl
+has_none (Some bytes) plan creates = absurd creates
+
+-- A desk that is created over a store of a place begins at the place.
+pub begun : {S : Type 0} (place : PlaceOf S) (role : Role) (store : S) (desk : DeskOf DeskContents S) → IsAt place store
+    → ((place.state store).is_honest ≡ true → Creates (place.state store).landed (place.state store).plan (Ok tt))
+    → desk.live ≡ no_sides role
+    → DeskLoads {X = Unit {0}} (place.state store) (Ok tt) (place.state desk.store)
+    → BeginsAt place role desk
+begun place role store desk at creates empty loads = record {
+  path = loads.path ∙ at;
+  landed = λ honest.
+      let was = sym loads.honest ∙ honest in
+      loads.landed was ∙ has_none (place.state store).landed (place.state store).plan (creates was);
+  empty = empty;
+}
+
+-- A desk that is begun at a place is opened there.
+pub opens_begun : {S F : Type 0} (place : PlaceOf S) (result : Result (DeskOf DeskContents S) F)
+    → IfOk result (λ (desk : DeskOf DeskContents S). (role : Role) × BeginsAt place role desk) → IfOk result (OpensAt place)
+opens_begun place (Ok desk) begins = inr begins
+opens_begun place (Err fault) begins = tt
+
+-- No desk that is elsewhere starts at a place.
+pub none_elsewhere : {S : Type 0} (place : PlaceOf S) (desk : DeskOf DeskContents S) → IsElsewhere place desk
+    → StartsAt place desk → ⊥
+none_elsewhere place desk (other_path path at differs) starts = differs (same_Some path place.path (sym at ∙ starts.path))
+none_elsewhere place desk (no_path at) starts = none-some place.path (sym at ∙ starts.path)
+none_elsewhere place desk (other_sides bytes honest has differs) starts =
+    let landed = starts.landed honest in
+    differs (subst (λ (bytes : List ℕ). many_sides.read bytes ≡ Ok desk.live)
+    (same_Some landed.0 bytes (sym landed.1 ∙ has)) landed.2)
+none_elsewhere place desk (no_record honest has) starts =
+    none-some (starts.landed honest).0 (sym has ∙ (starts.landed honest).1)
+none_elsewhere place desk (unsaved differs) starts = differs starts.released

@@ -1,0 +1,192 @@
+//! The place of a desk: the path of its file, and the files in which desks are kept.
+
+ghost use Rattle.std.specs.Prelude.{◌≡◌, ℕ, List, IfOk, IfErr};
+ghost use Rattle.ill_saved.specs.Desk.{DeskOf};
+ghost use Rattle.ill_saved.specs.ManySides.{DeskContents};
+ghost use Rattle.ill_place.specs.BadPlaces.{IsElsewhere};
+ghost use Rattle.ill_place.specs.Place.{BeginsAt, IsAt, OpensAt, StartsAt, place_of};
+ghost use Rattle.ill_record.specs.declared.role.Role.{Role};
+ghost use Rattle.ill_text.specs.Fault.{IsOpenFault};
+
+use ill_saved::{Desk, DeskFault, FileLock, FileStore, LockFiles, RECORD_LIMIT, Role, Store};
+use ill_text::fault::ToolFault;
+use ill_values::OutOfMemory;
+use std::alloc::Global;
+
+/// The files in which desks are kept. Nothing is known of them but this. So a command over any files of desks can show the
+/// desk of one path alone: the one that it has opened there.
+pub trait DeskFiles {
+    /// The store of the record in a file.
+    type DeskStore: Store + Drop;
+
+    /// The lock of a file. While it is held, no other command has the desk.
+    type DeskLock: Drop;
+
+    /// Returns the store in the file at `path`, which need not exist.
+    fn store(&self, alloc: Global, path: &str) -> Result<Self::DeskStore, OutOfMemory>
+        ensures { IfOk result (IsAt (place_of Self.DeskStore.state path.now)) };
+
+    /// Takes the lock of the file at `path`.
+    fn lock(&self, alloc: Global, path: &str) -> Result<Self::DeskLock, ToolFault>
+        ensures { IfErr result IsOpenFault };
+}
+
+/// The files of the host.
+#[derive(Drop)]
+pub struct HostFiles<'a, T> {
+    rt: &'a T,
+}
+
+impl<'a, T> HostFiles<'a, T> {
+    /// Returns the files of the host.
+    pub fn of(rt: &'a T) -> HostFiles<'a, T> {
+        HostFiles { rt }
+    }
+}
+
+impl<'a, T: LockFiles> DeskFiles for HostFiles<'a, T> {
+    type DeskStore = FileStore<'a, T>;
+
+    type DeskLock = FileLock<'a, T>;
+
+    fn store(&self, alloc: Global, path: &str) -> Result<FileStore<'a, T>, OutOfMemory> {
+        FileStore::at(self.rt, alloc, path, RECORD_LIMIT)
+    }
+
+    fn lock(&self, alloc: Global, path: &str) -> Result<FileLock<'a, T>, ToolFault> {
+        match FileLock::take(self.rt, alloc, path) {
+            Ok(lock) => Ok(lock),
+            Err(fault) => Err(DeskFault::from(fault).into()),
+        }
+    }
+}
+
+/// The place of a desk: the files in which it is kept, and its path there.
+#[derive(Drop)]
+pub struct DeskPlace<'a, D> {
+    /// The files.
+    pub files: D,
+    /// The path of the desk's file.
+    pub path: &'a str,
+}
+
+/// A desk at its place, and the lock of its file. Its end lets the desk go first, and then the lock.
+pub struct LockedAt<D: DeskFiles> {
+    /// The desk.
+    pub desk: Desk<D::DeskStore>,
+    /// The lock, which is let go last.
+    lock: D::DeskLock,
+}
+
+impl<D: DeskFiles> Drop for LockedAt<D> {
+    /// Lets the desk go, and then the lock.
+    fn drop(self) {
+        let LockedAt { desk, lock } = self;
+        drop(desk);
+        drop(lock);
+    }
+}
+
+impl<D: DeskFiles> DeskPlace<'_, D> {
+    /// Returns the store of the desk's record, which need not exist.
+    pub fn store(&self, alloc: Global) -> Result<D::DeskStore, OutOfMemory>
+        ensures { IfOk result (IsAt (place_of D.DeskStore.state self.now.path.now)) }
+    {
+        self.files.store(alloc, self.path)
+    }
+
+    /// Takes the lock of the desk's file.
+    pub fn lock(&self, alloc: Global) -> Result<D::DeskLock, ToolFault>
+        ensures { IfErr result IsOpenFault }
+    {
+        self.files.lock(alloc, self.path)
+    }
+
+    /// Loads the desk.
+    pub fn open(&self, alloc: Global) -> Result<Desk<D::DeskStore>, ToolFault>
+        ensures starts { IfOk result (StartsAt (place_of D.DeskStore.state self.now.path.now)) }
+        ensures faults { IfErr result IsOpenFault }
+    {
+        start(alloc, self.store(alloc)?)
+    }
+
+    /// Loads the desk under the lock of its file.
+    pub fn open_locked(&self, alloc: Global) -> Result<LockedAt<D>, ToolFault>
+        ensures starts { IfOk result (λ locked. StartsAt (place_of D.DeskStore.state self.now.path.now) locked.desk) }
+        ensures faults { IfErr result IsOpenFault }
+    {
+        let lock = self.lock(alloc)?;
+        let desk = self.open(alloc)?;
+        Ok(LockedAt { desk, lock })
+    }
+
+    /// Loads the desk under `lock`, the lock of its file. If it has no record and `role` is one, it begins a desk of that
+    /// role. Nothing of that desk is saved yet.
+    pub fn open_or_begin(
+        &self,
+        alloc: Global,
+        lock: D::DeskLock,
+        role: Option<Role>,
+    ) -> Result<LockedAt<D>, ToolFault>
+        ensures opens { IfOk result (λ locked. OpensAt (place_of D.DeskStore.state self.now.path.now) locked.desk) }
+        ensures faults { IfErr result IsOpenFault }
+    {
+        let desk = start_or_begin(alloc, self.store(alloc)?, role)?;
+        Ok(LockedAt { desk, lock })
+    }
+}
+
+/// Loads the desk whose record `store` has.
+#[tactic(auto, using(crate::proofs::PlaceLemmas::started))]
+fn start<S: Store + Drop>(alloc: Global, store: S) -> Result<Desk<S>, ToolFault>
+    ensures starts { (path : List ℕ) → IsAt (place_of S.state path) store
+        → IfOk result (StartsAt (place_of S.state path)) }
+    ensures faults { IfErr result IsOpenFault }
+{
+    match Desk::start(alloc, store) {
+        Ok(desk) => Ok(desk),
+        Err((fault, _)) => Err(fault.into()),
+    }
+}
+
+/// Loads the desk whose record `store` has. If it has none and `role` is one, it begins a desk of that role.
+#[tactic(auto, using(crate::proofs::PlaceLemmas::started))]
+fn start_or_begin<S: Store + Drop>(
+    alloc: Global,
+    store: S,
+    role: Option<Role>,
+) -> Result<Desk<S>, ToolFault>
+    ensures opens { (path : List ℕ) → IsAt (place_of S.state path) store
+        → IfOk result (OpensAt (place_of S.state path)) }
+    ensures faults { IfErr result IsOpenFault }
+{
+    match Desk::start(alloc, store) {
+        Ok(desk) => Ok(desk),
+        Err((DeskFault::NoRecord, store)) => begin(alloc, store, role),
+        Err((fault, _)) => Err(fault.into()),
+    }
+}
+
+/// Begins a desk of `role` over `store`, which has no record. Without a role there is no desk.
+#[tactic(auto, using(crate::proofs::PlaceLemmas::begun))]
+fn begin<S: Store + Drop>(alloc: Global, store: S, role: Option<Role>) -> Result<Desk<S>, ToolFault>
+    ensures begins { (path : List ℕ) → IsAt (place_of S.state path) store
+        → IfOk result (λ desk. (role : Role) × BeginsAt (place_of S.state path) role desk) }
+    ensures faults { IfErr result IsOpenFault }
+{
+    let Some(role) = role else {
+        return Err(ToolFault::Desk(DeskFault::NoRecord));
+    };
+    match Desk::create(alloc, store, role) {
+        Ok(desk) => Ok(desk),
+        Err((fault, _)) => Err(fault.into()),
+    }
+}
+
+/// A desk of another path or with other sides than its record was not loaded from a place, nor was one that has a message
+/// which may not be sent.
+#[tactic(auto, using(crate::proofs::PlaceLemmas::none_elsewhere))]
+pub fn no_other_desk_starts_at_a_place<S: Store>()
+    ensures { (path : List ℕ) (desk : DeskOf DeskContents S) →
+        IsElsewhere (place_of S.state path) desk → StartsAt (place_of S.state path) desk → ⊥ }
+{}

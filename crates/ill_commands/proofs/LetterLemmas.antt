@@ -1,9 +1,15 @@
 -- Proves how the messages of a sealed letter are taken.
-use Rattle.std.proofs.Common.{◌≡◌, ℕ, Bool, List, Option, Some, Result, Ok, Err, refl, subst}
+use Rattle.std.proofs.Common.{◌≡◌, ℕ, Bool, List, Option, Some, Result, Ok, Err, inr, refl, subst}
+use Rattle.ill_saved.specs.Desk.{DeskOf}
+use Rattle.ill_saved.specs.ManySides.{DeskContents}
 use Rattle.ill_seal.specs.declared.sender.Sender.{Sender}
 use Rattle.ill_text.specs.declared.fault.ToolFault.{ToolFault}
+use Rattle.ill_place.specs.Place.{PlaceOf, StartsAt}
 use Rattle.ill_key.specs.Letter.{LeavesSealed, OpensLetter}
-use Rattle.ill_commands.specs.Letters.{OpensOrStays, TakesLetter}
+use Rattle.ill_desk.specs.Performing.{view_of}
+use Rattle.ill_desk.specs.declared.take.TakeForm.{TakeForm}
+use Rattle.ill_commands.specs.AtFile.{TakesAtFile, TakesHere}
+use Rattle.ill_commands.specs.Letters.{OpensOrStays, TakesLetter, TakesOpened}
 use Rattle.ill_commands.specs.Streams.{Streams}
 
 -- A command: the streams before it, its result, and the streams after it.
@@ -47,3 +53,16 @@ pub stays : (key : List ℕ) (sender named : Sender) (IsUnchanged : Type 0) (lef
     → OpensOrStays key sender IsUnchanged left rest
 stays key sender named IsUnchanged left rest fault is leaves unchanged =
     (Err fault, subst (λ (sender : Sender). LeavesSealed key sender left rest fault) is leaves, unchanged)
+
+-- The messages of a letter that are taken at a desk of a place are taken at the place.
+pub taken_at : {S : Type 0} (place : PlaceOf S) (form : TakeForm) (before after : DeskOf DeskContents S) (key : List ℕ)
+    (sender : Sender) (old : Streams) (result : Result Bool ToolFault) (new : Streams)
+    → StartsAt place before
+    → TakesLetter key sender (TakesHere form (view_of place.state before) (view_of place.state after)) old result new
+    → TakesLetter key sender (TakesAtFile place form) old result new
+taken_at place form before after key sender old result new starts taken = (taken.0, taken.1, go taken.0 taken.2) where
+  go : (opened : Result (List ℕ) ToolFault)
+      → TakesOpened (TakesHere form (view_of place.state before) (view_of place.state after)) opened old result new
+      → TakesOpened (TakesAtFile place form) opened old result new
+  go (Ok text) took = (took.0, inr (before, after, starts, took.1))
+  go (Err fault) is = is

@@ -1,16 +1,16 @@
 -- The commands `take` and `send` with a key: the messages come and go in sealed letters.
 use Rattle.std.specs.Prelude.{◌≡◌, ◌⊎◌, ℕ, Bool, List, Option, None, Some, Result, Ok, Err, IfErr, IsErrAnd}
-use Rattle.ill_values.specs.TxnId.{Qualifiers}
-use Rattle.ill_saved.specs.Holdings.{DeskEntry}
-use Rattle.ill_saved.specs.ManySides.{found_by, txn_held}
+use Rattle.ill_saved.specs.Desk.{DeskOf}
+use Rattle.ill_saved.specs.ManySides.{DeskContents, found_by, many_sides, txn_held}
 use Rattle.ill_seal.specs.declared.sender.Sender.{Sender}
 use Rattle.ill_seal.specs.Letter.{sealed}
 use Rattle.ill_key.specs.KeyCommand.{IsKeyFault}
-use Rattle.ill_key.specs.Letter.{LeavesSealed, OpensLetter}
+use Rattle.ill_key.specs.Letter.{LeavesSealed, OpensLetter, own_sender}
 use Rattle.ill_text.specs.declared.fault.ToolFault.{ToolFault}
 use Rattle.ill_files.specs.Opening.{GoesWell}
+use Rattle.ill_place.specs.Place.{PlaceOf, StartsAt}
 use Rattle.ill_desk.specs.Send.{RunsSendAs}
-use Rattle.ill_commands.specs.AtFile.{SendsAtFile}
+use Rattle.ill_commands.specs.AtFile.{MessageOf, SendsAtFile}
 use Rattle.ill_commands.specs.Streams.{Streams}
 
 -- All of the input was opened as a letter of `sender`, and had these messages. Or it was not opened, for this fault.
@@ -46,12 +46,15 @@ TakesSealed Takes old result new =
     (IsErrAnd result IsKeyFault × (new.written ≡ old.written) × (new.unread ≡ old.unread))
     ⊎ ((key : List ℕ) × (sender : Sender) × TakesLetter key sender Takes old result new)
 
--- The letter with the message `number` of `txn` at a desk was written. Or the key or the desk could not be used.
-abbrev pub SendsLetterAtFile : Qualifiers → ℕ → (before after : Option (List ℕ)) → Result Bool ToolFault → Type 0
-SendsLetterAtFile txn number before after result =
+-- The letter with a message at the desk of the place was written, sealed for the other library. Or the key or the desk could
+-- not be used.
+abbrev pub SendsLetterAtFile : {S : Type 0} → PlaceOf S → MessageOf → (before after : Option (List ℕ)) →
+    Result Bool ToolFault → Type 0
+SendsLetterAtFile {S} place message before after result =
     (IsErrAnd result IsKeyFault × (after ≡ before))
-    ⊎ ((held : List DeskEntry) × (key : List ℕ) × (sender : Sender)
-    × GoesWell (RunsSendAs (sealed key sender) (found_by txn_held txn held) number before after) result)
+    ⊎ ((desk : DeskOf DeskContents S) × StartsAt place desk × (key : List ℕ)
+    × GoesWell (RunsSendAs (sealed key (own_sender (many_sides.role desk.live)))
+    (found_by txn_held message.txn desk.live.held) message.number before after) result)
 
 -- The command `take`, with a key or without one. `Takes` is what it does without one.
 abbrev pub TakesWith : (key : Option (List ℕ)) → (Takes : Streams → Result Bool ToolFault → Streams → Type 0) → Streams →
@@ -60,7 +63,7 @@ TakesWith None Takes old result new = Takes old result new
 TakesWith (Some key) Takes old result new = TakesSealed Takes old result new
 
 -- The command `send`, with a key or without one.
-abbrev pub SendsWith : (key : Option (List ℕ)) → Qualifiers → ℕ → (before after : Option (List ℕ)) → Result Bool ToolFault →
-    Type 0
-SendsWith None txn number before after result = SendsAtFile txn number before after result
-SendsWith (Some key) txn number before after result = SendsLetterAtFile txn number before after result
+abbrev pub SendsWith : {S : Type 0} → PlaceOf S → (key : Option (List ℕ)) → MessageOf → (before after : Option (List ℕ)) →
+    Result Bool ToolFault → Type 0
+SendsWith place None message before after result = SendsAtFile place message before after result
+SendsWith place (Some key) message before after result = SendsLetterAtFile place message before after result

@@ -4,12 +4,15 @@ use Rattle.ill_values.specs.TxnId.{Qualifiers}
 use Rattle.ill_record.specs.declared.side.Side.{Side}
 use Rattle.ill_saved.specs.declared.fault.DeskFault.TheVariants.{NoSuchTransaction}
 use Rattle.ill_record.specs.Sides.{side_with}
+use Rattle.ill_saved.specs.Desk.{DeskOf}
+use Rattle.ill_saved.specs.ManySides.{DeskContents, sides_held}
 use Rattle.ill_text.specs.declared.fault.ToolFault.{ToolFault}
 use Rattle.ill_text.specs.declared.fault.ToolFault.TheVariants.{Desk}
 use Rattle.ill_text.specs.Output.{WritesText}
 use Rattle.ill_beside.specs.Notes.{kept_line, note_text}
 use Rattle.ill_desk.specs.Take.{KeepsPrefix}
 use Rattle.ill_files.specs.Opening.{FailsToOpen, GoesWell}
+use Rattle.ill_place.specs.Place.{PlaceOf, StartsAt}
 use Rattle.ill_commands.specs.declared.note.NoteView.{NoteView}
 
 -- Returns the text of a note.
@@ -39,8 +42,10 @@ abbrev pub KeepsNote : Option Side → (line : List ℕ) → Option (List ℕ) �
 KeepsNote None line before after result = (result ≡ Err (Desk NoSuchTransaction)) × (after ≡ before)
 KeepsNote (Some side) line before after result = KeepsAtFile line before after result
 
--- A note on the loan `txn` was kept, if the desk has that loan. Or the file of the desk could not be opened.
-abbrev pub NotesAtFile : Qualifiers → (words : List ℕ) → Option (List ℕ) → Option (List ℕ) → Result Bool ToolFault → Type 0
-NotesAtFile txn words before after result =
+-- A note on the loan `txn` was kept, if the desk of the place has that loan. Or the file of the desk could not be opened.
+abbrev pub NotesAtFile : {S : Type 0} → PlaceOf S → Qualifiers → (words : List ℕ) → Option (List ℕ) → Option (List ℕ) →
+    Result Bool ToolFault → Type 0
+NotesAtFile {S} place txn words before after result =
     FailsToOpen before after result
-    ⊎ ((sides : List Side) × GoesWell (KeepsNote (side_with txn sides) (kept_line txn words) before after) result)
+    ⊎ ((desk : DeskOf DeskContents S) × StartsAt place desk
+    × GoesWell (KeepsNote (side_with txn (sides_held desk.live).sides) (kept_line txn words) before after) result)

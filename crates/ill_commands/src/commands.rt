@@ -1,13 +1,16 @@
-//! The commands that keep a desk in a file. Their arguments are values that were read before, except the words of an
-//! action. A command that may change the file holds its lock from before the load to its end.
+//! The commands on the desk at a place. Their arguments are values that were read before, except the words of an action. A
+//! command that may change the desk's file holds its lock from before the load to its end.
 
 ghost use Rattle.std.specs.Prelude.{◌≡◌, option_copied};
 ghost use Rattle.ill_show.specs.ItemLine.{item_of};
-ghost use Rattle.ill_commands.specs.AtFile.{ActsAtFile, LoanAtFile, NewAtFile, SendsAtFile, ShowsFile, SlipAtFile, TakesAtFile, TellsItem, VerifiesFile};
+ghost use Rattle.ill_commands.specs.AtFile.{ActsAtFile, ActsOn, LoanAtFile, NewAtFile, SendsAtFile, ShowsFile, SlipAtFile, TakesAtFile, TakesHere, TellsItem, VerifiesFile, message_of};
 ghost use Rattle.ill_commands.specs.Streams.{streams_of};
 ghost use Rattle.ill_desk.specs.ActAs.{RunsActAs, asking_of};
 ghost use Rattle.ill_desk.specs.Performing.{command_state, view_of};
 ghost use Rattle.ill_files.specs.Opening.{after_writing, all_well};
+ghost use Rattle.ill_place.specs.Place.{place_of};
+ghost use Rattle.ill_saved.specs.Desk.{DeskOf};
+ghost use Rattle.ill_saved.specs.ManySides.{DeskContents};
 
 use crate::late_diary::late_entry;
 use ill_annex::{read_diary, read_notes};
@@ -18,8 +21,9 @@ use ill_desk::take::{TakeForm, run_desk_take_as};
 use ill_files::came::{came_bytes, open_came};
 use ill_files::diary::{open_came_diary, warn_of_diary};
 use ill_files::machine::Machine;
-use ill_files::open::{after_writing, all_well, end, lock, open, open_locked};
-use ill_saved::{Desk, FileStore, LockFiles, LockedDesk, RECORD_LIMIT, Role, Side, Store};
+use ill_files::open::{after_writing, all_well, end};
+use ill_place::place::{DeskFiles, DeskPlace, LockedAt};
+use ill_saved::{Desk, Role, Side, Store};
 use ill_show::item_line::write_item;
 use ill_show::loan::{Beside, LoanView, run_desk_loan};
 use ill_show::numbers::push_told;
@@ -35,44 +39,48 @@ use std::io::{Read, Write, sink};
 use std::rt::Files;
 
 /// `ill new`: begins a desk.
-pub fn new<T: LockFiles, W: Write, E: Write>(
+pub fn new<T, D: DeskFiles, W: Write, E: Write>(
     machine: &mut Machine<'_, T, W, E>,
-    file: &str,
+    place: &DeskPlace<'_, D>,
     role: Role,
 ) -> Result<bool, ToolFault>
-    ensures { NewAtFile (W.contents machine.old.writer) (W.contents machine.new.writer) result }
+    ensures { NewAtFile (place_of D.DeskStore.state place.now.path.now) role (W.contents machine.old.writer)
+        (W.contents machine.new.writer) result }
 {
-    let lock = lock(machine.rt, machine.alloc, file)?;
-    let store = FileStore::at(machine.rt, machine.alloc, file, RECORD_LIMIT)?;
+    let lock = place.lock(machine.alloc)?;
+    let store = place.store(machine.alloc)?;
     let begun = run_desk_new(machine.alloc, store, role, &mut machine.writer);
     drop(lock);
     end(begun)
 }
 
 /// `ill act`: performs the action of `view`, or tries it. If `is_long` is set, the item of the loan is written too.
-pub fn act<T: LockFiles, W: Write, E: Write>(
+pub fn act<T: Files, D: DeskFiles, W: Write, E: Write>(
     machine: &mut Machine<'_, T, W, E>,
-    file: &str,
+    place: &DeskPlace<'_, D>,
     view: &ActionView<'_>,
     is_long: bool,
 ) -> Result<bool, ToolFault>
-    ensures { ActsAtFile (asking_of view.now) is_long (W.contents machine.old.writer) (W.contents machine.new.writer) result }
+    ensures { ActsAtFile (place_of D.DeskStore.state place.now.path.now) (asking_of view.now) is_long
+        (W.contents machine.old.writer) (W.contents machine.new.writer) result }
 {
-    let locked = open_locked(machine.rt, machine.alloc, file)?;
-    act_at(machine, file, locked, view, is_long)
+    let locked = place.open_locked(machine.alloc)?;
+    act_at(machine, place.path, locked, view, is_long)
 }
 
 /// Performs or tries the action of `view` at `locked`, the desk in `file`, and then lets the desk and its lock go. If its day is
 /// given, it is entered in the diary beside `file`, which is made if it does not exist. An action that is refused makes
 /// none. Writes a line to the errors if the loan has few numbers left.
-pub fn act_at<T: LockFiles, W: Write, E: Write>(
+pub fn act_at<T: Files, D: DeskFiles, W: Write, E: Write>(
     machine: &mut Machine<'_, T, W, E>,
     file: &str,
-    mut locked: LockedDesk<'_, T>,
+    mut locked: LockedAt<D>,
     view: &ActionView<'_>,
     is_long: bool,
 ) -> Result<bool, ToolFault>
-    ensures { ActsAtFile (asking_of view.now) is_long (W.contents machine.old.writer) (W.contents machine.new.writer) result }
+    ensures { (desk : DeskOf DeskContents D.DeskStore) × ActsOn (asking_of view.now) is_long
+        (command_state (view_of D.DeskStore.state locked.desk) (W.contents machine.old.writer)) result
+        (command_state (view_of D.DeskStore.state desk) (W.contents machine.new.writer)) }
 {
     let acted = act_and_enter(machine, file, &mut locked.desk, view);
     let told = tell_item(
@@ -158,17 +166,18 @@ pub struct TakeView<'a, 'b> {
 }
 
 /// `ill take`: takes the APDUs of the input. It holds the lock of the file until the input ends.
-pub fn take<T: LockFiles, R: Read, W: Write, E: Write>(
+pub fn take<T: Files, D: DeskFiles, R: Read, W: Write, E: Write>(
     machine: &mut Machine<'_, T, W, E>,
-    file: &str,
+    place: &DeskPlace<'_, D>,
     view: &TakeView<'_, '_>,
     reader: &mut R,
 ) -> Result<bool, ToolFault>
-    ensures { TakesAtFile view.now.form (streams_of (R.remaining reader.old) (W.contents machine.old.writer)) result
+    ensures { TakesAtFile (place_of D.DeskStore.state place.now.path.now) view.now.form
+        (streams_of (R.remaining reader.old) (W.contents machine.old.writer)) result
         (streams_of (R.remaining reader.new) (W.contents machine.new.writer)) }
 {
-    let mut locked = open_locked(machine.rt, machine.alloc, file)?;
-    let taken = take_at(machine, file, &mut locked.desk, view, reader);
+    let mut locked = place.open_locked(machine.alloc)?;
+    let taken = take_at(machine, place.path, &mut locked.desk, view, reader);
     drop(locked);
     taken
 }
@@ -182,7 +191,8 @@ pub(crate) fn take_at<T: Files, S: Store, R: Read, W: Write, E: Write>(
     view: &TakeView<'_, '_>,
     reader: &mut R,
 ) -> Result<bool, ToolFault>
-    ensures { TakesAtFile view.now.form (streams_of (R.remaining reader.old) (W.contents machine.old.writer)) result
+    ensures { TakesHere view.now.form (view_of S.state desk.old) (view_of S.state desk.new)
+        (streams_of (R.remaining reader.old) (W.contents machine.old.writer)) result
         (streams_of (R.remaining reader.new) (W.contents machine.new.writer)) }
 {
     if !view.form.is_kept {
@@ -215,46 +225,49 @@ pub(crate) fn take_at<T: Files, S: Store, R: Read, W: Write, E: Write>(
 }
 
 /// `ill send`: writes the bytes of a message of a transaction.
-pub fn send<T: Files, W: Write, E: Write>(
+pub fn send<T, D: DeskFiles, W: Write, E: Write>(
     machine: &mut Machine<'_, T, W, E>,
-    file: &str,
+    place: &DeskPlace<'_, D>,
     txn: &TxnId,
     number: Number,
 ) -> Result<bool, ToolFault>
-    ensures { SendsAtFile txn.now number (W.contents machine.old.writer) (W.contents machine.new.writer) result }
+    ensures { SendsAtFile (place_of D.DeskStore.state place.now.path.now) (message_of txn.now number)
+        (W.contents machine.old.writer) (W.contents machine.new.writer) result }
 {
-    let desk = open(machine.rt, machine.alloc, file)?;
+    let desk = place.open(machine.alloc)?;
     let sent = run_desk_send(machine.alloc, &desk, txn, number, &mut machine.writer);
     drop(desk);
     all_well(sent)
 }
 
 /// Performs `ill status`: shows the state of each loan.
-pub fn status<T: Files, W: Write, E: Write>(
+pub fn status<T, D: DeskFiles, W: Write, E: Write>(
     machine: &mut Machine<'_, T, W, E>,
-    file: &str,
+    place: &DeskPlace<'_, D>,
     form: Form,
 ) -> Result<bool, ToolFault>
-    ensures { ShowsFile form (W.contents machine.old.writer) (W.contents machine.new.writer) result }
+    ensures { ShowsFile (place_of D.DeskStore.state place.now.path.now) form
+        (W.contents machine.old.writer) (W.contents machine.new.writer) result }
 {
-    let desk = open(machine.rt, machine.alloc, file)?;
+    let desk = place.open(machine.alloc)?;
     let shown = run_desk_status_as(machine.alloc, &desk, form, &mut machine.writer);
     drop(desk);
     all_well(shown)
 }
 
 /// `ill loan`: shows all that is known of a transaction.
-pub fn loan<T: Files, W: Write, E: Write>(
+pub fn loan<T: Files, D: DeskFiles, W: Write, E: Write>(
     machine: &mut Machine<'_, T, W, E>,
-    file: &str,
+    place: &DeskPlace<'_, D>,
     view: &LoanView<'_>,
 ) -> Result<bool, ToolFault>
-    ensures { LoanAtFile view.now.form view.now.txn.now (W.contents machine.old.writer) (W.contents machine.new.writer) result }
+    ensures { LoanAtFile (place_of D.DeskStore.state place.now.path.now) view.now.form view.now.txn.now
+        (W.contents machine.old.writer) (W.contents machine.new.writer) result }
 {
-    let diary = read_diary(machine.rt, machine.alloc, file, &mut machine.errors)?;
-    let notes = read_notes(machine.rt, machine.alloc, file)?;
-    let desk = open(machine.rt, machine.alloc, file)?;
-    let came = came_bytes(machine.rt, machine.alloc, file)?;
+    let diary = read_diary(machine.rt, machine.alloc, place.path, &mut machine.errors)?;
+    let notes = read_notes(machine.rt, machine.alloc, place.path)?;
+    let desk = place.open(machine.alloc)?;
+    let came = came_bytes(machine.rt, machine.alloc, place.path)?;
     let beside = Beside {
         notes: &notes,
         diary: &diary,
@@ -266,28 +279,30 @@ pub fn loan<T: Files, W: Write, E: Write>(
 }
 
 /// `ill slip`: writes a slip of a transaction.
-pub fn slip<T: Files, W: Write, E: Write>(
+pub fn slip<T, D: DeskFiles, W: Write, E: Write>(
     machine: &mut Machine<'_, T, W, E>,
-    file: &str,
+    place: &DeskPlace<'_, D>,
     txn: &TxnId,
 ) -> Result<bool, ToolFault>
-    ensures { SlipAtFile txn.now (W.contents machine.old.writer) (W.contents machine.new.writer) result }
+    ensures { SlipAtFile (place_of D.DeskStore.state place.now.path.now) txn.now
+        (W.contents machine.old.writer) (W.contents machine.new.writer) result }
 {
-    let desk = open(machine.rt, machine.alloc, file)?;
+    let desk = place.open(machine.alloc)?;
     let written = run_desk_slip(machine.alloc, &desk, txn, &mut machine.writer);
     drop(desk);
     all_well(written)
 }
 
 /// `ill verify`: checks the record in a file.
-pub fn verify<T: Files, W: Write, E: Write>(
+pub fn verify<T, D: DeskFiles, W: Write, E: Write>(
     machine: &mut Machine<'_, T, W, E>,
-    file: &str,
+    place: &DeskPlace<'_, D>,
     form: Form,
 ) -> Result<bool, ToolFault>
-    ensures { VerifiesFile form (W.contents machine.old.writer) (W.contents machine.new.writer) result }
+    ensures { VerifiesFile (place_of D.DeskStore.state place.now.path.now) form
+        (W.contents machine.old.writer) (W.contents machine.new.writer) result }
 {
-    let mut store = FileStore::at(machine.rt, machine.alloc, file, RECORD_LIMIT)?;
+    let mut store = place.store(machine.alloc)?;
     let verified = run_desk_verify(machine.alloc, &mut store, form, &mut machine.writer);
     drop(store);
     all_well(verified)

@@ -1,4 +1,4 @@
-//! The commands `take` and `send` with a key, at a desk in a file: the messages come and go in sealed letters.
+//! The commands `take` and `send` with a key, at the desk of a place: the messages come and go in sealed letters.
 
 ghost use Rattle.std.specs.Prelude.{◌≡◌, option_map};
 ghost use Rattle.ill_saved.specs.ManySides.{found_by, many_sides, txn_held};
@@ -6,18 +6,20 @@ ghost use Rattle.ill_seal.specs.Letter.{sealed};
 ghost use Rattle.ill_key.specs.Letter.{other_sender, own_sender};
 ghost use Rattle.ill_desk.specs.Performing.{view_of};
 ghost use Rattle.ill_desk.specs.Send.{RunsSendAs};
-ghost use Rattle.ill_commands.specs.AtFile.{TakesAtFile};
+ghost use Rattle.ill_commands.specs.AtFile.{TakesAtFile, TakesHere, message_of};
 ghost use Rattle.ill_commands.specs.Letters.{OpensOrStays, SendsLetterAtFile, SendsWith, TakesLetter, TakesSealed, TakesWith};
+ghost use Rattle.ill_place.specs.Place.{place_of};
 ghost use Rattle.ill_commands.specs.Streams.{streams_of};
 
 use crate::commands::{TakeView, send, take, take_at};
 use ill_files::machine::Machine;
-use ill_files::open::{all_well, open, open_locked};
+use ill_files::open::all_well;
 use ill_key::Key;
 use ill_key::key_file::read_key;
 use ill_key::letter::{open_letter, write_letter};
 use ill_key::role::{other_sender, own_sender};
-use ill_saved::{Desk, LockFiles, Store};
+use ill_place::place::{DeskFiles, DeskPlace};
+use ill_saved::{Desk, Store};
 use ill_text::fault::ToolFault;
 use ill_values::{Number, TxnId};
 use std::io::{Read, Write};
@@ -31,60 +33,61 @@ struct LetterForm<'a, 'b, 'c> {
 }
 
 /// `ill take`: takes the messages of the input, or those of the letter on it if there is a file of a key.
-pub fn take_with<T: LockFiles, R: Read, W: Write, E: Write>(
+pub fn take_with<T: Files, D: DeskFiles, R: Read, W: Write, E: Write>(
     machine: &mut Machine<'_, T, W, E>,
-    file: &str,
+    place: &DeskPlace<'_, D>,
     key_file: Option<&str>,
     view: &TakeView<'_, '_>,
     reader: &mut R,
 ) -> Result<bool, ToolFault>
-    ensures { TakesWith (option_map (λ file. file.now) key_file.entry) (TakesAtFile view.now.form)
+    ensures { TakesWith (option_map (λ file. file.now) key_file.entry)
+        (TakesAtFile (place_of D.DeskStore.state place.now.path.now) view.now.form)
         (streams_of (R.remaining reader.old) (W.contents machine.old.writer)) result
         (streams_of (R.remaining reader.new) (W.contents machine.new.writer)) }
 {
     match key_file {
-        Some(key_file) => take_letter(machine, file, key_file, view, reader),
-        None => take(machine, file, view, reader),
+        Some(key_file) => take_letter(machine, place, key_file, view, reader),
+        None => take(machine, place, view, reader),
     }
 }
 
 /// `ill send`: writes the bytes of one message, or its letter if there is a file of a key.
-pub fn send_with<T: Files, W: Write, E: Write>(
+pub fn send_with<T: Files, D: DeskFiles, W: Write, E: Write>(
     machine: &mut Machine<'_, T, W, E>,
-    file: &str,
+    place: &DeskPlace<'_, D>,
     key_file: Option<&str>,
     txn: &TxnId,
     number: Number,
 ) -> Result<bool, ToolFault>
-    ensures { SendsWith (option_map (λ file. file.now) key_file.entry) txn.now number (W.contents machine.old.writer)
-        (W.contents machine.new.writer) result }
+    ensures { SendsWith (place_of D.DeskStore.state place.now.path.now) (option_map (λ file. file.now) key_file.entry)
+        (message_of txn.now number) (W.contents machine.old.writer) (W.contents machine.new.writer) result }
 {
     match key_file {
-        Some(key_file) => send_letter(machine, file, key_file, txn, number),
-        None => send(machine, file, txn, number),
+        Some(key_file) => send_letter(machine, place, key_file, txn, number),
+        None => send(machine, place, txn, number),
     }
 }
 
 /// `ill take --key`: opens the letter on the input with the key in `key_file`, and takes its messages in their order. All
 /// of the input must be one letter of the other library (else `NotSealed`). Then nothing changes.
-fn take_letter<T: LockFiles, R: Read, W: Write, E: Write>(
+fn take_letter<T: Files, D: DeskFiles, R: Read, W: Write, E: Write>(
     machine: &mut Machine<'_, T, W, E>,
-    file: &str,
+    place: &DeskPlace<'_, D>,
     key_file: &str,
     view: &TakeView<'_, '_>,
     reader: &mut R,
 ) -> Result<bool, ToolFault>
-    ensures { TakesSealed (TakesAtFile view.now.form)
+    ensures { TakesSealed (TakesAtFile (place_of D.DeskStore.state place.now.path.now) view.now.form)
         (streams_of (R.remaining reader.old) (W.contents machine.old.writer)) result
         (streams_of (R.remaining reader.new) (W.contents machine.new.writer)) }
 {
     let key = read_key(machine.rt, key_file)?;
-    let mut locked = open_locked(machine.rt, machine.alloc, file)?;
+    let mut locked = place.open_locked(machine.alloc)?;
     let letter = LetterForm {
         key: &key,
         view: *view,
     };
-    let taken = take_letter_at(machine, file, &mut locked.desk, &letter, reader);
+    let taken = take_letter_at(machine, place.path, &mut locked.desk, &letter, reader);
     drop(locked);
     taken
 }
@@ -99,7 +102,8 @@ fn take_letter_at<T: Files, S: Store, R: Read, W: Write, E: Write>(
     reader: &mut R,
 ) -> Result<bool, ToolFault>
     ensures taken { TakesLetter letter.now.key.now (other_sender (many_sides.role desk.old.live))
-        (TakesAtFile letter.now.view.form) (streams_of (R.remaining reader.old) (W.contents machine.old.writer)) result
+        (TakesHere letter.now.view.form (view_of S.state desk.old) (view_of S.state desk.new))
+        (streams_of (R.remaining reader.old) (W.contents machine.old.writer)) result
         (streams_of (R.remaining reader.new) (W.contents machine.new.writer)) }
     ensures unchanged { OpensOrStays letter.now.key.now (other_sender (many_sides.role desk.old.live))
         (view_of S.state desk.new ≡ view_of S.state desk.old) (R.remaining reader.old) (R.remaining reader.new) }
@@ -112,17 +116,18 @@ fn take_letter_at<T: Files, S: Store, R: Read, W: Write, E: Write>(
 }
 
 /// `ill send --key`: writes the letter that has one message of a transaction, sealed with the key in `key_file`.
-fn send_letter<T: Files, W: Write, E: Write>(
+fn send_letter<T: Files, D: DeskFiles, W: Write, E: Write>(
     machine: &mut Machine<'_, T, W, E>,
-    file: &str,
+    place: &DeskPlace<'_, D>,
     key_file: &str,
     txn: &TxnId,
     number: Number,
 ) -> Result<bool, ToolFault>
-    ensures { SendsLetterAtFile txn.now number (W.contents machine.old.writer) (W.contents machine.new.writer) result }
+    ensures { SendsLetterAtFile (place_of D.DeskStore.state place.now.path.now) (message_of txn.now number)
+        (W.contents machine.old.writer) (W.contents machine.new.writer) result }
 {
     let key = read_key(machine.rt, key_file)?;
-    let desk = open(machine.rt, machine.alloc, file)?;
+    let desk = place.open(machine.alloc)?;
     let sent = send_letter_of(machine, &desk, &key, txn, number);
     drop(desk);
     all_well(sent)

@@ -1,7 +1,9 @@
-//! The commands on a desk in a file: the desk is locked, opened, and shown or changed.
+//! The commands on the desk at a place: the desk is locked, opened, and shown or changed.
 #![tactic(auto)]
 
+pub mod at_file;
 pub mod commands;
 pub mod late_diary;
+pub mod laws;
 pub mod letters;
 pub mod note;

@@ -1,16 +1,18 @@
-//! The command `note`, at a desk in a file. Nothing that leaves the desk depends on a note.
+//! The command `note`, at the desk of a place. Nothing that leaves the desk depends on a note.
 
 ghost use Rattle.ill_record.specs.Sides.{side_with};
 ghost use Rattle.ill_desk.specs.Take.{KeepsPrefix};
 ghost use Rattle.ill_beside.specs.Notes.{kept_line};
+ghost use Rattle.ill_place.specs.Place.{place_of};
 ghost use Rattle.ill_commands.specs.Note.{KeepsAtFile, KeepsNote, NotesAtFile, RunsNote, text_of};
 
 use ill_beside::notes::{kept_line, note_text};
 use ill_desk::take::keep_bytes;
 use ill_files::machine::Machine;
 use ill_files::notes::open_notes;
-use ill_files::open::{all_well, open_locked};
-use ill_saved::{DeskFault, LockFiles, Sides};
+use ill_files::open::all_well;
+use ill_place::place::{DeskFiles, DeskPlace};
+use ill_saved::{DeskFault, Sides};
 use ill_text::fault::ToolFault;
 use ill_text::output::write_whole;
 use ill_values::TxnId;
@@ -27,18 +29,18 @@ pub struct NoteView<'a> {
     pub words: &'a [&'a str],
 }
 
-/// `ill note`: keeps the note of `view` beside the desk in `file`, which must hold the loan (else `NoSuchTransaction`).
-/// The lock of the file is held until the note is durable.
-pub fn note<T: LockFiles, W: Write, E: Write>(
+/// `ill note`: keeps the note of `view` beside the desk at `place`, which must hold the loan (else `NoSuchTransaction`).
+/// The lock of its file is held until the note is durable.
+pub fn note<T: Files, D: DeskFiles, W: Write, E: Write>(
     machine: &mut Machine<'_, T, W, E>,
-    file: &str,
+    place: &DeskPlace<'_, D>,
     view: &NoteView<'_>,
 ) -> Result<bool, ToolFault>
-    ensures { NotesAtFile view.now.txn.now (text_of view.now) (W.contents machine.old.writer)
-        (W.contents machine.new.writer) result }
+    ensures { NotesAtFile (place_of D.DeskStore.state place.now.path.now) view.now.txn.now (text_of view.now)
+        (W.contents machine.old.writer) (W.contents machine.new.writer) result }
 {
-    let locked = open_locked(machine.rt, machine.alloc, file)?;
-    let kept = keep_if_held(machine, file, locked.desk.sides(), view);
+    let locked = place.open_locked(machine.alloc)?;
+    let kept = keep_if_held(machine, place.path, locked.desk.sides(), view);
     drop(locked);
     all_well(kept)
 }

@@ -1,6 +1,5 @@
 -- Proves what the names of a shelf's desks tell.
-use Rattle.std.proofs.Common.{inl, inr, refl, ℕ, Bool, List, Option, None, Some, Result, Ok, Err, IfErr}
-use Rattle.ill_values.specs.TxnId.{Qualifiers}
+use Rattle.std.proofs.Common.{inl, inr, refl, ℕ, Bool, List, Option, Result, Ok, Err, IfErr}
 use Rattle.ill_record.specs.declared.side.Side.{Side}
 use Rattle.ill_text.specs.declared.fault.ToolFault.{ToolFault}
 use Rattle.ill_text.specs.declared.fault.ToolFault.TheVariants as faults
@@ -8,7 +7,6 @@ use Rattle.ill_text.specs.Fault.{IsOpenFault}
 use Rattle.ill_text.specs.Input.{ReadsInput}
 use Rattle.ill_text.proofs.InputLemmas.{reads_on_views}
 use Rattle.ill_night.specs.Retire.{Retires}
-use Rattle.ill_commands.specs.Letters.{SendsWith}
 use Rattle.ill_key.specs.KeyCommand.{IsKeyFault}
 use Rattle.ill_shelf.specs.Shelf.{OpensShelf, ShelfTaking, TakesAtHome}
 
@@ -21,12 +19,6 @@ taken_home view left rest before after count is =
     reads_on_views (λ s apdu r t. TakesAtHome (view s) apdu r (view t)) TakesAtHome view (λ s t apdu r h. h) left rest before
     after count
     is
-
--- If the desk of a transaction is not found, no message of it is sent, with a key or without one.
-pub unsent : (key : Option (List ℕ)) (txn : Qualifiers) (number : ℕ) (written : Option (List ℕ)) (fault : ToolFault) →
-    IsOpenFault fault → SendsWith key txn number written written (Err fault)
-unsent None txn number written fault opens = inl (opens, refl)
-unsent (Some key) txn number written fault opens = inl (inr opens, refl)
 
 -- Retiring a group fails by its store, or when memory runs out, alone.
 pub retire_faults : (sides : List Side) (old new : Option (Option (List ℕ))) (answer : Result Bool ToolFault) →

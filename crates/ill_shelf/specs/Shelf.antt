@@ -10,9 +10,11 @@ use Rattle.ill_shelf.specs.declared.visit.Visit.{Visit}
 use Rattle.ill_shelf.specs.declared.visit.Visit.TheVariants as visits
 use Rattle.ill_der.specs.Handling.{Handles}
 use Rattle.ill_der.specs.ShortForm.{encoding}
-use Rattle.ill_commands.specs.AtFile.{ShowsFile, TakesAtFile}
+use Rattle.ill_commands.specs.AtFile.{TakesAtFile}
 use Rattle.ill_commands.specs.Streams.{Streams, streams_of}
 use Rattle.ill_files.specs.Opening.{FailsToOpen}
+use Rattle.ill_place.specs.Place.{file_at}
+use Rattle.ill_shelf.specs.Home.{ShowsAnyFile}
 use Rattle.ill_mail.specs.Nights.{ExchangesAtFile, InboxAtFile, OutboxAtFile, asked_night}
 use Rattle.ill_text.specs.Input.{ReadsInput}
 use Rattle.ill_desk.specs.Take.{answer_of}
@@ -53,7 +55,7 @@ is_headed visit = true
 
 -- A visit has the effect of its command at one desk.
 abbrev pub RunsVisit : Visit → Option (List ℕ) → Option (List ℕ) → Result Bool ToolFault → Type 0
-RunsVisit (visits.Status form) = ShowsFile form
+RunsVisit (visits.Status form) = ShowsAnyFile form
 RunsVisit (visits.Inbox folder) = InboxAtFile
 RunsVisit (visits.Outbox outlet) = OutboxAtFile (is_some outlet)
 RunsVisit (visits.Exchange night key) = ExchangesAtFile (asked_night night)
@@ -128,12 +130,12 @@ pub record ShelfTaking : Type 0 where
 -- The APDU `a` was taken as by `take` at one desk, with `a` alone as the input.
 abbrev pub TakesAtHome : Handles ShelfTaking ToolFault
 TakesAtHome old a (Ok done) new =
-    (is_well : Bool) × (rest : Option (List ℕ))
-    × TakesAtFile old.form (streams_of (Some (encoding a)) old.written) (Ok is_well) (streams_of rest new.written)
+    (path : List ℕ) × (is_well : Bool) × (rest : Option (List ℕ))
+    × TakesAtFile (file_at path) old.form (streams_of (Some (encoding a)) old.written) (Ok is_well) (streams_of rest new.written)
     × (new ≡ record old { all_fine = old.all_fine && is_well; written = new.written })
 TakesAtHome old a (Err fault) new =
-    (rest : Option (List ℕ))
-    × TakesAtFile old.form (streams_of (Some (encoding a)) old.written) (Err fault) (streams_of rest new.written)
+    (path : List ℕ) × (rest : Option (List ℕ))
+    × TakesAtFile (file_at path) old.form (streams_of (Some (encoding a)) old.written) (Err fault) (streams_of rest new.written)
 
 -- Returns the state before the first APDU.
 abbrev pub shelf_taking : TakeForm → Option (List ℕ) → ShelfTaking

@@ -1,18 +1,19 @@
 //! The commands on a shelf. In a transaction each does at the desk of its group as the command for one desk does.
 
-ghost use Rattle.std.specs.Prelude.{◌≡◌, true, is_some, option_map, IfErr};
-ghost use Rattle.ill_commands.specs.AtFile.{ActsAtFile, LoanAtFile, NewAtFile, ShowsFile, SlipAtFile};
-ghost use Rattle.ill_commands.specs.Letters.{SendsWith};
-ghost use Rattle.ill_commands.specs.Note.{NotesAtFile, text_of};
+ghost use Rattle.std.specs.Prelude.{◌≡◌, true, is_some, option_map, string_bytes, IfErr, IfOk};
+ghost use Rattle.ill_commands.specs.AtFile.{message_of};
+ghost use Rattle.ill_commands.specs.Note.{text_of};
 ghost use Rattle.ill_desk.specs.ActAs.{asking_of};
+ghost use Rattle.ill_place.specs.Place.{OpensAt, place_of};
 ghost use Rattle.ill_mail.specs.Nights.{ExchangesAtFile, InboxAtFile, OutboxAtFile, asked_night};
+ghost use Rattle.ill_shelf.specs.Home.{ActsAtHome, IsHome, LoanAtHome, NewAtAnyFile, NotesAtHome, SendsAtHome, ShowsAnyFile, SlipAtHome};
 ghost use Rattle.ill_shelf.specs.Shelf.{IsFurther, RetiresAtFile, VisitsShelf, is_lines, retired_line, told_with};
 ghost use Rattle.ill_text.specs.Fault.{IsOpenFault};
 
 use crate::visit::{Visit, visit_all};
-use ill_commands::commands::{act_at, loan, new, slip};
-use ill_commands::letters::send_with;
-use ill_commands::note::{NoteView, note};
+use ill_commands::at_file::{loan, new, note, send_with, slip};
+use ill_commands::commands::act_at;
+use ill_commands::note::NoteView;
 use ill_desk::act_as::ActionView;
 use ill_files::durable::error_of_store;
 use ill_files::home::refuse_lost;
@@ -28,7 +29,8 @@ use ill_mailbox::mail_box::remove_if_there;
 use ill_mailbox::places::{Places, look_at_places};
 use ill_night::night::Night;
 use ill_night::retire::run_desk_retire;
-use ill_saved::{Desk, FileStore, LockFiles, LockedDesk, RECORD_LIMIT, Role, Store};
+use ill_place::place::{DeskFiles, DeskPlace, HostFiles, LockedAt};
+use ill_saved::{Desk, FileStore, LockFiles, RECORD_LIMIT, Role, Store};
 use ill_show::loan::LoanView;
 use ill_sorting::last_words::{load_mark, send_last_words};
 use ill_sorting::sorting::{MailsFrom, sort_mails};
@@ -49,7 +51,7 @@ pub fn new_shelf<T: LockFiles, W: Write, E: Write>(
     folder: &str,
     role: Role,
 ) -> Result<bool, ToolFault>
-    ensures { NewAtFile (W.contents machine.old.writer) (W.contents machine.new.writer) result }
+    ensures { NewAtAnyFile role (W.contents machine.old.writer) (W.contents machine.new.writer) result }
 {
     make_shelf_folder(machine.rt, folder)?;
     let own = own_path(machine.alloc, folder)?;
@@ -78,58 +80,60 @@ pub fn act_on_shelf<T: LockFiles, W: Write, E: Write>(
     is_long: bool,
     is_new_group: bool,
 ) -> Result<bool, ToolFault>
-    ensures { ActsAtFile (asking_of view.now) is_long (W.contents machine.old.writer) (W.contents machine.new.writer) result }
+    ensures { ActsAtHome folder.now (asking_of view.now) is_long (W.contents machine.old.writer)
+        (W.contents machine.new.writer) result }
 {
-    let shelf = Shelf::open(machine.rt, machine.alloc, folder)?;
+    let shelf = open_shelf(machine.rt, machine.alloc, folder)?;
     let file = shelf.desk_of(machine.alloc, view.txn.group())?;
     let role = if is_new_group { Some(shelf.role) } else { None };
-    let locked = open_or_begin(machine.rt, machine.alloc, file.as_str(), role)?;
-    act_at(machine, file.as_str(), locked, view, is_long)
+    let place = DeskPlace {
+        files: HostFiles::of(machine.rt),
+        path: file.as_str(),
+    };
+    let locked = open_or_begin(machine.rt, machine.alloc, &place, role)?;
+    act_at(machine, place.path, locked, view, is_long)
 }
 
-/// Opens the desk in `file` under the lock of the file. If the file is not there and `role` is one, it begins a desk of
+/// Opens the desk at `place` under the lock of its file. If the file is not there and `role` is one, it begins a desk of
 /// that role. Nothing of that desk is saved yet.
-fn open_or_begin<'a, T: LockFiles>(
-    rt: &'a T,
+fn open_or_begin<T: Files, D: DeskFiles>(
+    rt: &T,
     alloc: Global,
-    file: &str,
+    place: &DeskPlace<'_, D>,
     role: Option<Role>,
-) -> Result<LockedDesk<'a, T>, ToolFault>
-    ensures { IfErr result IsOpenFault }
+) -> Result<LockedAt<D>, ToolFault>
+    ensures opens { IfOk result (λ locked. OpensAt (place_of D.DeskStore.state place.now.path.now) locked.desk) }
+    ensures faults { IfErr result IsOpenFault }
 {
-    let lock = lock(rt, alloc, file)?;
-    refuse_retired(rt, alloc, file)?;
-    refuse_lost(rt, alloc, file)?;
-    let opened = match role {
-        Some(role) => LockedDesk::open_or_create(alloc, lock, role),
-        None => LockedDesk::open(alloc, lock),
-    };
-    Ok(opened?)
+    let lock = place.lock(alloc)?;
+    refuse_retired(rt, alloc, place.path)?;
+    refuse_lost(rt, alloc, place.path)?;
+    place.open_or_begin(alloc, lock, role)
 }
 
 /// `ill shelf send`: writes the bytes of a message of a transaction, or its letter if there is a file of a key.
-#[tactic(auto, using(crate::proofs::ShelfLemmas::unsent))]
-pub fn send_on_shelf_with<T: Files, W: Write, E: Write>(
+pub fn send_on_shelf_with<T: LockFiles, W: Write, E: Write>(
     machine: &mut Machine<'_, T, W, E>,
     folder: &str,
     key_file: Option<&str>,
     txn: &TxnId,
     number: Number,
 ) -> Result<bool, ToolFault>
-    ensures { SendsWith (option_map (λ file. file.now) key_file.entry) txn.now number (W.contents machine.old.writer)
-        (W.contents machine.new.writer) result }
+    ensures { SendsAtHome folder.now (option_map (λ file. file.now) key_file.entry) (message_of txn.now number)
+        (W.contents machine.old.writer) (W.contents machine.new.writer) result }
 {
     let file = home_of(machine.rt, machine.alloc, folder, txn)?;
     send_with(machine, file.as_str(), key_file, txn, number)
 }
 
 /// `ill shelf loan`: shows all that is known of a transaction, or draws it.
-pub fn loan_on_shelf<T: Files, W: Write, E: Write>(
+pub fn loan_on_shelf<T: LockFiles, W: Write, E: Write>(
     machine: &mut Machine<'_, T, W, E>,
     folder: &str,
     view: &LoanView<'_>,
 ) -> Result<bool, ToolFault>
-    ensures { LoanAtFile view.now.form view.now.txn.now (W.contents machine.old.writer) (W.contents machine.new.writer) result }
+    ensures { LoanAtHome folder.now view.now.form view.now.txn.now (W.contents machine.old.writer)
+        (W.contents machine.new.writer) result }
 {
     let file = home_of(machine.rt, machine.alloc, folder, view.txn)?;
     loan(machine, file.as_str(), view)
@@ -141,19 +145,20 @@ pub fn note_on_shelf<T: LockFiles, W: Write, E: Write>(
     folder: &str,
     view: &NoteView<'_>,
 ) -> Result<bool, ToolFault>
-    ensures { NotesAtFile view.now.txn.now (text_of view.now) (W.contents machine.old.writer) (W.contents machine.new.writer) result }
+    ensures { NotesAtHome folder.now view.now.txn.now (text_of view.now) (W.contents machine.old.writer)
+        (W.contents machine.new.writer) result }
 {
     let file = home_of(machine.rt, machine.alloc, folder, view.txn)?;
     note(machine, file.as_str(), view)
 }
 
 /// `ill shelf slip`: writes a slip of a transaction.
-pub fn slip_on_shelf<T: Files, W: Write, E: Write>(
+pub fn slip_on_shelf<T: LockFiles, W: Write, E: Write>(
     machine: &mut Machine<'_, T, W, E>,
     folder: &str,
     txn: &TxnId,
 ) -> Result<bool, ToolFault>
-    ensures { SlipAtFile txn.now (W.contents machine.old.writer) (W.contents machine.new.writer) result }
+    ensures { SlipAtHome folder.now txn.now (W.contents machine.old.writer) (W.contents machine.new.writer) result }
 {
     let file = home_of(machine.rt, machine.alloc, folder, txn)?;
     slip(machine, file.as_str(), txn)
@@ -161,12 +166,22 @@ pub fn slip_on_shelf<T: Files, W: Write, E: Write>(
 
 /// Returns the path of the desk of the group of `txn`, unless the group is retired.
 fn home_of<T: Files>(rt: &T, alloc: Global, folder: &str, txn: &TxnId) -> Result<String, ToolFault>
-    ensures { IfErr result IsOpenFault }
+    ensures home { IfOk result (λ path. IsHome folder.now txn.now.group (string_bytes path)) }
+    ensures faults { IfErr result IsOpenFault }
 {
-    let shelf = Shelf::open(rt, alloc, folder)?;
+    let shelf = open_shelf(rt, alloc, folder)?;
     let file = shelf.desk_of(alloc, txn.group())?;
     refuse_retired(rt, alloc, file.as_str())?;
     Ok(file)
+}
+
+/// Opens the shelf in `folder`.
+fn open_shelf<'a, T: Files>(rt: &T, alloc: Global, folder: &'a str) -> Result<Shelf<'a>, ToolFault>
+    ensures folder { IfOk result (λ shelf. shelf.folder.now ≡ folder.now) }
+    ensures faults { IfErr result IsOpenFault }
+{
+    let role = Shelf::open(rt, alloc, folder)?.role;
+    Ok(Shelf { folder, role })
 }
 
 /// `ill shelf status`: shows the sides of each desk.
@@ -175,7 +190,7 @@ pub fn status_of_shelf<T: LockFiles, W: Write, E: Write>(
     folder: &str,
     form: Form,
 ) -> Result<bool, ToolFault>
-    ensures { VisitsShelf (is_lines form) (ShowsFile form) (W.contents machine.old.writer) (W.contents machine.new.writer) result }
+    ensures { VisitsShelf (is_lines form) (ShowsAnyFile form) (W.contents machine.old.writer) (W.contents machine.new.writer) result }
 {
     let shelf = Shelf::open(machine.rt, machine.alloc, folder)?;
     let desks = shelf.desks(machine.rt, machine.alloc)?;

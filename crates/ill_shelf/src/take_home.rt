@@ -7,7 +7,8 @@ ghost use Rattle.ill_commands.specs.Streams.{streams_of};
 ghost use Rattle.ill_shelf.specs.Shelf.{TakesAtShelf, TakesAtHome};
 ghost use Rattle.ill_text.specs.Fault.{IsOpenFault};
 
-use ill_commands::commands::{TakeView, take};
+use ill_commands::at_file::take;
+use ill_commands::commands::TakeView;
 use ill_der::{ApduView, BodyView, Handler, encode};
 use ill_files::home::home_at;
 use ill_files::machine::Machine;

@@ -7,7 +7,7 @@ ghost use Rattle.ill_text.specs.Output.{WritesText};
 ghost use Rattle.ill_shelf.specs.Shelf.{Headed, RunsVisit, VisitsAll, is_headed, is_lines};
 ghost use Rattle.ill_text.specs.Visits.{graver};
 
-use ill_commands::commands::status;
+use ill_commands::at_file::status;
 use ill_files::machine::Machine;
 use ill_key::Key;
 use ill_mail::exchange::{exchange, inbox, outbox};

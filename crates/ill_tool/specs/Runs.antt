@@ -15,21 +15,22 @@ use Rattle.ill_line.specs.declared.request.Refusal.{Refusal}
 use Rattle.ill_line.specs.declared.request.Refusal.TheVariants.{Usage, Fault}
 use Rattle.ill_tool.specs.ExitStatus.{IsFlushed, TellsKind, exit_status, status_of}
 use Rattle.ill_tool.specs.Help.{TellsHelp}
-use Rattle.ill_commands.specs.AtFile.{NewAtFile, ActsAtFile, ShowsFile, LoanAtFile}
+use Rattle.ill_commands.specs.AtFile.{ActsAtFile, LoanAtFile, NewAtFile, ShowsFile, SlipAtFile}
+use Rattle.ill_commands.specs.AtFile.{TakesAtFile, VerifiesFile, message_of}
 use Rattle.ill_visits.specs.Visits.{ListsPaths}
 use Rattle.ill_visits.specs.Visits.{CountsPaths, TellsPaths}
-use Rattle.ill_commands.specs.AtFile.{SlipAtFile, TakesAtFile}
 use Rattle.ill_commands.specs.Letters.{SendsWith, TakesWith}
 use Rattle.ill_commands.specs.Note.{NotesAtFile}
 use Rattle.ill_commands.specs.Streams.{streams_of}
 use Rattle.ill_key.specs.KeyCommand.{RunsKey}
 use Rattle.ill_files.specs.Opening.{GoesWell}
+use Rattle.ill_place.specs.Place.{file_at}
 use Rattle.ill_beside.specs.Notes.{note_text}
-use Rattle.ill_commands.specs.AtFile.{VerifiesFile}
 use Rattle.ill_visits.specs.Visits.{ReportsPaths}
 use Rattle.ill_mail.specs.Keyed.{WithKey}
 use Rattle.ill_mail.specs.Nights.{InboxAtFile, OutboxAtFile, ExchangesAtFile}
 use Rattle.ill_line.specs.Guard.{IsGuarded}
+use Rattle.ill_shelf.specs.Home.{ActsAtHome, LoanAtHome, NewAtAnyFile, NotesAtHome, SendsAtHome, ShowsAnyFile, SlipAtHome}
 use Rattle.ill_shelf.specs.Shelf.{is_lines, VisitsShelf, VisitsWith, RetiresAtFile, TakesAtShelf}
 
 -- A command has this result. The input went from `left` to `rest`, and the output from `before` to `after`.
@@ -41,11 +42,11 @@ Runs asks.Check left rest before after result = GoesWell (Checks left rest befor
 Runs (asks.Simulate group transaction) left rest before after result =
     GoesWell (Performs (txn_id_of group transaction) left rest before after) result
 Runs asks.SimulateDesks left rest before after result = GoesWell (PerformsDesks left rest before after) result
-Runs (asks.New file role) left rest before after result = (rest ≡ left) × NewAtFile before after result
+Runs (asks.New file role) left rest before after result = (rest ≡ left) × NewAtFile (file_at file) role before after result
 Runs (asks.Act file asking by is_long is_new_group) left rest before after result =
-    (rest ≡ left) × ActsAtFile asking is_long before after result
+    (rest ≡ left) × ActsAtFile (file_at file) asking is_long before after result
 Runs (asks.Take file form stamp key) left rest before after result =
-    TakesWith key (TakesAtFile form) (streams_of left before) result (streams_of rest after)
+    TakesWith key (TakesAtFile (file_at file) form) (streams_of left before) result (streams_of rest after)
 Runs (asks.Inbox file folder stamp key) left rest before after result =
     (rest ≡ left) × WithKey key InboxAtFile before after result
 Runs (asks.Outbox file folder key) left rest before after result =
@@ -54,21 +55,21 @@ Runs (asks.Exchange file incoming outgoing form dates stamp copy beat key) left 
     (rest ≡ left) × WithKey key (ExchangesAtFile (record { form = form; dates = dates })) before after result
 Runs (asks.Key file deed) left rest before after result = RunsKey deed left rest before after result
 Runs (asks.Send file txn number key) left rest before after result =
-    (rest ≡ left) × SendsWith key txn number before after result
+    (rest ≡ left) × SendsWith (file_at file) key (message_of txn number) before after result
 Runs (asks.Listing paths wanted find form) left rest before after result =
     (rest ≡ left) × ListsPaths form wanted find before after result
 Runs (asks.News paths last since form) left rest before after result =
     (rest ≡ left) × TellsPaths form last since before after result
 Runs (asks.Figures paths view) left rest before after result = (rest ≡ left) × CountsPaths view before after result
-Runs (asks.Status file form) left rest before after result = (rest ≡ left) × ShowsFile form before after result
+Runs (asks.Status file form) left rest before after result = (rest ≡ left) × ShowsFile (file_at file) form before after result
 Runs (asks.Loan file txn form) left rest before after result =
-    (rest ≡ left) × LoanAtFile form txn before after result
+    (rest ≡ left) × LoanAtFile (file_at file) form txn before after result
 Runs (asks.Note file txn words) left rest before after result =
-    (rest ≡ left) × NotesAtFile txn (note_text words) before after result
-Runs (asks.Slip file txn) left rest before after result = (rest ≡ left) × SlipAtFile txn before after result
+    (rest ≡ left) × NotesAtFile (file_at file) txn (note_text words) before after result
+Runs (asks.Slip file txn) left rest before after result = (rest ≡ left) × SlipAtFile (file_at file) txn before after result
 Runs (asks.Report paths today since) left rest before after result =
     (rest ≡ left) × ReportsPaths today since before after result
-Runs (asks.Verify file form) left rest before after result = (rest ≡ left) × VerifiesFile form before after result
+Runs (asks.Verify file form) left rest before after result = (rest ≡ left) × VerifiesFile (file_at file) form before after result
 Runs (asks.Retire file group) left rest before after result =
     (rest ≡ left) × (after ≡ before) × (result ≡ Err Arguments)
 
@@ -78,24 +79,24 @@ abbrev pub RunsGuarded : Asked → Option (List ℕ) → Option (List ℕ) → O
 RunsGuarded asked left rest before after result =
     (IsErrAnd result (IsGuarded asked) × (rest ≡ left) × (after ≡ before)) ⊎ Runs asked left rest before after result
 
--- A command on a shelf. In a transaction it has the effect of the command for one desk, whichever desk that is. The
+-- A command on a shelf. In a transaction it has the effect of the command for one desk, that of the group on this shelf. The
 -- input goes from `left` to `rest`, and the output from `before` to `after`.
 abbrev pub RunsShelf : Asked → Option (List ℕ) → Option (List ℕ) → Option (List ℕ) → Option (List ℕ) →
     Result Bool ToolFault → Type 0
-RunsShelf (asks.New folder role) left rest before after result = (rest ≡ left) × NewAtFile before after result
+RunsShelf (asks.New folder role) left rest before after result = (rest ≡ left) × NewAtAnyFile role before after result
 RunsShelf (asks.Act folder asking by is_long is_new_group) left rest before after result =
-    (rest ≡ left) × ActsAtFile asking is_long before after result
+    (rest ≡ left) × ActsAtHome folder asking is_long before after result
 RunsShelf (asks.Take folder form stamp key) left rest before after result =
     TakesWith key (TakesAtShelf form) (streams_of left before) result (streams_of rest after)
 RunsShelf (asks.Send folder txn number key) left rest before after result =
-    (rest ≡ left) × SendsWith key txn number before after result
+    (rest ≡ left) × SendsAtHome folder key (message_of txn number) before after result
 RunsShelf (asks.Loan folder txn form) left rest before after result =
-    (rest ≡ left) × LoanAtFile form txn before after result
+    (rest ≡ left) × LoanAtHome folder form txn before after result
 RunsShelf (asks.Note folder txn words) left rest before after result =
-    (rest ≡ left) × NotesAtFile txn (note_text words) before after result
-RunsShelf (asks.Slip folder txn) left rest before after result = (rest ≡ left) × SlipAtFile txn before after result
+    (rest ≡ left) × NotesAtHome folder txn (note_text words) before after result
+RunsShelf (asks.Slip folder txn) left rest before after result = (rest ≡ left) × SlipAtHome folder txn before after result
 RunsShelf (asks.Status folder form) left rest before after result =
-    (rest ≡ left) × VisitsShelf (is_lines form) (ShowsFile form) before after result
+    (rest ≡ left) × VisitsShelf (is_lines form) (ShowsAnyFile form) before after result
 RunsShelf (asks.Inbox folder incoming stamp key) left rest before after result =
     (rest ≡ left) × VisitsWith key true InboxAtFile before after result
 RunsShelf (asks.Outbox folder outgoing key) left rest before after result =

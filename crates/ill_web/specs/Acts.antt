@@ -10,6 +10,7 @@ use Rattle.ill_text.specs.Fault.{desk_fault}
 use Rattle.ill_text.specs.declared.fault.ToolFault.{ToolFault}
 use Rattle.ill_beside.specs.Notes.{is_note}
 use Rattle.ill_commands.specs.Note.{NotesAtFile}
+use Rattle.ill_place.specs.Place.{file_at}
 use Rattle.ill_browser.specs.Wanted.{LoanAsked}
 use Rattle.ill_report.specs.Link.{PlaceShown}
 use Rattle.ill_post.specs.declared.answer.Posted.{Posted}
@@ -149,7 +150,8 @@ note_told loan (Err fault) = Err (troubles.Desk fault)
 -- fault of that command.
 abbrev pub KeepsNote : LoanAsked → (note : List ℕ) → Result (List ℕ) Trouble → Type 0
 KeepsNote loan note result =
-    (output : Option (List ℕ)) × (answer : Result Bool ToolFault) × NotesAtFile loan.txn note (Some []) output answer
+    (output : Option (List ℕ)) × (answer : Result Bool ToolFault)
+    × NotesAtFile (file_at loan.desk) loan.txn note (Some []) output answer
     × ((result ≡ note_told loan answer) ⊎ (result ≡ Err no_memory))
 
 -- The note is kept, if it is one.

@@ -21,6 +21,7 @@ use Rattle.ill_news.specs.Told.{news_since}
 use Rattle.ill_report.specs.Report.{unread_text}
 use Rattle.ill_visits.specs.Visits.{CountsPaths}
 use Rattle.ill_commands.specs.AtFile.{SlipAtFile}
+use Rattle.ill_place.specs.Place.{file_at}
 use Rattle.ill_figures.specs.Days.{span_between}
 use Rattle.ill_figures.specs.declared.days.Span.{Span}
 use Rattle.ill_browser.specs.Wanted.{LoanAsked}
@@ -165,7 +166,7 @@ page_written page (Err fault) = Err (troubles.Desk fault)
 -- The reply has the slip of a loan, as `ill slip` writes it. Or the result is the fault of that command.
 abbrev pub ShowsSlip : LoanAsked → Result (List ℕ) Trouble → Type 0
 ShowsSlip loan result =
-    (page : List ℕ) × (answer : Result Bool ToolFault) × SlipAtFile loan.txn (Some []) (Some page) answer
+    (page : List ℕ) × (answer : Result Bool ToolFault) × SlipAtFile (file_at loan.desk) loan.txn (Some []) (Some page) answer
     × ((result ≡ page_written page answer) ⊎ (result ≡ Err no_memory))
 
 -- Returns what is told beside figures whose command ended with `answer`. It is nothing if each desk was read.

@@ -16,7 +16,7 @@ use ill_beside::annex::Annex;
 use ill_beside::file_lines::FileLines;
 use ill_beside::notes::Notes;
 use ill_browser::LoanName;
-use ill_commands::commands::slip;
+use ill_commands::at_file::slip;
 use ill_figures::figures::{FiguresView, Span};
 use ill_files::came::came_bytes;
 use ill_files::diary::diary_bytes;
@@ -31,7 +31,7 @@ use ill_page::{
 use ill_post::stamp_of;
 use ill_report::link::Place;
 use ill_report::report::push_fault;
-use ill_saved::{Desk, DeskFault, Sides, Store};
+use ill_saved::{Desk, DeskFault, LockFiles, Sides, Store};
 use ill_show::loan::{Beside, LoanForm, LoanView, run_desk_loan};
 use ill_text::fault::ToolFault;
 use ill_values::{Day, OutOfMemory};
@@ -235,7 +235,7 @@ fn written_lines<S: Store>(
 }
 
 /// Returns the reply with the slip of a loan.
-pub fn show_slip<T: Files>(house: &House<'_, T>, loan: &LoanName) -> Result<Vec<u8>, Trouble>
+pub fn show_slip<T: LockFiles>(house: &House<'_, T>, loan: &LoanName) -> Result<Vec<u8>, Trouble>
     ensures { AtDesk (house_shown house.now).files loan.now.desk.items (ShowsSlip (loan_asked loan.now)) (said result) }
 {
     let place = house.place(loan)?;
@@ -243,7 +243,7 @@ pub fn show_slip<T: Files>(house: &House<'_, T>, loan: &LoanName) -> Result<Vec<
 }
 
 /// Returns the reply with the slip of the loan at `place`.
-fn slip_reply<T: Files>(house: &House<'_, T>, place: &Place<'_>) -> Result<Vec<u8>, Trouble>
+fn slip_reply<T: LockFiles>(house: &House<'_, T>, place: &Place<'_>) -> Result<Vec<u8>, Trouble>
     ensures { ShowsSlip (asked_at place.now) (said result) }
 {
     let mut machine = house.machine();

@@ -1,5 +1,5 @@
 -- Answers the contract of `act_at` (`src/commands.rt`).
-use Rattle.std.proofs.Common.{Option, inr, ap, subst, ◌∙◌}
+use Rattle.std.proofs.Common.{Option, ap, subst, ◌∙◌}
 use Rattle.ill_record.specs.declared.side.Side.{Side}
 use Rattle.ill_record.specs.Sides.{SidesOf, side_with}
 use Rattle.ill_show.specs.ItemLine.{item_of}
@@ -16,6 +16,6 @@ returns g c =
     (g.W.Write.contents c.act_and_enter-acted.new.machine.writer) (g.W.Write.contents c.tell_item-told.new.writer)
     c.tell_item-told.result) found c.tell_item-told.ensures in
     elim c.if-is_ok.branch [
-      | then-is_ok w ↦ rw w.machine-is (inr (_, _, _, _, c.act_and_enter-acted.ensures, told))
-      | else-is_ok w ↦ rw w.machine-is (inr (_, _, _, _, c.act_and_enter-acted.ensures, told))
+      | then-is_ok w ↦ rw w.machine-is (c.act_and_enter-acted.new.desk, (_, _, c.act_and_enter-acted.ensures, told))
+      | else-is_ok w ↦ rw w.machine-is (c.act_and_enter-acted.new.desk, (_, _, c.act_and_enter-acted.ensures, told))
     ]

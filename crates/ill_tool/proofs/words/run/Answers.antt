@@ -6,6 +6,7 @@ use Rattle.ill_tool.specs.Runs.{Runs}
 use Rattle.ill_commands.specs.AtFile.{TakesAtFile}
 use Rattle.ill_commands.specs.Letters.{TakesWith}
 use Rattle.ill_commands.specs.Streams.{streams_of}
+use Rattle.ill_place.specs.Place.{file_at}
 use Rattle.ill_desk.specs.declared.take.TakeForm.{TakeForm}
 use Rattle.std.specs.Prelude.{option_map}
 use Rattle.ill_tool.proofs.words.run.Goals as goal
@@ -50,6 +51,7 @@ returns-in-Take g c =
     let rest = g.R.Read.remaining c.take_with.new.reader in
     let before = g.W.Write.contents c.args.machine.now.writer in
     let after = g.W.Write.contents c.take_with.new.machine.writer in
-    let took = subst (λ (form : TakeForm). TakesWith (option_map (λ file. file.now) c.in-Take.key) (TakesAtFile form)
+    let took = subst (λ (form : TakeForm).
+    TakesWith (option_map (λ file. file.now) c.in-Take.key) (TakesAtFile (file_at c.in-Take.file.now) form)
     (streams_of left before) c.take_with.result (streams_of rest after)) c.take_view.ensures c.take_with.ensures in
     subst (λ (request : Request). Runs (asked request) left rest before after c.take_with.result) (sym c.in-Take.is) took

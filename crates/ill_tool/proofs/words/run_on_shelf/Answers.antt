@@ -1,11 +1,13 @@
 -- Answers the contract of `run_on_shelf` (`src/words.rt`).
-use Rattle.std.proofs.Common.{◌≡◌, Bool, Option, Some, None, refl, sym, subst}
+use Rattle.std.proofs.Common.{◌≡◌, ℕ, Bool, Bor, List, map, Option, Some, None, refl, sym, subst}
 use Rattle.std.specs.Prelude.{is_some, option_map}
 use Rattle.ill_line.specs.declared.request.Request.{Request}
 use Rattle.ill_line.specs.Asked.{asked}
 use Rattle.ill_mail.specs.Keyed.{WithKey}
 use Rattle.ill_mail.specs.Nights.{OutboxAtFile}
 use Rattle.ill_tool.specs.Runs.{RunsShelf}
+use Rattle.ill_beside.specs.Notes.{note_text}
+use Rattle.ill_shelf.specs.Home.{ActsAtHome, NotesAtHome}
 use Rattle.ill_shelf.specs.Shelf.{TakesAtShelf, VisitsShelf}
 use Rattle.ill_commands.specs.Letters.{TakesWith}
 use Rattle.ill_commands.specs.Streams.{streams_of}
@@ -16,6 +18,36 @@ use Rattle.ill_tool.proofs.words.run_on_shelf.Goals as goal
 is_there : {X Y : Type 0} (text : X → Y) (folder : Option X) → is_some folder ≡ is_some (option_map text folder)
 is_there text (Some folder) = refl
 is_there text None = refl
+
+-- Proves the contract of `run_on_shelf` for the request `Act`. It is the contract of `act_on_shelf`, which reads no input.
+pub returns-in-Act : goal.returns-in-Act
+returns-in-Act g c =
+    let left = g.R.Read.remaining c.args.reader.now in
+    let before = g.W.Write.contents c.args.machine.now.writer in
+    let after = g.W.Write.contents c.act_on_shelf.new.machine.writer in
+    let act = c.in-Act in
+    let acted = subst (λ (words : List (Bor (List ℕ))). ActsAtHome act.file.now (record {
+      txn = act.txn;
+      today = act.today;
+      words = map (λ word. word.now) words;
+      seen = option_map (λ text. text.now) act.seen;
+      is_trial = act.is_trial;
+    }) act.is_long before after c.act_on_shelf.result) c.deref.ensures.value c.act_on_shelf.ensures in
+    subst (λ (request : Request). RunsShelf (asked request) left left before after c.act_on_shelf.result) (sym act.is)
+    (refl, acted)
+
+-- Proves the contract of `run_on_shelf` for the request `Note`. It is the contract of `note_on_shelf`, which reads no
+-- input.
+pub returns-in-Note : goal.returns-in-Note
+returns-in-Note g c =
+    let left = g.R.Read.remaining c.args.reader.now in
+    let before = g.W.Write.contents c.args.machine.now.writer in
+    let after = g.W.Write.contents c.note_on_shelf.new.machine.writer in
+    let noted = subst (λ (words : List (Bor (List ℕ))).
+    NotesAtHome c.in-Note.file.now c.in-Note.txn (note_text (map (λ word. word.now) words)) before after
+    c.note_on_shelf.result) c.deref-in-Note.ensures.value c.note_on_shelf.ensures in
+    subst (λ (request : Request). RunsShelf (asked request) left left before after c.note_on_shelf.result)
+    (sym c.in-Note.is) (refl, noted)
 
 -- Proves the contract of `run_on_shelf` for the request `Send`. It is the contract of `send_on_shelf_with`, which reads no
 -- input.

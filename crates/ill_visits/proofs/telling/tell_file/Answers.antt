@@ -10,7 +10,7 @@ pub returns : goal.returns
 returns g c = inr (
   (sides_held c.in_ok-desk.desk.live).sides,
   _,
-  lines_of c.in_ok-notes.notes,
+  c.in_ok-notes.notes,
   lines_of c.in_ok-diary.diary,
   (c.run_desk_news-told.result, c.run_desk_news-told.ensures, c.all_well.ensures),
 )

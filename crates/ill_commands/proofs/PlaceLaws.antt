@@ -1,0 +1,49 @@
+-- Proves that no command ends well at a place from which no desk was loaded.
+use Rattle.std.proofs.Common.{ℕ, Bool, List, Option, Ok, inl, inr}
+use Rattle.ill_values.specs.TxnId.{Qualifiers}
+use Rattle.ill_saved.specs.Desk.{DeskOf}
+use Rattle.ill_saved.specs.ManySides.{DeskContents}
+use Rattle.ill_desk.specs.ActAs.{Asking}
+use Rattle.ill_desk.specs.declared.take.TakeForm.{TakeForm}
+use Rattle.ill_place.specs.Place.{PlaceOf, StartsAt}
+use Rattle.ill_text.specs.declared.form.Form.{Form}
+use Rattle.ill_commands.specs.AtFile.{ActsAtFile, MessageOf, SendsAtFile, ShowsFile, SlipAtFile, TakesAtFile}
+use Rattle.ill_commands.specs.Note.{NotesAtFile}
+use Rattle.ill_commands.specs.Streams.{Streams}
+
+-- No action is done or tried there.
+pub acts_nowhere : {S : Type 0} (place : PlaceOf S) (asked : Asking) (is_long is_well : Bool) (before after : Option (List ℕ))
+    → ((desk : DeskOf DeskContents S) → StartsAt place desk → ⊥) → ActsAtFile place asked is_long before after (Ok is_well) → ⊥
+acts_nowhere place asked is_long is_well before after elsewhere (inl fails) = absurd fails.0
+acts_nowhere place asked is_long is_well before after elsewhere (inr acts) = elsewhere acts.0 acts.2
+
+-- No message is taken there.
+pub takes_nowhere : {S : Type 0} (place : PlaceOf S) (form : TakeForm) (is_well : Bool) (old new : Streams)
+    → ((desk : DeskOf DeskContents S) → StartsAt place desk → ⊥) → TakesAtFile place form old (Ok is_well) new → ⊥
+takes_nowhere place form is_well old new elsewhere (inl fails) = absurd fails.0.0
+takes_nowhere place form is_well old new elsewhere (inr takes) = elsewhere takes.0 takes.2
+
+-- No message is sent from there.
+pub sends_nowhere : {S : Type 0} (place : PlaceOf S) (message : MessageOf) (is_well : Bool) (before after : Option (List ℕ))
+    → ((desk : DeskOf DeskContents S) → StartsAt place desk → ⊥) → SendsAtFile place message before after (Ok is_well) → ⊥
+sends_nowhere place message is_well before after elsewhere (inl fails) = absurd fails.0
+sends_nowhere place message is_well before after elsewhere (inr sends) = elsewhere sends.0 sends.1
+
+-- No sides are shown of it.
+pub shows_nowhere : {S : Type 0} (place : PlaceOf S) (form : Form) (is_well : Bool) (before after : Option (List ℕ))
+    → ((desk : DeskOf DeskContents S) → StartsAt place desk → ⊥) → ShowsFile place form before after (Ok is_well) → ⊥
+shows_nowhere place form is_well before after elsewhere (inl fails) = absurd fails.0
+shows_nowhere place form is_well before after elsewhere (inr shows) = elsewhere shows.0 shows.1
+
+-- No slip is written there.
+pub slips_nowhere : {S : Type 0} (place : PlaceOf S) (txn : Qualifiers) (is_well : Bool) (before after : Option (List ℕ))
+    → ((desk : DeskOf DeskContents S) → StartsAt place desk → ⊥) → SlipAtFile place txn before after (Ok is_well) → ⊥
+slips_nowhere place txn is_well before after elsewhere (inl fails) = absurd fails.0
+slips_nowhere place txn is_well before after elsewhere (inr slips) = elsewhere slips.0 slips.1
+
+-- No note is kept there.
+pub notes_nowhere : {S : Type 0} (place : PlaceOf S) (txn : Qualifiers) (words : List ℕ) (is_well : Bool)
+    (before after : Option (List ℕ))
+    → ((desk : DeskOf DeskContents S) → StartsAt place desk → ⊥) → NotesAtFile place txn words before after (Ok is_well) → ⊥
+notes_nowhere place txn words is_well before after elsewhere (inl fails) = absurd fails.0
+notes_nowhere place txn words is_well before after elsewhere (inr notes) = elsewhere notes.0 notes.1

@@ -112,8 +112,23 @@ def block_of(text, types):
     names = " ".join(re.sub(r"<[^<>]*(<[^<>]*>[^<>]*)*>", "", head[2]).split())
     of_trait = re.match(r"(?:\w+::)*(\w+) for (\w+)", names)
     if of_trait:
-        return [of_trait[2] + of_trait[1]], "trait"
+        return [camel(of_trait[2]) + of_trait[1] + arguments_in(head)], "trait"
     return [re.match(r"\w+", names)[0]], "own" if head[1] == "impl" else "declared"
+
+
+def arguments_in(head):
+    """Returns the words of the types that an instance gives its trait, as the prover names it: `VecU8` of `Vec<u8>`, and
+    `RefStr` of `&str`. Words that the instance itself declares are left out."""
+    declared = re.match(r"impl<(.*?)>(?= )", head[0])
+    own = re.findall(r"\w+", declared[1]) if declared else []
+    given = re.match(r"(?:\w+::)*\w+<(.*)>\s+for ", head[2])
+    words = re.findall(r"\w+|&|\(\)", given[1]) if given else []
+    return "".join({"&": "Ref", "()": "Unit"}.get(word, camel(word)) for word in words if word not in own)
+
+
+def camel(word):
+    """Returns a word with a capital letter first."""
+    return word[0].upper() + word[1:]
 
 
 # The edits.

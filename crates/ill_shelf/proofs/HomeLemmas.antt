@@ -1,5 +1,5 @@
 -- Proves what is known of the desk of a group on a shelf.
-use Rattle.std.proofs.Common.{◌≡◌, ℕ, Bool, List, Option, None, Some, Result, Ok, Err, inl, inr, refl, sym, ap, ◌∙◌, subst}
+use Rattle.std.proofs.Common.{◌≡◌, ℕ, Bool, List, Option, None, Some, Result, Ok, Err, inl, inr, refl, ap, ◌∙◌}
 use Rattle.std.specs.Prelude.{IsErrAnd}
 use Rattle.ill_record.specs.declared.role.Role.{Role}
 use Rattle.ill_record.specs.declared.role.Role.TheVariants.{Requester}
@@ -20,12 +20,6 @@ is_home folder own role group part path is_own is_part is = (
   role,
   is ∙ ap (λ (folder : List ℕ). desk_path folder role part) is_own ∙ ap (λ (group : List ℕ). desk_path folder role group) is_part,
 )
-
--- A result whose fault is `fault` has the fault of a desk that is not opened, if `fault` is one.
-pub open_fault : (result : Result Bool ToolFault) (fault : ToolFault) → IsErrAnd result (λ given. given ≡ fault)
-    → IsOpenFault fault → IsErrAnd result IsOpenFault
-open_fault (Ok done) fault is opens = is
-open_fault (Err given) fault is opens = subst IsOpenFault (sym is) opens
 
 -- If the desk of a group is not opened, no action is performed there.
 pub not_acted : (folder : List ℕ) (asked : Asking) (is_long : Bool) (written : Option (List ℕ)) (result : Result Bool ToolFault)

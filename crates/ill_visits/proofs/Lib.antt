@@ -1,3 +1,2 @@
-pub mod OpenLemmas
 pub mod PageLemmas
 pub mod VisitLemmas

@@ -4,7 +4,8 @@ use Rattle.std.specs.Prelude.{string_bytes}
 use Rattle.ill_place.specs.Place.{OpensAt, file_at}
 use Rattle.ill_text.specs.declared.fault.ToolFault.TheVariants.{OutOfMemory}
 use Rattle.ill_desk.specs.ActAs.{asking_of}
-use Rattle.ill_shelf.proofs.HomeLemmas.{is_home, not_acted, open_fault}
+use Rattle.ill_files.proofs.OpenLemmas.{open_fault}
+use Rattle.ill_shelf.proofs.HomeLemmas.{is_home, not_acted}
 use Rattle.ill_shelf.proofs.on_shelf.act_on_shelf.Goals as goal
 
 -- Proves that the action is performed at the desk of the group.

@@ -1,7 +1,7 @@
 -- Answers the contract of `new_shelf` (`src/on_shelf.rt`).
 use Rattle.std.proofs.Common.{[], inl, refl}
 use Rattle.ill_text.specs.declared.fault.ToolFault.TheVariants.{OutOfMemory}
-use Rattle.ill_shelf.proofs.HomeLemmas.{open_fault}
+use Rattle.ill_files.proofs.OpenLemmas.{open_fault}
 use Rattle.ill_shelf.proofs.on_shelf.new_shelf.Goals as goal
 
 -- If the folder is not made, no desk is begun.

@@ -5,7 +5,7 @@ use Rattle.ill_place.specs.Place.{file_at}
 use Rattle.ill_commands.specs.Note.{NotesAtFile, text_of}
 use Rattle.ill_record.specs.declared.role.Role.TheVariants.{Requester}
 use Rattle.ill_files.specs.ShelfNames.{desk_path}
-use Rattle.ill_shelf.proofs.HomeLemmas.{open_fault}
+use Rattle.ill_files.proofs.OpenLemmas.{open_fault}
 use Rattle.ill_shelf.proofs.on_shelf.note_on_shelf.Goals as goal
 
 -- Proves that the command runs at the desk of the group.

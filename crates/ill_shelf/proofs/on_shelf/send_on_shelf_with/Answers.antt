@@ -4,7 +4,8 @@ use Rattle.std.specs.Prelude.{option_map, string_bytes}
 use Rattle.ill_place.specs.Place.{file_at}
 use Rattle.ill_commands.specs.AtFile.{message_of}
 use Rattle.ill_commands.specs.Letters.{SendsWith}
-use Rattle.ill_shelf.proofs.HomeLemmas.{not_sent, open_fault}
+use Rattle.ill_files.proofs.OpenLemmas.{open_fault}
+use Rattle.ill_shelf.proofs.HomeLemmas.{not_sent}
 use Rattle.ill_shelf.proofs.on_shelf.send_on_shelf_with.Goals as goal
 
 -- Proves that the command runs at the desk of the group.

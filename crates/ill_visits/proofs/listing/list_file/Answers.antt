@@ -6,7 +6,7 @@ use Rattle.ill_record.specs.Sides.{SidesOf}
 use Rattle.ill_news.specs.Told.{news_since}
 use Rattle.ill_text.specs.declared.fault.ToolFault.TheVariants.{OutOfMemory}
 use Rattle.ill_beside.specs.Since.{annex_of}
-use Rattle.ill_visits.proofs.OpenLemmas.{open_fault}
+use Rattle.ill_files.proofs.OpenLemmas.{open_fault}
 use Rattle.ill_visits.proofs.listing.list_file.Goals as goal
 
 -- Proves the contract of `list_file` if the desk is opened. `run_desk_list` lists its sides, with the news of the annex.

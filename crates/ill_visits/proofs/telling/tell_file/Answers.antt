@@ -2,7 +2,7 @@
 use Rattle.std.proofs.Common.{inl, inr, refl}
 use Rattle.ill_saved.specs.ManySides.{sides_held}
 use Rattle.ill_beside.specs.FileLines.{lines_of}
-use Rattle.ill_visits.proofs.OpenLemmas.{open_fault}
+use Rattle.ill_files.proofs.OpenLemmas.{open_fault}
 use Rattle.ill_visits.proofs.telling.tell_file.Goals as goal
 
 -- Proves the contract of `tell_file` if the files are opened. `run_desk_news` tells what came to its sides.

@@ -1,8 +1,8 @@
 -- Relates the request of a command line to the arguments that the parser has found.
 use Rattle.std.proofs.Common.{rules, ◌≡◌, ℕ, ◌-◌, Bool, true, false, true≢false, Bor, List, [], ◌∷◌, length, map, take, Option}
-use Rattle.std.proofs.Common.{Some, None, Result, refl, sym, ap, subst, ◌∙◌}
+use Rattle.std.proofs.Common.{Some, None, Result, Ok, Err, refl, sym, ap, subst, ◌∙◌}
 use Rattle.std.proofs.lemmas.List.{length-map, take-map}
-use Rattle.std.specs.Prelude.{is_none, not, ◌||◌, ◌&&◌, if◌then◌else◌, Box, option_map}
+use Rattle.std.specs.Prelude.{is_none, not, ◌||◌, ◌&&◌, if◌then◌else◌, Box, option_map, IsErrAnd}
 use Rattle.std.specs.List.{list_any}
 use Rattle.std.specs.Box.{box_value}
 use Rattle.std.specs.Result.{result_ok}
@@ -123,6 +123,12 @@ pub refused_mapped : {A B : Type 0} (said : Option A) (of : A → B) (refusal : 
     → IsRefusal (is_none said) refusal → IsRefusal (is_none (option_map of said)) refusal
 refused_mapped None of refusal right = right
 refused_mapped (Some value) of refusal right = right
+
+-- A result that hands a right refusal on is right.
+pub passed_on : {A B : Type 0} (of : B → A) (said : Option A) (result : Result B Refusal) (refusal : Refusal)
+    → IsErrAnd result (λ given. given ≡ refusal) → IsRefusal (is_none said) refusal → ReadsValue of said result
+passed_on of said (Ok read) refusal is right = absurd is
+passed_on of said (Err given) refusal is right = subst (λ refusal. IsRefusal (is_none said) refusal) (sym is) right
 
 -- If the first argument is read, a right refusal of the rest is a right refusal of the request.
 pub refused_at : {A B : Type 0} (first : Option A) (value : A) (rest : A → Option B) (refusal : Refusal)

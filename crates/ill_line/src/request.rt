@@ -436,10 +436,7 @@ fn requested<'a>(
 fn new_request<'a>(alloc: Global, matches: &ArgMatches<'a>) -> Result<Request<'a>, Refusal>
     ensures { ReadsValue asked (asked_of names.New (rows_of (found_of matches.now))) result }
 {
-    let file = match new_file(alloc, matches, Argument::NewFile) {
-        Ok(file) => file,
-        Err(refusal) => return Err(refusal),
-    };
+    let file = new_file(alloc, matches, Argument::NewFile)?;
     let role = role(alloc, matches)?;
     Ok(Request::New { file, role })
 }
@@ -540,14 +537,9 @@ fn day_and_name<'a>(
     ensures { ReadsValue (λ both. (both.0, option_map (λ name. name.now) both.1))
         (day_and_name_of argument (rows_of (found_of matches.now))) result }
 {
-    let today = match day(matches, argument) {
-        Ok(today) => today,
-        Err(refusal) => return Err(refusal),
-    };
-    match name(matches, today.is_some()) {
-        Ok(by) => Ok((today, by)),
-        Err(refusal) => Err(refusal),
-    }
+    let today = day(matches, argument)?;
+    let by = name(matches, today.is_some())?;
+    Ok((today, by))
 }
 
 /// Returns the name of the person who gives the command, if one is given. Then a day must be given, as `has_day` says.
@@ -663,10 +655,7 @@ type DatesAndStamp<'a> = (Option<(Day, Dates)>, Option<Stamp<'a>>);
 fn dates_and_stamp<'a>(matches: &ArgMatches<'a>) -> Result<DatesAndStamp<'a>, Refusal>
     ensures { ReadsValue (λ both. (both.0, option_map stamped both.1)) (dates_and_stamp_of (rows_of (found_of matches.now))) result }
 {
-    let dates = match dates(matches) {
-        Ok(dates) => dates,
-        Err(refusal) => return Err(refusal),
-    };
+    let dates = dates(matches)?;
     match stamp(matches) {
         Ok(stamp) => Ok((dates, stamp)),
         Err(refusal) => Err(refusal),
@@ -693,10 +682,7 @@ fn dates(matches: &ArgMatches<'_>) -> Result<Option<(Day, Dates)>, Refusal>
 fn key_request<'a>(alloc: Global, matches: &ArgMatches<'a>) -> Result<Request<'a>, Refusal>
     ensures { ReadsValue asked (asked_of names.Key (rows_of (found_of matches.now))) result }
 {
-    let file = match new_file(alloc, matches, Argument::KeyFile) {
-        Ok(file) => file,
-        Err(refusal) => return Err(refusal),
-    };
+    let file = new_file(alloc, matches, Argument::KeyFile)?;
     match key_deed(
         is_set(matches, Argument::ShowKey),
         is_set(matches, Argument::ReadKey),
@@ -739,10 +725,7 @@ fn list_request<'a>(alloc: Global, matches: &ArgMatches<'a>) -> Result<Request<'
     ensures { ReadsValue asked (asked_of names.List (rows_of (found_of matches.now))) result }
 {
     let paths = texts(alloc, matches, Argument::Paths)?;
-    let wanted = match wanted(matches) {
-        Ok(wanted) => wanted,
-        Err(refusal) => return Err(refusal),
-    };
+    let wanted = wanted(matches)?;
     Ok(Request::List {
         paths,
         wanted,
@@ -756,14 +739,8 @@ fn news_request<'a>(alloc: Global, matches: &ArgMatches<'a>) -> Result<Request<'
     ensures { ReadsValue asked (asked_of names.News (rows_of (found_of matches.now))) result }
 {
     let paths = texts(alloc, matches, Argument::Paths)?;
-    let last = match last(matches) {
-        Ok(last) => last,
-        Err(refusal) => return Err(refusal),
-    };
-    let since = match day(matches, Argument::Since) {
-        Ok(since) => since,
-        Err(refusal) => return Err(refusal),
-    };
+    let last = last(matches)?;
+    let since = day(matches, Argument::Since)?;
     Ok(Request::News {
         paths,
         last,
@@ -777,10 +754,7 @@ fn figures_request<'a>(alloc: Global, matches: &ArgMatches<'a>) -> Result<Reques
     ensures { ReadsValue asked (asked_of names.Figures (rows_of (found_of matches.now))) result }
 {
     let paths = texts(alloc, matches, Argument::Paths)?;
-    let span = match span(alloc, matches) {
-        Ok(span) => span,
-        Err(refusal) => return Err(refusal),
-    };
+    let span = span(alloc, matches)?;
     let view = FiguresView {
         span,
         is_csv: is_set(matches, Argument::Csv),
@@ -792,14 +766,8 @@ fn figures_request<'a>(alloc: Global, matches: &ArgMatches<'a>) -> Result<Reques
 fn span(alloc: Global, matches: &ArgMatches<'_>) -> Result<Span, Refusal>
     ensures { ReadsValue (λ span. span) (span_of (rows_of (found_of matches.now))) result }
 {
-    let first = match day_given(alloc, matches, Argument::From) {
-        Ok(first) => first,
-        Err(refusal) => return Err(refusal),
-    };
-    let last = match day_given(alloc, matches, Argument::To) {
-        Ok(last) => last,
-        Err(refusal) => return Err(refusal),
-    };
+    let first = day_given(alloc, matches, Argument::From)?;
+    let last = day_given(alloc, matches, Argument::To)?;
     match Span::new(first, last) {
         Some(span) => Ok(span),
         None => Err(Refusal::Fault(ToolFault::Arguments)),
@@ -892,10 +860,7 @@ fn report_request<'a>(alloc: Global, matches: &ArgMatches<'a>) -> Result<Request
     ensures { ReadsValue asked (asked_of names.Report (rows_of (found_of matches.now))) result }
 {
     let paths = texts(alloc, matches, Argument::Paths)?;
-    let since = match day(matches, Argument::Since) {
-        Ok(since) => since,
-        Err(refusal) => return Err(refusal),
-    };
+    let since = day(matches, Argument::Since)?;
     let today = day_given(alloc, matches, Argument::ReportDay)?;
     Ok(Request::Report {
         paths,
@@ -940,14 +905,8 @@ fn loan(alloc: Global, matches: &ArgMatches<'_>) -> Result<TxnId, Refusal>
 fn wanted(matches: &ArgMatches<'_>) -> Result<Wanted, Refusal>
     ensures { ReadsValue (λ wanted. wanted) (wanted_of (rows_of (found_of matches.now))) result }
 {
-    let today = match day(matches, Argument::OnDay) {
-        Ok(today) => today,
-        Err(refusal) => return Err(refusal),
-    };
-    let since = match day(matches, Argument::Since) {
-        Ok(since) => since,
-        Err(refusal) => return Err(refusal),
-    };
+    let today = day(matches, Argument::OnDay)?;
+    let since = day(matches, Argument::Since)?;
     wanted_on(matches, &today, &since)
 }
 
@@ -960,18 +919,9 @@ fn wanted_on(
     ensures { ReadsValue (λ wanted. wanted) (wanted_on today.now since.now (rows_of (found_of matches.now))) result }
 {
     let which = which(matches);
-    let ahead = match ahead(matches) {
-        Ok(ahead) => ahead,
-        Err(refusal) => return Err(refusal),
-    };
-    let due_before = match due_before(matches, *today) {
-        Ok(day) => day,
-        Err(refusal) => return Err(refusal),
-    };
-    let state = match state(matches) {
-        Ok(state) => state,
-        Err(refusal) => return Err(refusal),
-    };
+    let ahead = ahead(matches)?;
+    let due_before = due_before(matches, *today)?;
+    let state = state(matches)?;
     Ok(Wanted {
         which,
         today: *today,

@@ -1,7 +1,13 @@
 -- Answers the contract of `dates_and_stamp` (`src/request.rt`).
-use Rattle.ill_line.proofs.RequestLemmas.{refused_at, refused_mapped}
+use Rattle.ill_line.proofs.RequestLemmas.{passed_on, refused_at, refused_mapped, refused_on}
 use Rattle.ill_line.proofs.request.dates_and_stamp.Goals as goal
 
+-- A right refusal of the dates is one of both.
+pub returns-in_err-dates : goal.returns-in_err-dates
+returns-in_err-dates c =
+    passed_on _ _ c.from_residual.result c.in_err-dates.field-0.0 c.from_residual.ensures.1
+    (refused_on _ _ _ c.in_err-dates.ensures)
+
 -- The deeds were read. A right refusal of the stamp is one of both.
-pub returns-in-Err-stamp : goal.returns-in-Err-stamp
-returns-in-Err-stamp c = refused_at _ _ _ _ c.in-Ok.ensures (refused_mapped _ _ _ c.in-Err-stamp.ensures)
+pub returns-in-Err : goal.returns-in-Err
+returns-in-Err c = refused_at _ _ _ _ c.in_ok-dates.ensures (refused_mapped _ _ _ c.in-Err.ensures)

@@ -1,11 +1,20 @@
 -- Answers the contract of `wanted` (`src/request.rt`).
-use Rattle.ill_line.proofs.RequestLemmas.{read_after, refused_after}
+use Rattle.ill_line.proofs.RequestLemmas.{passed_on, read_after, refused_after, refused_on}
 use Rattle.ill_line.proofs.request.wanted.Goals as goal
 
--- Proves the contract of `wanted` if the day of the news is refused.
-pub returns-in-Err-day : goal.returns-in-Err-day
-returns-in-Err-day c = refused_after _ _ _ _ _ c.in-Ok.ensures c.in-Err-day.ensures
+-- A right refusal of the day is one of the choice.
+pub returns-in_err-today : goal.returns-in_err-today
+returns-in_err-today c =
+    passed_on _ _ c.from_residual.result c.in_err-today.field-0.0 c.from_residual.ensures.1
+    (refused_on _ _ _ c.in_err-today.ensures)
+
+-- A right refusal of the day of the news is one of the choice.
+pub returns-in_err-since : goal.returns-in_err-since
+returns-in_err-since c =
+    passed_on _ _ c.from_residual-in_err-since.result c.in_err-since.field-0.0 c.from_residual-in_err-since.ensures.1
+    (refused_after _ _ _ _ _ c.in_ok-today.ensures c.in_err-since.ensures)
 
 -- Proves the contract of `wanted`. By `read_after` the other arguments are read after the two days.
 pub returns : goal.returns
-returns c = read_after _ _ _ _ _ c.in-Ok.ensures (read_after _ _ _ _ _ c.in-Ok-day.ensures c.wanted_on.ensures)
+returns c =
+    read_after _ _ _ _ _ c.in_ok-today.ensures (read_after _ _ _ _ _ c.in_ok-since.ensures c.wanted_on.ensures)

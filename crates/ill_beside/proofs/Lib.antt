@@ -1,3 +1,4 @@
+pub mod DaysLemmas
 pub mod DiaryLaws
 pub mod DiaryLemmas
 pub mod KeptLemmas

@@ -1,7 +1,9 @@
 -- A diary by the keys of its messages: of each message the last line that names it, with the number of lines before that one.
-use Rattle.std.specs.Prelude.{ℕ, suc, nat_lt, if◌then◌else◌, List, fold, bytes_eq, Vec}
+use Rattle.std.specs.Prelude.{ℕ, suc, nat_lt, if◌then◌else◌, List, [], ◌∷◌, ◌++◌, fold, bytes_eq, Vec}
 use Rattle.std.specs.Prelude.{Option, None, Some, option_map}
+use Rattle.std.specs.List.{flat_map}
 use Rattle.std.specs.declared.alloc.Global.{Global}
+use Rattle.ill_values.specs.Day.{Date}
 use Rattle.ill_beside.specs.declared.diary.Message.{Message}
 use Rattle.ill_beside.specs.declared.keyed_diary.LastLine.{LastLine}
 use Rattle.ill_beside.specs.Diary.{Named, Said, said_by}
@@ -49,3 +51,23 @@ last_kept by_key lines key = looked_up (looks_last key.items) lines None (places
 -- Returns the latest of the last lines of `messages`, if one of `lines` names one. `by_key` has their places.
 abbrev pub latest_among : ByKey → (lines : List (Vec ℕ Global)) → (messages : List Message) → Option LastLine
 latest_among by_key lines messages = fold (λ found message. later found (last_kept by_key lines message.key)) None messages
+
+-- ---- the days of a message
+
+-- Returns the day of a line that says this, if the line names the message with this key.
+abbrev pub day_if : (key : List ℕ) → Option Said → List Date
+day_if key None = []
+day_if key (Some says) = if bytes_eq says.message key then says.day ∷ [] else []
+
+-- Returns the days of those of `lines` that name the message with this key, in their order.
+abbrev pub days_named : (key : List ℕ) → (lines : List (List ℕ)) → List Date
+days_named key lines = flat_map (λ line. day_if key (said_by line)) lines
+
+-- Returns `days`, and at its end the day of a line, if the line is there and names the message with this key.
+abbrev pub with_day : (key : List ℕ) → (days : List Date) → Option (Vec ℕ Global) → List Date
+with_day key days None = days
+with_day key days (Some line) = days ++ day_if key (said_by line.items)
+
+-- Returns `days`, and at its end the day of the line at a place, if it is there and names the message with this key.
+abbrev pub looks_days : (key : List ℕ) → (days : List Date) → (place : ℕ) → Option (Vec ℕ Global) → List Date
+looks_days key days place found = with_day key days found

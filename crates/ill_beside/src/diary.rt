@@ -273,7 +273,7 @@ pub(crate) fn message_with<'a>(messages: &'a [Message], key: &[u8]) -> Option<&'
 }
 
 /// Returns true if one of `lines` names the message with the key `key`.
-pub fn is_named(key: &[u8], lines: &[Vec<u8>]) -> bool
+pub(crate) fn is_named(key: &[u8], lines: &[Vec<u8>]) -> bool
     ensures { result ≡ is_named key.now (map (λ line. line.items) lines.now) }
 {
     lines.iter().any(|line| has_key(key, line))

@@ -1,9 +1,9 @@
 //! A diary by the keys of its messages: the lines that name a message are found without a look at the others.
 
-ghost use Rattle.std.specs.Prelude.{◌≡◌, [], map, option_copied, None, IfOk};
+ghost use Rattle.std.specs.Prelude.{◌≡◌, [], ◌++◌, map, option_copied, None, IfOk, OnOk};
 ghost use Rattle.ill_beside.specs.Diary.{named, said_by};
 ghost use Rattle.ill_beside.specs.FileLines.{lines_of};
-ghost use Rattle.ill_beside.specs.KeyedDiary.{key_said, last_after, later, latest_among, looks_last};
+ghost use Rattle.ill_beside.specs.KeyedDiary.{day_if, days_named, key_said, last_after, later, latest_among, looks_days, looks_last, with_day};
 ghost use Rattle.ill_beside.specs.Places.{looked_up};
 ghost use Rattle.ill_beside.specs.Since.{last_day};
 
@@ -80,6 +80,13 @@ impl KeyedDiary {
             Some(last) => Some(last.day),
             None => None,
         }
+    }
+
+    /// Returns the days of the lines that name the message with this key, in their order.
+    pub fn days_of(&self, alloc: Global, key: &Vec<u8>) -> Result<Vec<Day>, OutOfMemory>
+        ensures { IfOk result (λ days. days.items ≡ days_named key.now.items self.now) }
+    {
+        days_at(alloc, key, self.lines.lines(), self.places.with_key(key))
     }
 }
 
@@ -163,5 +170,46 @@ fn later(one: Option<LastLine>, other: Option<LastLine>) -> Option<LastLine>
         (Some(first), Some(second)) if second.place < first.place => one,
         (_, Some(_)) => other,
         _ => one,
+    }
+}
+
+/// Returns the days of those of the lines at `places` in `lines` that name the message with this key, in their order.
+fn days_at(
+    alloc: Global,
+    key: &[u8],
+    lines: &[Vec<u8>],
+    places: &[usize],
+) -> Result<Vec<Day>, OutOfMemory>
+    ensures { IfOk result (λ days. days.items ≡ looked_up (looks_days key.now) lines.now [] places.now) }
+{
+    let mut days = Vec::new(alloc);
+    for place in places {
+        push_found(&mut days, key, thing_at(lines, *place))?;
+    }
+    Ok(days)
+}
+
+/// Appends to `days` the day of `line`, if the line is there and names the message with this key.
+fn push_found(days: &mut Vec<Day>, key: &[u8], line: Option<&Vec<u8>>) -> Result<(), OutOfMemory>
+    ensures { OnOk result (days.new.items ≡ with_day key.now days.old.items (option_copied line.entry)) }
+{
+    match line {
+        Some(line) => push_if_named(days, key, line),
+        None => Ok(()),
+    }
+}
+
+/// Appends to `days` the day of `line`, if the line names the message with this key.
+fn push_if_named(days: &mut Vec<Day>, key: &[u8], line: &[u8]) -> Result<(), OutOfMemory>
+    ensures { OnOk result (days.new.items ≡ days.old.items ++ day_if key.now (said_by line.now)) }
+{
+    match said_by(line) {
+        Some(entry) => {
+            if entry.message.as_bytes() == key {
+                days.push(entry.day)?;
+            }
+            Ok(())
+        }
+        None => Ok(()),
     }
 }

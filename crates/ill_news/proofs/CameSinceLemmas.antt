@@ -3,7 +3,7 @@ use Rattle.std.proofs.Common.{◌≡◌, ℕ, suc, ◌+◌, ◌-◌, Bool, true,
 use Rattle.std.proofs.Common.{length}
 use Rattle.std.proofs.Common.{drop, take}
 use Rattle.std.proofs.Common.{append_assoc, arith, reverse, ◌&&◌, ◌≤◌, Option, None, Some, subst, true≢false}
-use Rattle.std.specs.Prelude.{bytes_eq, filter}
+use Rattle.std.specs.Prelude.{bytes_eq, filter, if◌then◌else◌}
 use Rattle.std.specs.List.{after_last, list_any, prefix_len, suffix_len}
 use Rattle.std.proofs.Math.Seq.{drop-append_seam}
 use Rattle.std.proofs.lemmas.Bool.{or_parts}
@@ -11,13 +11,12 @@ use Rattle.std.proofs.lemmas.Slice.Eq.{bytes_eq-Decides}
 use Rattle.std.proofs.lemmas.List.Elements.{filter-append}
 use Rattle.std.proofs.lemmas.List.{drop-append-le, length-append, length-drop, length-reverse, reverse-append, take_all}
 use Rattle.std.proofs.lemmas.List.Folds.{list_any-append}
-use Rattle.ill_core.specs.Dates.{is_before}
 use Rattle.ill_values.specs.Day.{Date}
 use Rattle.ill_values.specs.declared.apdu.Apdu.{Apdu}
-use Rattle.ill_news.specs.CameSince.{came_before, came_key, came_since, is_named_before, is_named_since, is_new}
-use Rattle.ill_news.specs.CameSince.{says_before}
+use Rattle.ill_news.specs.CameSince.{came_before, came_key, came_since, is_earlier, is_named_before, is_named_since, is_new}
 use Rattle.ill_record.specs.Ranges.{Each}
 use Rattle.ill_beside.specs.Diary.{Said, has_key, is_named, said_by}
+use Rattle.ill_beside.specs.KeyedDiary.{day_if, days_named}
 
 -- The last items that pass a test go on before the last item, if it passes. Else there are none.
 pub suffix_last : {X : Type 0} (p : X → Bool) (before : List X) (x : X)
@@ -151,15 +150,10 @@ pub later_told : (day : Date) (lines : List (List ℕ)) (came later : List Apdu)
 later_told day lines came later a before none =
     ap (filter (is_new day lines)) (after_it (came_before day lines) came a later before none)
 
--- A message that no line names did not come before the day.
-pub unnamed_told : (day : Date) (lines : List (List ℕ)) (a : Apdu) → is_named (came_key a) lines ≡ false
-    → came_before day lines a ≡ false
-unnamed_told day lines a none = rw none refl
-
 -- A message that a line of the day or later names did not come before the day.
 pub named_told : (day : Date) (lines : List (List ℕ)) (a : Apdu) → is_named_since day (came_key a) lines ≡ true
     → came_before day lines a ≡ false
-named_told day lines a named = go (is_named (came_key a) lines)
+named_told day lines a named = go (is_named_before day (came_key a) lines)
   where
     go : (is : Bool) → (is && not (is_named_since day (came_key a) lines)) ≡ false
     go true = rw named refl
@@ -167,23 +161,27 @@ named_told day lines a named = go (is_named (came_key a) lines)
 
 -- ---- repeats
 
--- If the second of two fails, not both hold.
-pub second_off : (one other : Bool) → other ≡ false → (one && other) ≡ false
-second_off true other off = off
-second_off false other off = refl
+-- What says nothing of a key gives no day of it.
+no_day : (key : List ℕ) (said : Option Said) → has_key key said ≡ false → day_if key said ≡ []
+no_day key None none = refl
+no_day key (Some said) none = ap (λ (same : Bool). if same then said.day ∷ [] else []) none
 
--- What says nothing of a key says nothing of it before a day.
-not_before : (day : Date) (key : List ℕ) (said : Option Said) → has_key key said ≡ false → says_before day key said ≡ false
-not_before day key None none = refl
-not_before day key (Some said) none = second_off (is_before said.day day) (bytes_eq said.message key) none
+-- A text that no line names has no days.
+no_days : (key : List ℕ) (lines : List (List ℕ)) → is_named key lines ≡ false → days_named key lines ≡ []
+no_days key [] none = refl
+no_days key (line ∷ lines) none =
+    let both = or_parts (has_key key (said_by line)) (is_named key lines) none in
+    ap (λ days. days ++ days_named key lines) (no_day key (said_by line) both.0) ∙ no_days key lines both.1
 
 -- A text that no line names, no line of an earlier day names.
 unnamed_before : (day : Date) (key : List ℕ) (lines : List (List ℕ)) → is_named key lines ≡ false
     → is_named_before day key lines ≡ false
-unnamed_before day key [] none = refl
-unnamed_before day key (line ∷ lines) none =
-    let both = or_parts (has_key key (said_by line)) (is_named key lines) none in
-    rw (not_before day key (said_by line) both.0, unnamed_before day key lines both.1) refl
+unnamed_before day key lines none = ap (list_any (is_earlier day)) (no_days key lines none)
+
+-- A message that no line names did not come before the day.
+pub unnamed_told : (day : Date) (lines : List (List ℕ)) (a : Apdu) → is_named (came_key a) lines ≡ false
+    → came_before day lines a ≡ false
+unnamed_told day lines a none = rw (unnamed_before day (came_key a) lines none) refl
 
 -- No item that passes one test is among those that pass another, if none passes both.
 pub none_kept : {X : Type 0} (f p : X → Bool) (xs : List X) → ((x : X) → f x ≡ true → p x ≡ false)

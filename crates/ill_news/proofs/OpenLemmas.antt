@@ -16,9 +16,14 @@ use Rattle.ill_news.specs.Deeds.{deeds_since}
 use Rattle.ill_news.specs.News.{heard_at, is_same, is_told, news_of}
 use Rattle.ill_news.specs.OpenAnswers.{is_asking, is_left, is_open, left_open, says_done}
 use Rattle.ill_news.specs.Told.{recent_of, told_since, with_open}
-use Rattle.ill_news.proofs.CameSinceLemmas.{none_kept, second_off}
+use Rattle.ill_news.proofs.CameSinceLemmas.{none_kept}
 use Rattle.ill_news.proofs.DeedLemmas.{kept_within}
 use Rattle.ill_news.proofs.NewsLemmas.{taken_is_told, told_was_taken}
+
+-- If the second of two fails, not both hold.
+second_off : (one other : Bool) → other ≡ false → (one && other) ≡ false
+second_off true other off = off
+second_off false other off = refl
 
 -- What is told in one of two lists is told in both, one after the other.
 told_in_both : (news more : List Apdu) (a : Apdu) → is_told (news ++ more) a ≡ (is_told news a || is_told more a)

@@ -1,13 +1,10 @@
 //! What came to a desk since a day, by its diary. The diary may lack a message, which then came when its neighbours did.
 
 ghost use Rattle.std.specs.Prelude.{◌≡◌, ◌+◌, ◌++◌, ◌∷◌, [], not, filter, length, map, IfOk, OnOk, Some};
-ghost use Rattle.std.specs.List.{after_last, suffix_len};
-ghost use Rattle.ill_beside.specs.FileLines.{lines_of};
-ghost use Rattle.ill_beside.specs.Diary.{said_by};
-ghost use Rattle.ill_news.specs.CameSince.{came_before, came_key, is_named_before, is_named_since, is_new, says_before, says_since, came_since};
+ghost use Rattle.std.specs.List.{after_last, list_any, suffix_len};
+ghost use Rattle.ill_news.specs.CameSince.{came_before, came_key, is_earlier, is_new, is_since, came_since};
 
-use ill_beside::diary::{is_named, said_by};
-use ill_beside::file_lines::FileLines;
+use ill_beside::keyed_diary::KeyedDiary;
 use ill_beside::notes::Notes;
 use ill_text::diary::message_key;
 use ill_values::{Apdu, Day, Number, OutOfMemory};
@@ -20,8 +17,8 @@ pub struct Came<'a> {
     pub bytes: &'a [u8],
     /// The notes of staff.
     pub notes: &'a Notes,
-    /// The lines of the diary.
-    pub diary: &'a FileLines,
+    /// The diary.
+    pub diary: &'a KeyedDiary,
     /// The day from which on they are told. Without one all messages are told.
     pub since: Option<Day>,
     /// The number of the last ones that are shown. Without one all that are told are shown.
@@ -36,11 +33,11 @@ impl Came<'_> {
         apdus: &'b [Apdu],
     ) -> Result<Vec<&'b Apdu>, OutOfMemory>
         ensures { IfOk result (λ told. map (λ a. a.now) told.items
-            ≡ came_since self.now.since (lines_of self.now.diary.now) apdus.now) }
+            ≡ came_since self.now.since self.now.diary.now apdus.now) }
     {
         match self.since {
             None => all_of(alloc, apdus),
-            Some(day) => later(alloc, day, self.diary.lines(), apdus),
+            Some(day) => later(alloc, day, self.diary, apdus),
         }
     }
 }
@@ -56,18 +53,18 @@ fn all_of<'a>(alloc: Global, apdus: &'a [Apdu]) -> Result<Vec<&'a Apdu>, OutOfMe
     Ok(all)
 }
 
-/// Returns those of the messages `apdus` that came on `day` or later, by the lines of a diary.
+/// Returns those of the messages `apdus` that came on `day` or later, by the lines of `diary`.
 pub(crate) fn later<'a>(
     alloc: Global,
     day: Day,
-    lines: &[Vec<u8>],
+    diary: &KeyedDiary,
     apdus: &'a [Apdu],
 ) -> Result<Vec<&'a Apdu>, OutOfMemory>
     ensures { IfOk result (λ told. map (λ a. a.now) told.items
-        ≡ came_since (Some day) (map (λ line. line.items) lines.now) apdus.now) }
+        ≡ came_since (Some day) diary.now apdus.now) }
 {
-    let end = end_of(alloc, day, lines, apdus)?;
-    new_of(alloc, day, lines, end)
+    let end = end_of(alloc, day, diary, apdus)?;
+    new_of(alloc, day, diary, end)
 }
 
 /// Returns the messages of `apdus` after the last one that came before `day`.
@@ -75,13 +72,13 @@ pub(crate) fn later<'a>(
 fn end_of<'a>(
     alloc: Global,
     day: Day,
-    lines: &[Vec<u8>],
+    diary: &KeyedDiary,
     apdus: &'a [Apdu],
 ) -> Result<&'a [Apdu], OutOfMemory>
     ensures { IfOk result (λ end. end.now
-        ≡ after_last (came_before day (map (λ line. line.items) lines.now)) apdus.now) }
+        ≡ after_last (came_before day diary.now) apdus.now) }
 {
-    let past = past_of(alloc, day, lines, apdus)?;
+    let past = past_of(alloc, day, diary, apdus)?;
     Ok(&apdus[past..])
 }
 
@@ -89,15 +86,15 @@ fn end_of<'a>(
 fn new_of<'a>(
     alloc: Global,
     day: Day,
-    lines: &[Vec<u8>],
+    diary: &KeyedDiary,
     apdus: &'a [Apdu],
 ) -> Result<Vec<&'a Apdu>, OutOfMemory>
     ensures { IfOk result (λ new. map (λ a. a.now) new.items
-        ≡ filter (is_new day (map (λ line. line.items) lines.now)) apdus.now) }
+        ≡ filter (is_new day diary.now) apdus.now) }
 {
     let mut new = Vec::new(alloc);
     for apdu in apdus {
-        push_if_new(&mut new, day, lines, apdu)?;
+        push_if_new(&mut new, day, diary, apdu)?;
     }
     Ok(new)
 }
@@ -106,13 +103,13 @@ fn new_of<'a>(
 fn push_if_new<'a>(
     new: &mut Vec<&'a Apdu>,
     day: Day,
-    lines: &[Vec<u8>],
+    diary: &KeyedDiary,
     apdu: &'a Apdu,
 ) -> Result<(), OutOfMemory>
     ensures { OnOk result (map (λ a. a.now) new.new.items ≡ map (λ a. a.now) new.old.items
-        ++ filter (is_new day (map (λ line. line.items) lines.now)) (apdu.now ∷ [])) }
+        ++ filter (is_new day diary.now) (apdu.now ∷ [])) }
 {
-    if is_new(*new.allocator(), day, lines, apdu)? {
+    if is_new(*new.allocator(), day, diary, apdu)? {
         new.push(apdu)?;
     }
     Ok(())
@@ -120,13 +117,18 @@ fn push_if_new<'a>(
 
 /// Returns the number of messages up to the last one of `apdus` that came before `day`.
 #[tactic(auto, using(crate::proofs::CameSinceLemmas::goes_on, crate::proofs::CameSinceLemmas::ends_here, crate::proofs::CameSinceLemmas::ends_nowhere))]
-fn past_of(alloc: Global, day: Day, lines: &[Vec<u8>], apdus: &[Apdu]) -> Result<usize, OutOfMemory>
-    ensures { IfOk result (λ past. past + suffix_len (λ a. not (came_before day (map (λ line. line.items) lines.now) a)) apdus.now
+fn past_of(
+    alloc: Global,
+    day: Day,
+    diary: &KeyedDiary,
+    apdus: &[Apdu],
+) -> Result<usize, OutOfMemory>
+    ensures { IfOk result (λ past. past + suffix_len (λ a. not (came_before day diary.now a)) apdus.now
         ≡ length apdus.now) }
 {
     let mut rest = apdus;
     while let Some((last, before)) = rest.split_last() {
-        if came_before(alloc, day, lines, last)? {
+        if came_before(alloc, day, diary, last)? {
             return Ok(rest.len());
         }
         rest = before;
@@ -134,20 +136,25 @@ fn past_of(alloc: Global, day: Day, lines: &[Vec<u8>], apdus: &[Apdu]) -> Result
     Ok(0)
 }
 
-/// Returns true if `lines` name the message `apdu`, and none of `day` or later does.
-fn came_before(alloc: Global, day: Day, lines: &[Vec<u8>], apdu: &Apdu) -> Result<bool, OutOfMemory>
-    ensures { IfOk result (λ is. is ≡ came_before day (map (λ line. line.items) lines.now) apdu.now) }
+/// Returns true if a line of an earlier day than `day` names the message `apdu`, and none of `day` or later does.
+fn came_before(
+    alloc: Global,
+    day: Day,
+    diary: &KeyedDiary,
+    apdu: &Apdu,
+) -> Result<bool, OutOfMemory>
+    ensures { IfOk result (λ is. is ≡ came_before day diary.now apdu.now) }
 {
-    let key = came_key(alloc, apdu)?;
-    Ok(is_named(&key, lines) && !is_named_since(day, &key, lines))
+    let days = diary.days_of(alloc, &came_key(alloc, apdu)?)?;
+    Ok(is_earlier(day, &days) && !is_since(day, &days))
 }
 
 /// Returns true if no line of an earlier day than `day` names the message `apdu`.
-fn is_new(alloc: Global, day: Day, lines: &[Vec<u8>], apdu: &Apdu) -> Result<bool, OutOfMemory>
-    ensures { IfOk result (λ is. is ≡ is_new day (map (λ line. line.items) lines.now) apdu.now) }
+fn is_new(alloc: Global, day: Day, diary: &KeyedDiary, apdu: &Apdu) -> Result<bool, OutOfMemory>
+    ensures { IfOk result (λ is. is ≡ is_new day diary.now apdu.now) }
 {
-    let key = came_key(alloc, apdu)?;
-    Ok(!is_named_before(day, &key, lines))
+    let days = diary.days_of(alloc, &came_key(alloc, apdu)?)?;
+    Ok(!is_earlier(day, &days))
 }
 
 /// Returns the key by which a diary names the message `apdu`, which came.
@@ -158,36 +165,16 @@ fn came_key(alloc: Global, apdu: &Apdu) -> Result<Vec<u8>, OutOfMemory>
     message_key(alloc, &apdu.txn, apdu.body.view().type_name(), number)
 }
 
-/// Returns true if one of `lines`, of `day` or later, names the message with the key `key`.
-pub(crate) fn is_named_since(day: Day, key: &[u8], lines: &[Vec<u8>]) -> bool
-    ensures { result ≡ is_named_since day key.now (map (λ line. line.items) lines.now) }
+/// Returns true if one of `days` is `day` or later.
+pub(crate) fn is_since(day: Day, days: &[Day]) -> bool
+    ensures { result ≡ list_any (is_since day) days.now }
 {
-    lines.iter().any(|line| says_since(day, key, line))
+    days.iter().any(|other| !(*other < day))
 }
 
-/// Returns true if `line` is of `day` or later, and names the message with the key `key`.
-fn says_since(day: Day, key: &[u8], line: &[u8]) -> bool
-    ensures { result ≡ says_since day key.now (said_by line.now) }
+/// Returns true if one of `days` is earlier than `day`.
+pub(crate) fn is_earlier(day: Day, days: &[Day]) -> bool
+    ensures { result ≡ list_any (is_earlier day) days.now }
 {
-    match said_by(line) {
-        Some(entry) => !(entry.day < day) && entry.message.as_bytes() == key,
-        None => false,
-    }
-}
-
-/// Returns true if one of `lines`, of an earlier day than `day`, names the message with the key `key`.
-pub(crate) fn is_named_before(day: Day, key: &[u8], lines: &[Vec<u8>]) -> bool
-    ensures { result ≡ is_named_before day key.now (map (λ line. line.items) lines.now) }
-{
-    lines.iter().any(|line| says_before(day, key, line))
-}
-
-/// Returns true if `line` is of an earlier day than `day`, and names the message with the key `key`.
-fn says_before(day: Day, key: &[u8], line: &[u8]) -> bool
-    ensures { result ≡ says_before day key.now (said_by line.now) }
-{
-    match said_by(line) {
-        Some(entry) => entry.day < day && entry.message.as_bytes() == key,
-        None => false,
-    }
+    days.iter().any(|other| *other < day)
 }

@@ -3,43 +3,44 @@
 ghost use Rattle.std.specs.Prelude.{◌≡◌, ◌++◌, ◌∷◌, [], filter, map, IfOk, OnOk};
 ghost use Rattle.ill_news.specs.Deeds.{deed_key, deeds_at, deeds_since, is_by_date, is_deed_since, is_done_since};
 
-use crate::came_since::{is_named_before, is_named_since};
+use crate::came_since::{is_earlier, is_since};
 use ill_beside::diary::verb_of;
+use ill_beside::keyed_diary::KeyedDiary;
 use ill_saved::{Side, Sides};
 use ill_text::diary::message_key;
 use ill_values::{Apdu, Body, Day, OutOfMemory};
 use ill_words::sides::all_of;
 use std::alloc::Global;
 
-/// Appends to `news` what dates have made due at `sides` since a day, if it is given, by the lines of a diary.
+/// Appends to `news` what dates have made due at `sides` since a day, if it is given, by the lines of `diary`.
 pub(crate) fn push_deeds(
     news: &mut Vec<Apdu>,
     since: Option<Day>,
-    lines: &[Vec<u8>],
+    diary: &KeyedDiary,
     sides: &Sides,
 ) -> Result<(), OutOfMemory>
     ensures { OnOk result (news.new.items ≡ news.old.items
-        ++ deeds_since since (map (λ line. line.items) lines.now) sides.now.sides) }
+        ++ deeds_since since diary.now sides.now.sides) }
 {
     let Some(day) = since else {
         return Ok(());
     };
     let all = all_of(*news.allocator(), sides)?;
-    push_all(news, day, lines, &all)
+    push_all(news, day, diary, &all)
 }
 
 /// Appends to `news` what dates have made due at `sides` since `day`.
 fn push_all(
     news: &mut Vec<Apdu>,
     day: Day,
-    lines: &[Vec<u8>],
+    diary: &KeyedDiary,
     sides: &[&Side],
 ) -> Result<(), OutOfMemory>
     ensures { OnOk result (news.new.items ≡ news.old.items
-        ++ deeds_since (Some day) (map (λ line. line.items) lines.now) (map (λ side. side.now) sides.now)) }
+        ++ deeds_since (Some day) diary.now (map (λ side. side.now) sides.now)) }
 {
     for side in sides {
-        push_at(news, day, lines, side)?;
+        push_at(news, day, diary, side)?;
     }
     Ok(())
 }
@@ -48,15 +49,15 @@ fn push_all(
 fn push_at(
     news: &mut Vec<Apdu>,
     day: Day,
-    lines: &[Vec<u8>],
+    diary: &KeyedDiary,
     side: &Side,
 ) -> Result<(), OutOfMemory>
     ensures { OnOk result (news.new.items ≡ news.old.items
-        ++ deeds_at day (map (λ line. line.items) lines.now) side.now) }
+        ++ deeds_at day diary.now side.now) }
 {
     match side {
         Side::Requester(_) => Ok(()),
-        Side::Responder(responder) => push_issued(news, day, lines, responder.all_issued()),
+        Side::Responder(responder) => push_issued(news, day, diary, responder.all_issued()),
     }
 }
 
@@ -64,14 +65,14 @@ fn push_at(
 fn push_issued(
     news: &mut Vec<Apdu>,
     day: Day,
-    lines: &[Vec<u8>],
+    diary: &KeyedDiary,
     issued: &[Apdu],
 ) -> Result<(), OutOfMemory>
     ensures { OnOk result (news.new.items ≡ news.old.items
-        ++ filter (is_deed_since day (map (λ line. line.items) lines.now)) issued.now) }
+        ++ filter (is_deed_since day diary.now) issued.now) }
 {
     for apdu in issued {
-        push_if_deed(news, day, lines, apdu)?;
+        push_if_deed(news, day, diary, apdu)?;
     }
     Ok(())
 }
@@ -80,14 +81,14 @@ fn push_issued(
 fn push_if_deed(
     news: &mut Vec<Apdu>,
     day: Day,
-    lines: &[Vec<u8>],
+    diary: &KeyedDiary,
     apdu: &Apdu,
 ) -> Result<(), OutOfMemory>
     ensures { OnOk result (news.new.items ≡ news.old.items
-        ++ filter (is_deed_since day (map (λ line. line.items) lines.now)) (apdu.now ∷ [])) }
+        ++ filter (is_deed_since day diary.now) (apdu.now ∷ [])) }
 {
     let alloc = *news.allocator();
-    if is_by_date(&apdu.body) && is_done_since(alloc, day, lines, apdu)? {
+    if is_by_date(&apdu.body) && is_done_since(alloc, day, diary, apdu)? {
         news.push(apdu.copy(alloc)?)?;
     }
     Ok(())
@@ -104,13 +105,13 @@ fn is_by_date(body: &Body) -> bool
 fn is_done_since(
     alloc: Global,
     day: Day,
-    lines: &[Vec<u8>],
+    diary: &KeyedDiary,
     apdu: &Apdu,
 ) -> Result<bool, OutOfMemory>
-    ensures { IfOk result (λ is. is ≡ is_done_since day (map (λ line. line.items) lines.now) apdu.now) }
+    ensures { IfOk result (λ is. is ≡ is_done_since day diary.now apdu.now) }
 {
-    let key = deed_key(alloc, apdu)?;
-    Ok(is_named_since(day, &key, lines) && !is_named_before(day, &key, lines))
+    let days = diary.days_of(alloc, &deed_key(alloc, apdu)?)?;
+    Ok(is_since(day, &days) && !is_earlier(day, &days))
 }
 
 /// Returns the key by which a diary names the message `apdu`, which was issued.

@@ -7,7 +7,6 @@ ghost use Rattle.ill_text.specs.Json.{joined, member, optional, quoted, value_te
 ghost use Rattle.ill_rows.specs.Cells.{title_text};
 ghost use Rattle.ill_rows.specs.Heading.{between, file_told, gap, heading};
 ghost use Rattle.ill_rows.specs.Heading.{file_fields};
-ghost use Rattle.ill_beside.specs.FileLines.{lines_of};
 ghost use Rattle.ill_news.specs.Told.{news_since, recent_of, told_since, with_open};
 ghost use Rattle.ill_beside.specs.Since.{annex_of};
 ghost use Rattle.ill_rows.specs.Messages.{IsTextOf, WritesNews};
@@ -67,7 +66,7 @@ pub fn run_desk_news<S: Store, W: Write>(
 ) -> Result<(), ToolFault>
     ensures { WritesNews (λ apdus. between listed.now.form listed.now.is_first
         ++ news_desk listed.now.form listed.now.is_headed came.now.last listed.now.path.now (sides_held desk.now.live).sides
-        (told_since came.now.since came.now.notes.now (lines_of came.now.diary.now) (sides_held desk.now.live).sides apdus))
+        (told_since came.now.since came.now.notes.now came.now.diary.now (sides_held desk.now.live).sides apdus))
         came.now.bytes.now (W.contents writer.old) (W.contents writer.new) result }
 {
     match text_of_news(alloc, desk.sides(), listed, came) {
@@ -85,7 +84,7 @@ fn text_of_news(
 ) -> Result<Vec<u8>, OutOfMemory>
     ensures { IfOk result (λ text. IsTextOf (λ apdus. between listed.now.form listed.now.is_first
         ++ news_desk listed.now.form listed.now.is_headed came.now.last listed.now.path.now sides.now.sides
-        (told_since came.now.since came.now.notes.now (lines_of came.now.diary.now) sides.now.sides apdus))
+        (told_since came.now.since came.now.notes.now came.now.diary.now sides.now.sides apdus))
         came.now.bytes.now text.items) }
 {
     let apdus = apdus_in(alloc, came.bytes)?;
@@ -102,11 +101,11 @@ fn told_since(
     apdus: &[Apdu],
 ) -> Result<Vec<Apdu>, OutOfMemory>
     ensures { IfOk result (λ news. news.items
-        ≡ told_since came.now.since came.now.notes.now (lines_of came.now.diary.now) sides.now.sides apdus.now) }
+        ≡ told_since came.now.since came.now.notes.now came.now.diary.now sides.now.sides apdus.now) }
 {
     let recent = recent_of(alloc, sides, came, apdus)?;
     let mut news = with_open(alloc, sides, came.notes, recent, apdus)?;
-    push_deeds(&mut news, came.since, came.diary.lines(), sides)?;
+    push_deeds(&mut news, came.since, came.diary, sides)?;
     Ok(news)
 }
 
@@ -118,7 +117,7 @@ fn recent_of(
     apdus: &[Apdu],
 ) -> Result<Vec<Apdu>, OutOfMemory>
     ensures { IfOk result (λ recent. recent.items
-        ≡ recent_of came.now.since (lines_of came.now.diary.now) sides.now.sides apdus.now) }
+        ≡ recent_of came.now.since came.now.diary.now sides.now.sides apdus.now) }
 {
     let told = came.told(alloc, apdus)?;
     news_of(alloc, sides, &told)
@@ -156,7 +155,7 @@ pub fn news_since(
             let came = Came {
                 bytes: b"",
                 notes: &annex.notes,
-                diary: annex.diary.as_lines(),
+                diary: &annex.diary,
                 since,
                 last: None,
             };

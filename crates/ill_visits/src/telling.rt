@@ -5,7 +5,7 @@ ghost use Rattle.ill_text.specs.Fault.{IsOpenFault};
 ghost use Rattle.ill_visits.specs.Visits.{TellsDesk};
 
 use ill_annex::{read_diary, read_notes};
-use ill_beside::file_lines::FileLines;
+use ill_beside::keyed_diary::KeyedDiary;
 use ill_beside::notes::Notes;
 use ill_files::came::came_bytes;
 use ill_files::machine::Machine;
@@ -62,13 +62,14 @@ fn diary_if<T: Files, E: Write>(
     file: &str,
     wanted: bool,
     errors: &mut E,
-) -> Result<FileLines, ToolFault>
+) -> Result<KeyedDiary, ToolFault>
     ensures { IfErr result IsOpenFault }
 {
     if wanted {
-        read_diary(rt, alloc, file, errors)
+        let lines = read_diary(rt, alloc, file, errors)?;
+        Ok(KeyedDiary::of(alloc, lines)?)
     } else {
-        Ok(FileLines::none(alloc))
+        Ok(KeyedDiary::none(alloc))
     }
 }
 

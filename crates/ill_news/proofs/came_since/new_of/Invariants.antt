@@ -9,5 +9,5 @@ use Rattle.ill_news.proofs.came_since.new_of.Given as goal
 abbrev pub invariant-loop-apdu : goal.invariant-loop-apdu
 invariant-loop-apdu l = record {
   kept : map (λ (a : Bor Apdu). a.now) l.new.items
-      ≡ filter (is_new l.day (map (λ line. line.items) l.lines)) (take l.apdu-index l.apdus);
+      ≡ filter (is_new l.day l.diary) (take l.apdu-index l.apdus);
 }

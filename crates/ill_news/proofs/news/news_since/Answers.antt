@@ -1,5 +1,5 @@
 -- Answers the contract of `news_since` (`src/news.rt`).
-use Rattle.std.proofs.Common.{ℕ, List, Option, Some, ap, sym, ◌∙◌}
+use Rattle.std.proofs.Common.{List, Option, Some, ap, sym, ◌∙◌}
 use Rattle.ill_values.specs.Day.{Date}
 use Rattle.ill_values.specs.declared.apdu.Apdu.{Apdu}
 use Rattle.ill_beside.specs.Since.{annex_of}
@@ -13,7 +13,6 @@ returns-in_ok-of-in-Some c =
     let sides = c.args.sides.now.sides in
     let day = c.in-Some.is in
     let told = c.in_ok-of-in-Some.ensures ∙ c.in_ok-told-in-Some.ensures
-    ∙ ap (λ (lines : List (List ℕ)). told_since c.args.since annex.notes lines sides c.as_apdus.result.now) c.as_lines.ensures
     ∙ ap (λ (came : List Apdu). told_since c.args.since annex.notes annex.diary sides came) c.as_apdus.ensures
     ∙ ap (λ (since : Option Date). told_since since annex.notes annex.diary sides annex.came) day in
     ap Some told ∙ sym (ap (λ (since : Option Date). news_since since annex sides) day)

@@ -1,7 +1,6 @@
 -- Answers the contract of `tell_file` (`src/telling.rt`).
 use Rattle.std.proofs.Common.{inl, inr, refl}
 use Rattle.ill_saved.specs.ManySides.{sides_held}
-use Rattle.ill_beside.specs.FileLines.{lines_of}
 use Rattle.ill_files.proofs.OpenLemmas.{open_fault}
 use Rattle.ill_visits.proofs.telling.tell_file.Goals as goal
 
@@ -11,7 +10,7 @@ returns g c = inr (
   (sides_held c.in_ok-desk.desk.live).sides,
   _,
   c.in_ok-notes.notes,
-  lines_of c.in_ok-diary.diary,
+  c.in_ok-diary.diary,
   (c.run_desk_news-told.result, c.run_desk_news-told.ensures, c.all_well.ensures),
 )
 

@@ -1,2 +1,3 @@
 pub mod RoomsLemmas
 pub mod BadRooms
+pub mod PlaceLaws

@@ -4,12 +4,13 @@ use Rattle.std.specs.Prelude.{Err, IsErrAnd}
 use Rattle.ill_values.specs.Day.{Date}
 use Rattle.ill_values.specs.declared.apdu.Apdu.{Apdu}
 use Rattle.ill_saved.specs.Holdings.{DeskEntry}
+use Rattle.ill_saved.specs.Desk.{DeskOf}
 use Rattle.ill_saved.specs.ManySides.{DeskContents, many_sides}
 use Rattle.ill_text.specs.declared.fault.ToolFault.{ToolFault}
 use Rattle.ill_text.specs.declared.fault.ToolFault.TheVariants.{Left}
 use Rattle.std.specs.List.{zip}
 use Rattle.ill_record.specs.declared.role.Role.{Role}
-use Rattle.ill_desk.specs.Performing.{HeldAndLanded, CommandState, command_state}
+use Rattle.ill_desk.specs.Performing.{CommandState, command_state, view_of}
 use Rattle.ill_text.specs.Output.{WritesText}
 use Rattle.ill_night.specs.declared.verdict.Mail.{Mail}
 use Rattle.ill_night.specs.declared.verdict.Verdict.{Verdict}
@@ -27,6 +28,7 @@ use Rattle.ill_text.specs.declared.form.Form.TheVariants.{Lines}
 use Rattle.ill_text.specs.Input.{AreIn}
 use Rattle.ill_night.specs.Outbox.{StreamsOutbox, asked_by, letters_of}
 use Rattle.ill_files.specs.Opening.{GoesWell, FailsToOpen}
+use Rattle.ill_place.specs.Place.{PlaceOf, StartsAt}
 use Rattle.ill_text.specs.Fault.{IsFileFault, IsOpenFault}
 
 -- The mails of a run, their verdicts, and the number of further mails that wait.
@@ -68,12 +70,14 @@ abbrev pub ending_of : Result Night ToolFault → Result Bool ToolFault
 ending_of (Ok night) = ending (tally_of night.verdicts) night.waiting
 ending_of (Err fault) = Err fault
 
--- The command `inbox` took the mails of a folder at a desk. Or a file could not be opened.
-abbrev pub InboxAtFile : Option (List ℕ) → Option (List ℕ) → Result Bool ToolFault → Type 0
-InboxAtFile before after result =
+-- The command `inbox` took the mails of a folder at the desk of the place. Or a file could not be opened.
+abbrev pub InboxAtFile : {S : Type 0} → PlaceOf S → Option (List ℕ) → Option (List ℕ) → Result Bool ToolFault → Type 0
+InboxAtFile {S} place before after result =
     FailsToOpen before after result
-    ⊎ ((old new : HeldAndLanded DeskContents) × (taken : Result Night ToolFault)
-    × TakesMails Lines (command_state old before) taken (command_state new after) × (result ≡ ending_of taken))
+    ⊎ ((old new : DeskOf DeskContents S) × StartsAt place old × (taken : Result Night ToolFault)
+    × TakesMails Lines (command_state (view_of place.state old) before) taken
+    (command_state (view_of place.state new) after)
+    × (result ≡ ending_of taken))
 
 -- The messages that want sending were put into a folder, and their number written in the form `form`. `bytes` has the
 -- messages that ask. The content of the folder is not known. Or a file could not be opened.
@@ -101,10 +105,11 @@ abbrev pub SendsFrom : Bool → List DeskEntry → Option (List ℕ) → Option 
 SendsFrom true = SendsTo
 SendsFrom false = SendsOn
 
--- The command `outbox` sent the messages of a desk. Or its file could not be opened.
-abbrev pub OutboxAtFile : Bool → Option (List ℕ) → Option (List ℕ) → Result Bool ToolFault → Type 0
-OutboxAtFile has_folder before after result =
-    FailsToOpen before after result ⊎ ((held : List DeskEntry) × GoesWell (SendsFrom has_folder held before after) result)
+-- The command `outbox` sent the messages of the desk of the place. Or its file could not be opened.
+abbrev pub OutboxAtFile : {S : Type 0} → Bool → PlaceOf S → Option (List ℕ) → Option (List ℕ) → Result Bool ToolFault → Type 0
+OutboxAtFile {S} has_folder place before after result =
+    FailsToOpen before after result
+    ⊎ ((desk : DeskOf DeskContents S) × StartsAt place desk × GoesWell (SendsFrom has_folder desk.live.held before after) result)
 
 -- If `dates` has a day, the deeds of that day were performed, saved, and told in the form `form`. Else nothing changed.
 abbrev pub PerformsDueDeeds : Form → Option (Date × Dates) → CommandState DeskContents → Result (Unit {0}) ToolFault →
@@ -180,9 +185,11 @@ ExchangesAt asked old result new =
     (met : CommandState DeskContents) × (taken : Result Night ToolFault)
     × TakesMails asked.form old taken met × FinishesNight asked taken met result new
 
--- The command `exchange` performed a night of the desk in a file. Or the file could not be opened.
-abbrev pub ExchangesAtFile : AskedNight → Option (List ℕ) → Option (List ℕ) → Result Bool ToolFault → Type 0
-ExchangesAtFile asked before after result =
+-- The command `exchange` performed a night of the desk of the place. Or its file could not be opened.
+abbrev pub ExchangesAtFile : {S : Type 0} → AskedNight → PlaceOf S → Option (List ℕ) → Option (List ℕ) →
+    Result Bool ToolFault → Type 0
+ExchangesAtFile {S} asked place before after result =
     FailsToOpen before after result
-    ⊎ ((old : HeldAndLanded DeskContents) × (new : HeldAndLanded DeskContents)
-    × ExchangesAt asked (command_state old before) result (command_state new after))
+    ⊎ ((old new : DeskOf DeskContents S) × StartsAt place old
+    × ExchangesAt asked (command_state (view_of place.state old) before) result
+    (command_state (view_of place.state new) after))

@@ -6,6 +6,7 @@ ghost use Rattle.ill_mail.specs.Nights.{ExchangesAt, ExchangesAtFile, InboxAtFil
 ghost use Rattle.ill_inbox.specs.Inbox.{answered_with};
 ghost use Rattle.ill_desk.specs.Performing.{command_state, view_of};
 ghost use Rattle.ill_text.specs.declared.form.Form.TheVariants as forms;
+ghost use Rattle.ill_place.specs.Place.{file_at};
 ghost use Rattle.ill_text.specs.Fault.{IsOpenFault};
 
 use crate::backup::HostBackup;
@@ -15,7 +16,7 @@ use crate::sending::send_asked;
 use ill_files::came::{CameFile, open_came};
 use ill_files::diary::{ReopenedDiary, RunDiary, open_run_diary, warn_of_diary};
 use ill_files::machine::Machine;
-use ill_files::open::{all_well, open_locked};
+use ill_files::open::all_well;
 use ill_files::paths::folder_of;
 use ill_inbox::deed_diary::DeedDiary;
 use ill_inbox::tally::Tally;
@@ -30,6 +31,7 @@ use ill_mailbox::places::{Places, look_at_out, look_at_places};
 use ill_night::night::Night;
 use ill_night::outbox::run_desk_outbox_stream;
 use ill_night::verdict::{Batch, Verdict};
+use ill_place::place::{DeskPlace, HostFiles};
 use ill_room::sealed::Seal;
 use ill_saved::{Desk, LockFiles, Role, Store};
 use ill_text::diary::{WithDiary, begin_text};
@@ -47,9 +49,13 @@ pub fn inbox<T: LockFiles, W: Write, E: Write>(
     file: &str,
     incoming: Incoming<'_, '_, '_>,
 ) -> Result<bool, ToolFault>
-    ensures { InboxAtFile (W.contents machine.old.writer) (W.contents machine.new.writer) result }
+    ensures { InboxAtFile (file_at file.now) (W.contents machine.old.writer) (W.contents machine.new.writer) result }
 {
-    let mut locked = open_locked(machine.rt, machine.alloc, file)?;
+    let place = DeskPlace {
+        files: HostFiles::of(machine.rt),
+        path: file,
+    };
+    let mut locked = place.open_locked(machine.alloc)?;
     let taken = take_mails(machine, file, incoming, &mut locked.desk);
     drop(locked);
     end(taken)
@@ -247,9 +253,14 @@ pub fn outbox<T: LockFiles, W: Write, E: Write>(
     file: &str,
     folder: Option<Outlet<'_>>,
 ) -> Result<bool, ToolFault>
-    ensures { OutboxAtFile (is_some folder.entry) (W.contents machine.old.writer) (W.contents machine.new.writer) result }
+    ensures { OutboxAtFile (is_some folder.entry) (file_at file.now) (W.contents machine.old.writer)
+        (W.contents machine.new.writer) result }
 {
-    let locked = open_locked(machine.rt, machine.alloc, file)?;
+    let place = DeskPlace {
+        files: HostFiles::of(machine.rt),
+        path: file,
+    };
+    let locked = place.open_locked(machine.alloc)?;
     let sent = send_from(machine, file, &locked.desk, folder);
     drop(locked);
     all_well(sent)
@@ -328,9 +339,14 @@ pub fn exchange<T: LockFiles, W: Write, E: Write>(
     night: &Night<'_>,
     key: Option<&Key>,
 ) -> Result<bool, ToolFault>
-    ensures { ExchangesAtFile (asked_night night.now) (W.contents machine.old.writer) (W.contents machine.new.writer) result }
+    ensures { ExchangesAtFile (asked_night night.now) (file_at file.now) (W.contents machine.old.writer)
+        (W.contents machine.new.writer) result }
 {
-    let mut locked = open_locked(machine.rt, machine.alloc, file)?;
+    let place = DeskPlace {
+        files: HostFiles::of(machine.rt),
+        path: file,
+    };
+    let mut locked = place.open_locked(machine.alloc)?;
     look_at_night(machine, file, night)?;
     let done = exchange_at(machine, file, night, key, &mut locked.desk);
     drop(locked);

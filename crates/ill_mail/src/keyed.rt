@@ -3,6 +3,7 @@
 ghost use Rattle.std.specs.Prelude.{true, Some, is_some, option_map};
 ghost use Rattle.ill_mail.specs.Keyed.{WithKey};
 ghost use Rattle.ill_mail.specs.Nights.{ExchangesAtFile, InboxAtFile, OutboxAtFile, asked_night};
+ghost use Rattle.ill_place.specs.Place.{file_at};
 
 use crate::exchange::{exchange, inbox, outbox};
 use crate::outlet::Outlet;
@@ -23,7 +24,7 @@ pub fn inbox_with<T: LockFiles, W: Write, E: Write>(
     key_file: Option<&str>,
     incoming: &Incoming<'_, '_, '_>,
 ) -> Result<bool, ToolFault>
-    ensures { WithKey (option_map (λ file. file.now) key_file.entry) InboxAtFile (W.contents machine.old.writer)
+    ensures { WithKey (option_map (λ file. file.now) key_file.entry) (InboxAtFile (file_at file.now)) (W.contents machine.old.writer)
         (W.contents machine.new.writer) result }
 {
     match key_file {
@@ -39,7 +40,7 @@ fn inbox_sealed<T: LockFiles, W: Write, E: Write>(
     key_file: &str,
     incoming: &Incoming<'_, '_, '_>,
 ) -> Result<bool, ToolFault>
-    ensures { WithKey (Some key_file.now) InboxAtFile (W.contents machine.old.writer) (W.contents machine.new.writer) result }
+    ensures { WithKey (Some key_file.now) (InboxAtFile (file_at file.now)) (W.contents machine.old.writer) (W.contents machine.new.writer) result }
 {
     let key = read_key(machine.rt, key_file)?;
     let sealed = sealed_in(incoming.folder, incoming.stamp, &key);
@@ -68,7 +69,7 @@ pub fn outbox_with<T: LockFiles, W: Write, E: Write>(
     key_file: Option<&str>,
     folder: Option<&str>,
 ) -> Result<bool, ToolFault>
-    ensures { WithKey (option_map (λ file. file.now) key_file.entry) (OutboxAtFile (is_some folder.entry))
+    ensures { WithKey (option_map (λ file. file.now) key_file.entry) (OutboxAtFile (is_some folder.entry) (file_at file.now))
         (W.contents machine.old.writer) (W.contents machine.new.writer) result }
 {
     match (folder, key_file) {
@@ -85,7 +86,7 @@ fn outbox_sealed<T: LockFiles, W: Write, E: Write>(
     key_file: &str,
     folder: &str,
 ) -> Result<bool, ToolFault>
-    ensures { WithKey (Some key_file.now) (OutboxAtFile true) (W.contents machine.old.writer) (W.contents machine.new.writer)
+    ensures { WithKey (Some key_file.now) (OutboxAtFile true (file_at file.now)) (W.contents machine.old.writer) (W.contents machine.new.writer)
         result }
 {
     let key = read_key(machine.rt, key_file)?;
@@ -99,7 +100,7 @@ pub fn exchange_with<T: LockFiles, W: Write, E: Write>(
     key_file: Option<&str>,
     night: &Night<'_>,
 ) -> Result<bool, ToolFault>
-    ensures { WithKey (option_map (λ file. file.now) key_file.entry) (ExchangesAtFile (asked_night night.now))
+    ensures { WithKey (option_map (λ file. file.now) key_file.entry) (ExchangesAtFile (asked_night night.now) (file_at file.now))
         (W.contents machine.old.writer) (W.contents machine.new.writer) result }
 {
     match key_file {
@@ -115,7 +116,7 @@ fn exchange_sealed<T: LockFiles, W: Write, E: Write>(
     key_file: &str,
     night: &Night<'_>,
 ) -> Result<bool, ToolFault>
-    ensures { WithKey (Some key_file.now) (ExchangesAtFile (asked_night night.now)) (W.contents machine.old.writer)
+    ensures { WithKey (Some key_file.now) (ExchangesAtFile (asked_night night.now) (file_at file.now)) (W.contents machine.old.writer)
         (W.contents machine.new.writer) result }
 {
     let key = read_key(machine.rt, key_file)?;

@@ -6,14 +6,13 @@ use Rattle.ill_store.specs.Store.{FileStoreState}
 use Rattle.ill_saved.specs.Desk.{DeskOf}
 use Rattle.ill_saved.specs.ManySides.{DeskContents}
 use Rattle.ill_text.specs.declared.fault.ToolFault.{ToolFault}
-use Rattle.ill_text.specs.declared.form.Form.{Form}
 use Rattle.ill_files.specs.Opening.{FailsToOpen}
 use Rattle.ill_place.specs.Place.{OpensAt, PlaceOf, file_at}
 use Rattle.ill_files.specs.ShelfNames.{desk_path}
 use Rattle.ill_desk.specs.Performing.{command_state, view_of}
 use Rattle.ill_desk.specs.ActAs.{Asking}
 use Rattle.ill_show.specs.declared.loan.LoanForm.{LoanForm}
-use Rattle.ill_commands.specs.AtFile.{ActsOn, LoanAtFile, MessageOf, NewAtFile, ShowsFile, SlipAtFile}
+use Rattle.ill_commands.specs.AtFile.{ActsOn, LoanAtFile, MessageOf, NewAtFile, SlipAtFile}
 use Rattle.ill_commands.specs.Letters.{SendsWith}
 use Rattle.ill_commands.specs.Note.{NotesAtFile}
 
@@ -66,7 +65,3 @@ SlipAtHome folder txn before after result =
 -- A desk of `role` was begun, which is the own desk of a shelf. Or its file could not be opened.
 abbrev pub NewAtAnyFile : Role → Option (List ℕ) → Option (List ℕ) → Result Bool ToolFault → Type 0
 NewAtAnyFile role before after result = (path : List ℕ) × NewAtFile (file_at path) role before after result
-
--- The sides of a desk were written in this form. Or its file could not be opened.
-abbrev pub ShowsAnyFile : Form → Option (List ℕ) → Option (List ℕ) → Result Bool ToolFault → Type 0
-ShowsAnyFile form before after result = (path : List ℕ) × ShowsFile (file_at path) form before after result

@@ -2,6 +2,7 @@
 -- gives the name of its desk (this profile's own).
 use Rattle.std.specs.Prelude.{◌≡◌, ◌⊎◌, ℕ, ◌-◌, Bool, true, false, ◌&&◌, List, codes, Option, None, Some, is_some, Result, Ok}
 use Rattle.std.specs.Prelude.{Err}
+use Rattle.ill_store.specs.Store.{FileStoreState}
 use Rattle.ill_text.specs.declared.fault.ToolFault.{ToolFault}
 use Rattle.ill_text.specs.declared.fault.ToolFault.TheVariants.{Left}
 use Rattle.ill_text.specs.declared.form.Form.{Form}
@@ -10,11 +11,10 @@ use Rattle.ill_shelf.specs.declared.visit.Visit.{Visit}
 use Rattle.ill_shelf.specs.declared.visit.Visit.TheVariants as visits
 use Rattle.ill_der.specs.Handling.{Handles}
 use Rattle.ill_der.specs.ShortForm.{encoding}
-use Rattle.ill_commands.specs.AtFile.{TakesAtFile}
+use Rattle.ill_commands.specs.AtFile.{ShowsFile, TakesAtFile}
 use Rattle.ill_commands.specs.Streams.{Streams, streams_of}
 use Rattle.ill_files.specs.Opening.{FailsToOpen}
-use Rattle.ill_place.specs.Place.{file_at}
-use Rattle.ill_shelf.specs.Home.{ShowsAnyFile}
+use Rattle.ill_place.specs.Place.{PlaceOf, file_at}
 use Rattle.ill_mail.specs.Nights.{ExchangesAtFile, InboxAtFile, OutboxAtFile, asked_night}
 use Rattle.ill_text.specs.Input.{ReadsInput}
 use Rattle.ill_desk.specs.Take.{answer_of}
@@ -28,6 +28,10 @@ use Rattle.ill_sorting.specs.Opened.{opened_answer}
 
 -- ---- one desk after another
 
+-- The effect of a command at the desk of a place: its output goes from the first to the second, and it has this result.
+abbrev pub AtDesk : Type 1
+AtDesk = PlaceOf FileStoreState → Option (List ℕ) → Option (List ℕ) → Result Bool ToolFault → Type 0
+
 -- If the line of the path was written, the command ran at the desk. If it was not, its fault is the answer.
 abbrev pub RunsAfter : (Option (List ℕ) → Option (List ℕ) → Result Bool ToolFault → Type 0) → Result (Unit {0}) ToolFault →
     Option (List ℕ) → Option (List ℕ) → Result Bool ToolFault → Type 0
@@ -35,10 +39,11 @@ RunsAfter Runs (Ok done) between after answer = Runs between after answer
 RunsAfter Runs (Err fault) between after answer = (answer ≡ Err fault) × (after ≡ between)
 
 -- If `is_headed`, the line of the path was written first. Then the command ran at the desk.
-abbrev pub Headed : Bool → (Option (List ℕ) → Option (List ℕ) → Result Bool ToolFault → Type 0) → Stop → Type 0
+abbrev pub Headed : Bool → AtDesk → Stop → Type 0
 Headed is_headed Runs stop =
     (between : Option (List ℕ)) × (told : Result (Unit {0}) ToolFault)
-    × WritesText stop.before between (heading is_headed stop.path) told × RunsAfter Runs told between stop.after stop.answer
+    × WritesText stop.before between (heading is_headed stop.path) told
+    × RunsAfter (Runs (file_at stop.path)) told between stop.after stop.answer
 
 -- Returns true if the form is that of lines.
 abbrev pub is_lines : Form → Bool
@@ -54,15 +59,15 @@ is_headed (visits.Outbox outlet) = is_some outlet
 is_headed visit = true
 
 -- A visit has the effect of its command at one desk.
-abbrev pub RunsVisit : Visit → Option (List ℕ) → Option (List ℕ) → Result Bool ToolFault → Type 0
-RunsVisit (visits.Status form) = ShowsAnyFile form
+abbrev pub RunsVisit : Visit → AtDesk
+RunsVisit (visits.Status form) = λ place. ShowsFile place form
 RunsVisit (visits.Inbox folder) = InboxAtFile
 RunsVisit (visits.Outbox outlet) = OutboxAtFile (is_some outlet)
 RunsVisit (visits.Exchange night key) = ExchangesAtFile (asked_night night)
 
 -- The desks at `paths` were visited one after another, and `answer` is the gravest of their answers.
-abbrev pub VisitsAll : Bool → (Option (List ℕ) → Option (List ℕ) → Result Bool ToolFault → Type 0) → List (List ℕ) →
-    Option (List ℕ) → Option (List ℕ) → Result Bool ToolFault → Type 0
+abbrev pub VisitsAll : Bool → AtDesk → (paths : List (List ℕ)) → Option (List ℕ) → Option (List ℕ) →
+    Result Bool ToolFault → Type 0
 VisitsAll is_headed Runs paths before after answer =
     VisitsEach (λ is_first. Headed is_headed Runs) paths before after answer
 
@@ -74,8 +79,7 @@ IsFurther (Err fault) = IsFileFault fault
 
 -- The desks of a shelf were visited. The result is graver than their answers if mails wait that have no desk,
 -- or a file failed. Or the shelf could not be opened.
-abbrev pub VisitsShelf : Bool → (Option (List ℕ) → Option (List ℕ) → Result Bool ToolFault → Type 0) → Option (List ℕ) →
-    Option (List ℕ) → Result Bool ToolFault → Type 0
+abbrev pub VisitsShelf : Bool → AtDesk → Option (List ℕ) → Option (List ℕ) → Result Bool ToolFault → Type 0
 VisitsShelf is_headed Runs before after result =
     FailsToOpen before after result
     ⊎ ((paths : List (List ℕ)) × (answer further : Result Bool ToolFault) × VisitsAll is_headed Runs paths before after answer
@@ -85,16 +89,14 @@ VisitsShelf is_headed Runs before after result =
 
 -- The letters that had come to a shelf were opened, and then its desks were visited. The result is graver than that of the
 -- visits if a file waits, or was no letter. Or the shelf could not be opened, or no key could be used.
-abbrev pub OpensShelf : Bool → (Option (List ℕ) → Option (List ℕ) → Result Bool ToolFault → Type 0) → Option (List ℕ) →
-    Option (List ℕ) → Result Bool ToolFault → Type 0
+abbrev pub OpensShelf : Bool → AtDesk → Option (List ℕ) → Option (List ℕ) → Result Bool ToolFault → Type 0
 OpensShelf is_headed Runs before after result =
     FailsAtKey before after result
     ⊎ ((done : Result Bool ToolFault) × (is_waiting are_sealed : Bool) × VisitsShelf is_headed Runs before after done
     × (result ≡ graver done (opened_answer is_waiting are_sealed)))
 
 -- The desks of a shelf were visited. With a key, the letters that had come were opened before.
-abbrev pub VisitsWith : (key : Option (List ℕ)) → Bool →
-    (Option (List ℕ) → Option (List ℕ) → Result Bool ToolFault → Type 0) → Option (List ℕ) → Option (List ℕ) →
+abbrev pub VisitsWith : (key : Option (List ℕ)) → Bool → AtDesk → Option (List ℕ) → Option (List ℕ) →
     Result Bool ToolFault → Type 0
 VisitsWith None is_headed Runs before after result = VisitsShelf is_headed Runs before after result
 VisitsWith (Some key) is_headed Runs before after result = OpensShelf is_headed Runs before after result

@@ -1,12 +1,12 @@
 //! The commands on a shelf. In a transaction each does at the desk of its group as the command for one desk does.
 
 ghost use Rattle.std.specs.Prelude.{◌≡◌, true, is_some, option_map, string_bytes, IfErr, IfOk};
-ghost use Rattle.ill_commands.specs.AtFile.{message_of};
+ghost use Rattle.ill_commands.specs.AtFile.{ShowsFile, message_of};
 ghost use Rattle.ill_commands.specs.Note.{text_of};
 ghost use Rattle.ill_desk.specs.ActAs.{asking_of};
 ghost use Rattle.ill_place.specs.Place.{OpensAt, place_of};
 ghost use Rattle.ill_mail.specs.Nights.{ExchangesAtFile, InboxAtFile, OutboxAtFile, asked_night};
-ghost use Rattle.ill_shelf.specs.Home.{ActsAtHome, IsHome, LoanAtHome, NewAtAnyFile, NotesAtHome, SendsAtHome, ShowsAnyFile, SlipAtHome};
+ghost use Rattle.ill_shelf.specs.Home.{ActsAtHome, IsHome, LoanAtHome, NewAtAnyFile, NotesAtHome, SendsAtHome, SlipAtHome};
 ghost use Rattle.ill_shelf.specs.Shelf.{IsFurther, RetiresAtFile, VisitsShelf, is_lines, retired_line, told_with};
 ghost use Rattle.ill_text.specs.Fault.{IsOpenFault};
 
@@ -190,7 +190,8 @@ pub fn status_of_shelf<T: LockFiles, W: Write, E: Write>(
     folder: &str,
     form: Form,
 ) -> Result<bool, ToolFault>
-    ensures { VisitsShelf (is_lines form) (ShowsAnyFile form) (W.contents machine.old.writer) (W.contents machine.new.writer) result }
+    ensures { VisitsShelf (is_lines form) (λ place. ShowsFile place form) (W.contents machine.old.writer)
+        (W.contents machine.new.writer) result }
 {
     let shelf = Shelf::open(machine.rt, machine.alloc, folder)?;
     let desks = shelf.desks(machine.rt, machine.alloc)?;

@@ -3,6 +3,7 @@
 
 ghost use Rattle.std.specs.Prelude.{◌≡◌, map, string_bytes};
 ghost use Rattle.ill_rows.specs.Heading.{heading};
+ghost use Rattle.ill_place.specs.Place.{file_at};
 ghost use Rattle.ill_text.specs.Output.{WritesText};
 ghost use Rattle.ill_shelf.specs.Shelf.{Headed, RunsVisit, VisitsAll, is_headed, is_lines};
 ghost use Rattle.ill_text.specs.Visits.{graver};
@@ -117,7 +118,7 @@ fn visit_told<T: LockFiles, W: Write, E: Write>(
     path: &str,
     visit: &Visit<'_, '_, '_>,
 ) -> Result<bool, ToolFault>
-    ensures { RunsVisit visit.now (W.contents machine.old.writer) (W.contents machine.new.writer) result }
+    ensures { RunsVisit visit.now (file_at path.now) (W.contents machine.old.writer) (W.contents machine.new.writer) result }
 {
     let answer = run_visit(machine, path, visit);
     if let Err(fault) = answer
@@ -134,7 +135,7 @@ fn run_visit<T: LockFiles, W: Write, E: Write>(
     path: &str,
     visit: &Visit<'_, '_, '_>,
 ) -> Result<bool, ToolFault>
-    ensures { RunsVisit visit.now (W.contents machine.old.writer) (W.contents machine.new.writer) result }
+    ensures { RunsVisit visit.now (file_at path.now) (W.contents machine.old.writer) (W.contents machine.new.writer) result }
 {
     match visit {
         Visit::Status(form) => status(machine, path, *form),

@@ -1,1 +1,2 @@
 pub mod SimulateLemmas
+pub mod WordsLemmas

@@ -30,7 +30,7 @@ use Rattle.ill_visits.specs.Visits.{ReportsPaths}
 use Rattle.ill_mail.specs.Keyed.{WithKey}
 use Rattle.ill_mail.specs.Nights.{InboxAtFile, OutboxAtFile, ExchangesAtFile}
 use Rattle.ill_line.specs.Guard.{IsGuarded}
-use Rattle.ill_shelf.specs.Home.{ActsAtHome, LoanAtHome, NewAtAnyFile, NotesAtHome, SendsAtHome, ShowsAnyFile, SlipAtHome}
+use Rattle.ill_shelf.specs.Home.{ActsAtHome, LoanAtHome, NewAtAnyFile, NotesAtHome, SendsAtHome, SlipAtHome}
 use Rattle.ill_shelf.specs.Shelf.{is_lines, VisitsShelf, VisitsWith, RetiresAtFile, TakesAtShelf}
 
 -- A command has this result. The input went from `left` to `rest`, and the output from `before` to `after`.
@@ -48,11 +48,11 @@ Runs (asks.Act file asking by is_long is_new_group) left rest before after resul
 Runs (asks.Take file form stamp key) left rest before after result =
     TakesWith key (TakesAtFile (file_at file) form) (streams_of left before) result (streams_of rest after)
 Runs (asks.Inbox file folder stamp key) left rest before after result =
-    (rest ≡ left) × WithKey key InboxAtFile before after result
+    (rest ≡ left) × WithKey key (InboxAtFile (file_at file)) before after result
 Runs (asks.Outbox file folder key) left rest before after result =
-    (rest ≡ left) × WithKey key (OutboxAtFile (is_some folder)) before after result
+    (rest ≡ left) × WithKey key (OutboxAtFile (is_some folder) (file_at file)) before after result
 Runs (asks.Exchange file incoming outgoing form dates stamp copy beat key) left rest before after result =
-    (rest ≡ left) × WithKey key (ExchangesAtFile (record { form = form; dates = dates })) before after result
+    (rest ≡ left) × WithKey key (ExchangesAtFile (record { form = form; dates = dates }) (file_at file)) before after result
 Runs (asks.Key file deed) left rest before after result = RunsKey deed left rest before after result
 Runs (asks.Send file txn number key) left rest before after result =
     (rest ≡ left) × SendsWith (file_at file) key (message_of txn number) before after result
@@ -96,7 +96,7 @@ RunsShelf (asks.Note folder txn words) left rest before after result =
     (rest ≡ left) × NotesAtHome folder txn (note_text words) before after result
 RunsShelf (asks.Slip folder txn) left rest before after result = (rest ≡ left) × SlipAtHome folder txn before after result
 RunsShelf (asks.Status folder form) left rest before after result =
-    (rest ≡ left) × VisitsShelf (is_lines form) (ShowsAnyFile form) before after result
+    (rest ≡ left) × VisitsShelf (is_lines form) (λ place. ShowsFile place form) before after result
 RunsShelf (asks.Inbox folder incoming stamp key) left rest before after result =
     (rest ≡ left) × VisitsWith key true InboxAtFile before after result
 RunsShelf (asks.Outbox folder outgoing key) left rest before after result =

@@ -1,2 +1,3 @@
+pub mod DesksLemmas
 pub mod OpenLemmas
 pub mod ShelfNamesLemmas

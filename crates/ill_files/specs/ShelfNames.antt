@@ -1,5 +1,5 @@
 -- The names of the desks of a shelf.
-use Rattle.std.specs.Prelude.{◌≡◌, ◌⊎◌, ℕ, ◌-◌, List, ◌++◌, length, take, codes}
+use Rattle.std.specs.Prelude.{◌≡◌, ◌⊎◌, All, ℕ, ◌-◌, List, ◌++◌, length, take, codes}
 use Rattle.percent_encoding.specs.Percent.{percent_decode, percent_encode}
 use Rattle.ill_values.specs.Text.{IsQualifier}
 use Rattle.ill_record.specs.declared.role.Role.{Role}
@@ -26,3 +26,15 @@ IsDeskName role name = (group : List ℕ) × IsQualifier group × (name ≡ desk
 -- `name` is the name of the own desk of a shelf, or of the desk of a group.
 abbrev pub IsNamedOnShelf : List ℕ → Type 0
 IsNamedOnShelf name = (name ≡ codes ".shelf") ⊎ (IsDeskName Requester name ⊎ IsDeskName Responder name)
+
+-- Each of `names` is the name of the desk of a group.
+abbrev pub AreDeskNames : Role → (names : List (List ℕ)) → Type 0
+AreDeskNames role names = All (IsDeskName role) names
+
+-- `path` is that of a desk of the shelf in `folder`: its own desk, or that of a group.
+abbrev pub IsOnShelf : (folder path : List ℕ) → Type 0
+IsOnShelf folder path = (name : List ℕ) × IsNamedOnShelf name × (path ≡ folder ++ (codes "/" ++ name))
+
+-- Each of `paths` is that of a desk of the shelf in `folder`.
+abbrev pub AreOnShelf : (folder : List ℕ) → (paths : List (List ℕ)) → Type 0
+AreOnShelf folder paths = All (IsOnShelf folder) paths

@@ -1,8 +1,8 @@
 //! A shelf: a folder of desks of one role, one for each group of transactions. The group of a transaction names its
 //! desk.
 
-ghost use Rattle.std.specs.Prelude.{Decides, IfOk, ◌≡◌, ℕ, List, IfErr, string_bytes};
-ghost use Rattle.ill_files.specs.ShelfNames.{IsNamedOnShelf, IsDeskName, desk_name, desk_path, group_in};
+ghost use Rattle.std.specs.Prelude.{Decides, IfOk, IfSome, OnOk, ◌≡◌, ◌++◌, codes, map, ℕ, List, IfErr, string_bytes};
+ghost use Rattle.ill_files.specs.ShelfNames.{AreDeskNames, AreOnShelf, IsNamedOnShelf, IsDeskName, IsOnShelf, desk_name, desk_path, group_in};
 ghost use Rattle.ill_values.specs.Text.{IsQualifier};
 ghost use Rattle.ill_record.specs.declared.role.Role.{Role};
 ghost use Rattle.ill_text.specs.Fault.{IsOpenFault};
@@ -61,7 +61,8 @@ pub struct Shelf<'a> {
 impl<'a> Shelf<'a> {
     /// Opens the shelf in `folder`.
     pub fn open<T: Files>(rt: &T, alloc: Global, folder: &'a str) -> Result<Shelf<'a>, ToolFault>
-        ensures { IfErr result IsOpenFault }
+        ensures folder { IfOk result (λ shelf. shelf.folder.now ≡ folder.now) }
+        ensures faults { IfErr result IsOpenFault }
     {
         if folder.is_empty() {
             return Err(STORE_FAILED);
@@ -78,14 +79,13 @@ impl<'a> Shelf<'a> {
         ensures { IfOk result (λ path. string_bytes path ≡ desk_path self.now.folder.now self.now.role group.now) }
     {
         let name = desk_name(alloc, self.role, group)?;
-        let mut path = String::from_str(alloc, self.folder)?;
-        path.push_str("/")?;
-        path.push_str(name.as_str())?;
-        Ok(path)
+        on_shelf(alloc, self.folder, name.as_str())
     }
 
     /// Returns the path of the shelf's own desk.
-    pub fn own_desk(&self, alloc: Global) -> Result<String, OutOfMemory> {
+    pub fn own_desk(&self, alloc: Global) -> Result<String, OutOfMemory>
+        ensures { IfOk result (λ path. IsOnShelf self.now.folder.now (string_bytes path)) }
+    {
         own_path(alloc, self.folder)
     }
 
@@ -96,15 +96,28 @@ impl<'a> Shelf<'a> {
 
     /// Returns the paths of the desks of all groups that are not retired, in the order of their names.
     pub fn desks<T: Files>(&self, rt: &T, alloc: Global) -> Result<Vec<String>, ToolFault>
-        ensures { IfErr result IsOpenFault }
+        ensures on_shelf { IfOk result (λ desks. AreOnShelf self.now.folder.now (map (λ path. string_bytes path) desks.items)) }
+        ensures faults { IfErr result IsOpenFault }
     {
         Ok(desks_in(rt, alloc, self.folder, self.role)?)
     }
 }
 
 /// Returns the path of the own desk of the shelf in `folder`.
-pub fn own_path(alloc: Global, folder: &str) -> Result<String, OutOfMemory> {
-    Ok(format!(in alloc; "{folder}/{OWN}")?)
+pub fn own_path(alloc: Global, folder: &str) -> Result<String, OutOfMemory>
+    ensures { IfOk result (λ path. IsOnShelf folder.now (string_bytes path)) }
+{
+    on_shelf(alloc, folder, OWN)
+}
+
+/// Returns the path of the file `name` in `folder`.
+fn on_shelf(alloc: Global, folder: &str, name: &str) -> Result<String, OutOfMemory>
+    ensures { IfOk result (λ path. string_bytes path ≡ folder.now ++ (codes "/" ++ name.now)) }
+{
+    let mut path = String::from_str(alloc, folder)?;
+    path.push_str("/")?;
+    path.push_str(name)?;
+    Ok(path)
 }
 
 /// Returns true if there is a shelf in `folder`.
@@ -115,15 +128,35 @@ pub fn is_shelf<T: Files>(rt: &T, alloc: Global, folder: &str) -> io::Result<boo
 
 /// Returns the paths of the desks of `role` in `folder`, in the order of their names. The desks of retired groups are
 /// left out.
-fn desks_in<T: Files>(rt: &T, alloc: Global, folder: &str, role: Role) -> io::Result<Vec<String>> {
+fn desks_in<T: Files>(rt: &T, alloc: Global, folder: &str, role: Role) -> io::Result<Vec<String>>
+    ensures { IfOk result (λ desks. AreOnShelf folder.now (map (λ path. string_bytes path) desks.items)) }
+{
     let mut desks = Vec::new(alloc);
-    for name in names_of_desks(rt, alloc, folder, role, "")? {
-        let path = format!(in alloc; "{folder}/{name}")?;
-        if !is_retired(rt, alloc, path.as_str())? {
-            desks.push(path)?;
-        }
+    let names = names_of_desks(rt, alloc, folder, role, "")?;
+    for name in &names {
+        push_unless_retired(&mut desks, rt, folder, name.as_str())?;
     }
     Ok(desks)
+}
+
+/// Appends the path of the desk `name` in `folder` to `desks`, unless its group is retired.
+#[tactic(auto, using(crate::proofs::DesksLemmas::one_more))]
+fn push_unless_retired<T: Files>(
+    desks: &mut Vec<String>,
+    rt: &T,
+    folder: &str,
+    name: &str,
+) -> io::Result<()>
+    ensures { OnOk result (IsNamedOnShelf name.now → AreOnShelf folder.now (map (λ path. string_bytes path) desks.old.items)
+        → AreOnShelf folder.now (map (λ path. string_bytes path) desks.new.items)) }
+{
+    let alloc = *desks.allocator();
+    let path = on_shelf(alloc, folder, name)?;
+    if is_retired(rt, alloc, path.as_str())? {
+        return Ok(());
+    }
+    desks.push(path)?;
+    Ok(())
 }
 
 /// Returns the names of the desks of `role` in `folder`, in their order. A file there has the name and then `ending`.
@@ -133,19 +166,54 @@ pub fn names_of_desks<T: Files>(
     folder: &str,
     role: Role,
     ending: &str,
-) -> io::Result<Vec<String>> {
+) -> io::Result<Vec<String>>
+    ensures { IfOk result (λ names. AreDeskNames role (map (λ name. string_bytes name) names.items)) }
+{
     let mut names = raw_names(rt, alloc, folder)?;
     names.sort()?;
     let mut desks = Vec::new(alloc);
     for name in &names {
-        if let Ok(name) = str::from_utf8(name)
-            && let Some(desk) = name.strip_suffix(ending)
-            && is_desk_name(alloc, role, desk)?
-        {
-            desks.push(String::from_str(alloc, desk)?)?;
-        }
+        push_desk(&mut desks, role, name, ending)?;
     }
     Ok(desks)
+}
+
+/// Appends the text before `ending` in `name` to `desks`, if it is the name of a desk of `role`.
+#[tactic(auto, using(crate::proofs::DesksLemmas::one_more))]
+fn push_desk(desks: &mut Vec<String>, role: Role, name: &[u8], ending: &str) -> io::Result<()>
+    ensures { OnOk result (AreDeskNames role (map (λ name. string_bytes name) desks.old.items)
+        → AreDeskNames role (map (λ name. string_bytes name) desks.new.items)) }
+{
+    let alloc = *desks.allocator();
+    match desk_in(alloc, role, name, ending)? {
+        Some(desk) => {
+            desks.push(String::from_str(alloc, desk)?)?;
+            Ok(())
+        }
+        None => Ok(()),
+    }
+}
+
+/// Returns the text before `ending` in `name`, if it is the name of a desk of `role`.
+fn desk_in<'a>(
+    alloc: Global,
+    role: Role,
+    name: &'a [u8],
+    ending: &str,
+) -> Result<Option<&'a str>, OutOfMemory>
+    ensures { IfOk result (λ desk. IfSome desk (λ desk. IsDeskName role desk.now)) }
+{
+    let Ok(name) = str::from_utf8(name) else {
+        return Ok(None);
+    };
+    let Some(desk) = name.strip_suffix(ending) else {
+        return Ok(None);
+    };
+    if is_desk_name(alloc, role, desk)? {
+        Ok(Some(desk))
+    } else {
+        Ok(None)
+    }
 }
 
 /// Returns true if `name` is the name of the desk of a group.

@@ -5,10 +5,11 @@ use Rattle.ill_text.specs.declared.fault.ToolFault.{ToolFault}
 use Rattle.ill_text.specs.declared.fault.ToolFault.TheVariants as faults
 use Rattle.ill_text.specs.Fault.{IsOpenFault}
 use Rattle.ill_text.specs.Input.{ReadsInput}
+use Rattle.ill_text.specs.Visits.{Stop}
 use Rattle.ill_text.proofs.InputLemmas.{reads_on_views}
 use Rattle.ill_night.specs.Retire.{Retires}
 use Rattle.ill_key.specs.KeyCommand.{IsKeyFault}
-use Rattle.ill_shelf.specs.Shelf.{AtDesk, OpensShelf, ShelfTaking, TakesAtHome}
+use Rattle.ill_shelf.specs.Shelf.{OpensShelf, ShelfTaking, TakesAtHome}
 
 -- If an input is read by `TakesAtHome` of views of states, `TakesAtHome` reads it from view to view.
 pub taken_home : {S : Type 0} (view : S → ShelfTaking) (left rest : Option (List ℕ)) (before after : S)
@@ -37,11 +38,11 @@ retire_faults sides old new (Err faults.Read) retires = absurd retires.1
 retire_faults sides old new (Err faults.Write) retires = absurd retires.1
 
 -- If a shelf with a key is not opened, nothing was written, and its fault is the answer.
-pub not_opened : (is_headed : Bool) (Runs : AtDesk)
-    (written : Option (List ℕ)) (fault : ToolFault) → IsOpenFault fault → OpensShelf is_headed Runs written written (Err fault)
-not_opened is_headed Runs written fault opens = inl (inr opens, refl)
+pub not_opened : (folder : List ℕ) (Visits : Stop → Type 0) (written : Option (List ℕ)) (fault : ToolFault) → IsOpenFault fault
+    → OpensShelf folder Visits written written (Err fault)
+not_opened folder Visits written fault opens = inl (inr opens, refl)
 
 -- If no key can be used, nothing was written, and its fault is the answer.
-pub no_key : (is_headed : Bool) (Runs : AtDesk)
-    (written : Option (List ℕ)) (fault : ToolFault) → IsKeyFault fault → OpensShelf is_headed Runs written written (Err fault)
-no_key is_headed Runs written fault is_key = inl (is_key, refl)
+pub no_key : (folder : List ℕ) (Visits : Stop → Type 0) (written : Option (List ℕ)) (fault : ToolFault) → IsKeyFault fault
+    → OpensShelf folder Visits written written (Err fault)
+no_key folder Visits written fault is_key = inl (is_key, refl)

@@ -1,6 +1,6 @@
 -- A shelf: a folder of desks of one role, one for each group of transactions. The group of a transaction
 -- gives the name of its desk (this profile's own).
-use Rattle.std.specs.Prelude.{◌≡◌, ◌⊎◌, ℕ, ◌-◌, Bool, true, false, ◌&&◌, List, codes, Option, None, Some, is_some, Result, Ok}
+use Rattle.std.specs.Prelude.{◌≡◌, ◌⊎◌, ℕ, Bool, true, false, ◌&&◌, List, codes, Option, None, Some, is_some, Result, Ok}
 use Rattle.std.specs.Prelude.{Err}
 use Rattle.ill_store.specs.Store.{FileStoreState}
 use Rattle.ill_text.specs.declared.fault.ToolFault.{ToolFault}
@@ -14,6 +14,7 @@ use Rattle.ill_der.specs.ShortForm.{encoding}
 use Rattle.ill_commands.specs.AtFile.{ShowsFile, TakesAtFile}
 use Rattle.ill_commands.specs.Streams.{Streams, streams_of}
 use Rattle.ill_files.specs.Opening.{FailsToOpen}
+use Rattle.ill_files.specs.ShelfNames.{AreOnShelf}
 use Rattle.ill_place.specs.Place.{PlaceOf, file_at}
 use Rattle.ill_mail.specs.Nights.{ExchangesAtFile, InboxAtFile, OutboxAtFile, asked_night}
 use Rattle.ill_text.specs.Input.{ReadsInput}
@@ -66,10 +67,9 @@ RunsVisit (visits.Outbox outlet) = OutboxAtFile (is_some outlet)
 RunsVisit (visits.Exchange night key) = ExchangesAtFile (asked_night night)
 
 -- The desks at `paths` were visited one after another, and `answer` is the gravest of their answers.
-abbrev pub VisitsAll : Bool → AtDesk → (paths : List (List ℕ)) → Option (List ℕ) → Option (List ℕ) →
+abbrev pub VisitsAll : (Visits : Stop → Type 0) → (paths : List (List ℕ)) → Option (List ℕ) → Option (List ℕ) →
     Result Bool ToolFault → Type 0
-VisitsAll is_headed Runs paths before after answer =
-    VisitsEach (λ is_first. Headed is_headed Runs) paths before after answer
+VisitsAll Visits paths before after answer = VisitsEach (λ is_first. Visits) paths before after answer
 
 -- The result is that all is well, that mails without a desk wait, or that a file failed.
 abbrev pub IsFurther : Result Bool ToolFault → Type 0
@@ -77,29 +77,31 @@ IsFurther (Ok is_well) = is_well ≡ true
 IsFurther (Err Left) = Unit {0}
 IsFurther (Err fault) = IsFileFault fault
 
--- The desks of a shelf were visited. The result is graver than their answers if mails wait that have no desk,
--- or a file failed. Or the shelf could not be opened.
-abbrev pub VisitsShelf : Bool → AtDesk → Option (List ℕ) → Option (List ℕ) → Result Bool ToolFault → Type 0
-VisitsShelf is_headed Runs before after result =
+-- Desks of the shelf in `folder` were visited. The result is graver than their answers if mails wait that have no desk, or
+-- a file failed. Or the shelf could not be opened.
+abbrev pub VisitsShelf : (folder : List ℕ) → (Visits : Stop → Type 0) → Option (List ℕ) → Option (List ℕ) →
+    Result Bool ToolFault → Type 0
+VisitsShelf folder Visits before after result =
     FailsToOpen before after result
-    ⊎ ((paths : List (List ℕ)) × (answer further : Result Bool ToolFault) × VisitsAll is_headed Runs paths before after answer
-    × IsFurther further × (result ≡ graver answer further))
+    ⊎ ((paths : List (List ℕ)) × (answer further : Result Bool ToolFault) × AreOnShelf folder paths
+    × VisitsAll Visits paths before after answer × IsFurther further × (result ≡ graver answer further))
 
 -- ---- letters
 
--- The letters that had come to a shelf were opened, and then its desks were visited. The result is graver than that of the
--- visits if a file waits, or was no letter. Or the shelf could not be opened, or no key could be used.
-abbrev pub OpensShelf : Bool → AtDesk → Option (List ℕ) → Option (List ℕ) → Result Bool ToolFault → Type 0
-OpensShelf is_headed Runs before after result =
+-- The letters that had come to the shelf in `folder` were opened, and then its desks were visited. The result is graver than
+-- that of the visits if a file waits, or was no letter. Or the shelf could not be opened, or no key could be used.
+abbrev pub OpensShelf : (folder : List ℕ) → (Visits : Stop → Type 0) → Option (List ℕ) → Option (List ℕ) →
+    Result Bool ToolFault → Type 0
+OpensShelf folder Visits before after result =
     FailsAtKey before after result
-    ⊎ ((done : Result Bool ToolFault) × (is_waiting are_sealed : Bool) × VisitsShelf is_headed Runs before after done
+    ⊎ ((done : Result Bool ToolFault) × (is_waiting are_sealed : Bool) × VisitsShelf folder Visits before after done
     × (result ≡ graver done (opened_answer is_waiting are_sealed)))
 
--- The desks of a shelf were visited. With a key, the letters that had come were opened before.
-abbrev pub VisitsWith : (key : Option (List ℕ)) → Bool → AtDesk → Option (List ℕ) → Option (List ℕ) →
-    Result Bool ToolFault → Type 0
-VisitsWith None is_headed Runs before after result = VisitsShelf is_headed Runs before after result
-VisitsWith (Some key) is_headed Runs before after result = OpensShelf is_headed Runs before after result
+-- Desks of the shelf in `folder` were visited. With a key, the letters that had come were opened before.
+abbrev pub VisitsWith : (key : Option (List ℕ)) → (folder : List ℕ) → (Visits : Stop → Type 0) → Option (List ℕ) →
+    Option (List ℕ) → Result Bool ToolFault → Type 0
+VisitsWith None folder Visits before after result = VisitsShelf folder Visits before after result
+VisitsWith (Some key) folder Visits before after result = OpensShelf folder Visits before after result
 
 -- ---- retired groups
 

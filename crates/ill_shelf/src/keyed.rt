@@ -3,7 +3,7 @@
 ghost use Rattle.std.specs.Prelude.{true, Some, is_some, option_map};
 ghost use Rattle.ill_mail.specs.Keyed.{WithKey};
 ghost use Rattle.ill_mail.specs.Nights.{ExchangesAtFile, InboxAtFile, OutboxAtFile, asked_night};
-ghost use Rattle.ill_shelf.specs.Shelf.{OpensShelf, VisitsShelf, VisitsWith, is_lines};
+ghost use Rattle.ill_shelf.specs.Shelf.{Headed, OpensShelf, VisitsShelf, VisitsWith, is_lines};
 
 use crate::on_shelf::{
     Way, exchange_at_desks, exchange_of_shelf, inbox_of_shelf, look_at_shelf, outbox_of_shelf,
@@ -28,8 +28,8 @@ pub fn inbox_of_shelf_with<T: LockFiles, W: Write, E: Write>(
     key_file: Option<&str>,
     incoming: &Incoming<'_, '_, '_>,
 ) -> Result<bool, ToolFault>
-    ensures { VisitsWith (option_map (λ file. file.now) key_file.entry) true InboxAtFile (W.contents machine.old.writer)
-        (W.contents machine.new.writer) result }
+    ensures { VisitsWith (option_map (λ file. file.now) key_file.entry) folder.now (Headed true InboxAtFile)
+        (W.contents machine.old.writer) (W.contents machine.new.writer) result }
 {
     match key_file {
         Some(key_file) => inbox_sealed(machine, folder, key_file, incoming),
@@ -45,7 +45,8 @@ fn inbox_sealed<T: LockFiles, W: Write, E: Write>(
     key_file: &str,
     incoming: &Incoming<'_, '_, '_>,
 ) -> Result<bool, ToolFault>
-    ensures { OpensShelf true InboxAtFile (W.contents machine.old.writer) (W.contents machine.new.writer) result }
+    ensures { OpensShelf folder.now (Headed true InboxAtFile)
+        (W.contents machine.old.writer) (W.contents machine.new.writer) result }
 {
     let key = read_key(machine.rt, key_file)?;
     let shelf = Shelf::open(machine.rt, machine.alloc, folder)?;
@@ -80,8 +81,8 @@ pub fn outbox_of_shelf_with<T: LockFiles, W: Write, E: Write>(
     outgoing: Option<&str>,
 ) -> Result<bool, ToolFault>
     ensures { WithKey (option_map (λ file. file.now) key_file.entry)
-        (VisitsShelf (is_some outgoing.entry) (OutboxAtFile (is_some outgoing.entry))) (W.contents machine.old.writer)
-        (W.contents machine.new.writer) result }
+        (VisitsShelf folder.now (Headed (is_some outgoing.entry) (OutboxAtFile (is_some outgoing.entry))))
+        (W.contents machine.old.writer) (W.contents machine.new.writer) result }
 {
     match (outgoing, key_file) {
         (Some(out), Some(key_file)) => outbox_sealed(machine, folder, key_file, out),
@@ -98,8 +99,8 @@ fn outbox_sealed<T: LockFiles, W: Write, E: Write>(
     key_file: &str,
     out: &str,
 ) -> Result<bool, ToolFault>
-    ensures { WithKey (Some key_file.now) (VisitsShelf true (OutboxAtFile true)) (W.contents machine.old.writer)
-        (W.contents machine.new.writer) result }
+    ensures { WithKey (Some key_file.now) (VisitsShelf folder.now (Headed true (OutboxAtFile true)))
+        (W.contents machine.old.writer) (W.contents machine.new.writer) result }
 {
     let key = read_key(machine.rt, key_file)?;
     outbox_of_shelf(machine, folder, Some(Outlet::sealed(out, &key)))
@@ -113,7 +114,8 @@ pub fn exchange_of_shelf_with<T: LockFiles, W: Write, E: Write>(
     key_file: Option<&str>,
     night: &Night<'_>,
 ) -> Result<bool, ToolFault>
-    ensures { VisitsWith (option_map (λ file. file.now) key_file.entry) (is_lines night.now.form) (ExchangesAtFile (asked_night night.now))
+    ensures { VisitsWith (option_map (λ file. file.now) key_file.entry) folder.now
+        (Headed (is_lines night.now.form) (ExchangesAtFile (asked_night night.now)))
         (W.contents machine.old.writer) (W.contents machine.new.writer) result }
 {
     match key_file {
@@ -130,8 +132,8 @@ fn exchange_sealed<T: LockFiles, W: Write, E: Write>(
     key_file: &str,
     night: &Night<'_>,
 ) -> Result<bool, ToolFault>
-    ensures { OpensShelf (is_lines night.now.form) (ExchangesAtFile (asked_night night.now)) (W.contents machine.old.writer)
-        (W.contents machine.new.writer) result }
+    ensures { OpensShelf folder.now (Headed (is_lines night.now.form) (ExchangesAtFile (asked_night night.now)))
+        (W.contents machine.old.writer) (W.contents machine.new.writer) result }
 {
     let key = read_key(machine.rt, key_file)?;
     let shelf = look_at_shelf(machine, folder, night)?;

@@ -1,13 +1,14 @@
 //! The commands on a shelf. In a transaction each does at the desk of its group as the command for one desk does.
 
-ghost use Rattle.std.specs.Prelude.{◌≡◌, true, is_some, option_map, string_bytes, IfErr, IfOk};
+ghost use Rattle.std.specs.Prelude.{◌≡◌, true, is_some, map, option_map, string_bytes, IfErr, IfOk};
+ghost use Rattle.ill_files.specs.ShelfNames.{AreOnShelf};
 ghost use Rattle.ill_commands.specs.AtFile.{ShowsFile, message_of};
 ghost use Rattle.ill_commands.specs.Note.{text_of};
 ghost use Rattle.ill_desk.specs.ActAs.{asking_of};
 ghost use Rattle.ill_place.specs.Place.{OpensAt, place_of};
 ghost use Rattle.ill_mail.specs.Nights.{ExchangesAtFile, InboxAtFile, OutboxAtFile, asked_night};
 ghost use Rattle.ill_shelf.specs.Home.{ActsAtHome, IsHome, LoanAtHome, NewAtAnyFile, NotesAtHome, SendsAtHome, SlipAtHome};
-ghost use Rattle.ill_shelf.specs.Shelf.{IsFurther, RetiresAtFile, VisitsShelf, is_lines, retired_line, told_with};
+ghost use Rattle.ill_shelf.specs.Shelf.{Headed, IsFurther, RetiresAtFile, VisitsShelf, is_lines, retired_line, told_with};
 ghost use Rattle.ill_text.specs.Fault.{IsOpenFault};
 
 use crate::visit::{Visit, visit_all};
@@ -83,7 +84,7 @@ pub fn act_on_shelf<T: LockFiles, W: Write, E: Write>(
     ensures { ActsAtHome folder.now (asking_of view.now) is_long (W.contents machine.old.writer)
         (W.contents machine.new.writer) result }
 {
-    let shelf = open_shelf(machine.rt, machine.alloc, folder)?;
+    let shelf = Shelf::open(machine.rt, machine.alloc, folder)?;
     let file = shelf.desk_of(machine.alloc, view.txn.group())?;
     let role = if is_new_group { Some(shelf.role) } else { None };
     let place = DeskPlace {
@@ -169,19 +170,10 @@ fn home_of<T: Files>(rt: &T, alloc: Global, folder: &str, txn: &TxnId) -> Result
     ensures home { IfOk result (λ path. IsHome folder.now txn.now.group (string_bytes path)) }
     ensures faults { IfErr result IsOpenFault }
 {
-    let shelf = open_shelf(rt, alloc, folder)?;
+    let shelf = Shelf::open(rt, alloc, folder)?;
     let file = shelf.desk_of(alloc, txn.group())?;
     refuse_retired(rt, alloc, file.as_str())?;
     Ok(file)
-}
-
-/// Opens the shelf in `folder`.
-fn open_shelf<'a, T: Files>(rt: &T, alloc: Global, folder: &'a str) -> Result<Shelf<'a>, ToolFault>
-    ensures folder { IfOk result (λ shelf. shelf.folder.now ≡ folder.now) }
-    ensures faults { IfErr result IsOpenFault }
-{
-    let role = Shelf::open(rt, alloc, folder)?.role;
-    Ok(Shelf { folder, role })
 }
 
 /// `ill shelf status`: shows the sides of each desk.
@@ -190,8 +182,8 @@ pub fn status_of_shelf<T: LockFiles, W: Write, E: Write>(
     folder: &str,
     form: Form,
 ) -> Result<bool, ToolFault>
-    ensures { VisitsShelf (is_lines form) (λ place. ShowsFile place form) (W.contents machine.old.writer)
-        (W.contents machine.new.writer) result }
+    ensures { VisitsShelf folder.now (Headed (is_lines form) (λ place. ShowsFile place form))
+        (W.contents machine.old.writer) (W.contents machine.new.writer) result }
 {
     let shelf = Shelf::open(machine.rt, machine.alloc, folder)?;
     let desks = shelf.desks(machine.rt, machine.alloc)?;
@@ -205,8 +197,8 @@ pub fn outbox_of_shelf<T: LockFiles, W: Write, E: Write>(
     folder: &str,
     outlet: Option<Outlet<'_>>,
 ) -> Result<bool, ToolFault>
-    ensures { VisitsShelf (is_some outlet.entry) (OutboxAtFile (is_some outlet.entry)) (W.contents machine.old.writer)
-        (W.contents machine.new.writer) result }
+    ensures { VisitsShelf folder.now (Headed (is_some outlet.entry) (OutboxAtFile (is_some outlet.entry)))
+        (W.contents machine.old.writer) (W.contents machine.new.writer) result }
 {
     let shelf = Shelf::open(machine.rt, machine.alloc, folder)?;
     let desks = shelf.desks(machine.rt, machine.alloc)?;
@@ -238,7 +230,8 @@ pub fn inbox_of_shelf<T: LockFiles, W: Write, E: Write>(
     folder: &str,
     incoming: Incoming<'_, '_, '_>,
 ) -> Result<bool, ToolFault>
-    ensures { VisitsShelf true InboxAtFile (W.contents machine.old.writer) (W.contents machine.new.writer) result }
+    ensures { VisitsShelf folder.now (Headed true InboxAtFile)
+        (W.contents machine.old.writer) (W.contents machine.new.writer) result }
 {
     let shelf = Shelf::open(machine.rt, machine.alloc, folder)?;
     take_at_desks(machine, &shelf, incoming, false)
@@ -252,7 +245,8 @@ pub(crate) fn take_at_desks<T: LockFiles, W: Write, E: Write>(
     incoming: Incoming<'_, '_, '_>,
     is_own: bool,
 ) -> Result<bool, ToolFault>
-    ensures { VisitsShelf true InboxAtFile (W.contents machine.old.writer) (W.contents machine.new.writer) result }
+    ensures { VisitsShelf shelf.now.folder.now (Headed true InboxAtFile)
+        (W.contents machine.old.writer) (W.contents machine.new.writer) result }
 {
     let from = MailsFrom {
         folder: incoming.folder,
@@ -270,7 +264,8 @@ fn desks_and_own<T: Files>(
     alloc: Global,
     shelf: &Shelf<'_>,
 ) -> Result<Vec<String>, ToolFault>
-    ensures { IfErr result IsOpenFault }
+    ensures on_shelf { IfOk result (λ desks. AreOnShelf shelf.now.folder.now (map (λ path. string_bytes path) desks.items)) }
+    ensures faults { IfErr result IsOpenFault }
 {
     let mut desks = shelf.desks(rt, alloc)?;
     desks.push(shelf.own_desk(alloc)?)?;
@@ -294,8 +289,8 @@ pub fn exchange_of_shelf<T: LockFiles, W: Write, E: Write>(
     folder: &str,
     night: &Night<'_>,
 ) -> Result<bool, ToolFault>
-    ensures { VisitsShelf (is_lines night.now.form) (ExchangesAtFile (asked_night night.now)) (W.contents machine.old.writer)
-        (W.contents machine.new.writer) result }
+    ensures { VisitsShelf folder.now (Headed (is_lines night.now.form) (ExchangesAtFile (asked_night night.now)))
+        (W.contents machine.old.writer) (W.contents machine.new.writer) result }
 {
     let shelf = look_at_shelf(machine, folder, night)?;
     let way = Way {
@@ -311,6 +306,7 @@ pub(crate) fn look_at_shelf<'a, T: LockFiles, W: Write, E: Write>(
     folder: &'a str,
     night: &Night<'_>,
 ) -> Result<Shelf<'a>, ToolFault>
+    ensures folder { IfOk result (λ shelf. shelf.folder.now ≡ folder.now) }
     ensures faults { IfErr result IsOpenFault }
     ensures silent { machine.new.writer ≡ machine.old.writer }
 {
@@ -351,8 +347,8 @@ pub(crate) fn exchange_at_desks<T: LockFiles, W: Write, E: Write>(
     night: &Night<'_>,
     way: Way<'_>,
 ) -> Result<bool, ToolFault>
-    ensures { VisitsShelf (is_lines night.now.form) (ExchangesAtFile (asked_night night.now)) (W.contents machine.old.writer)
-        (W.contents machine.new.writer) result }
+    ensures { VisitsShelf shelf.now.folder.now (Headed (is_lines night.now.form) (ExchangesAtFile (asked_night night.now)))
+        (W.contents machine.old.writer) (W.contents machine.new.writer) result }
 {
     let from = MailsFrom {
         folder: way.incoming,

@@ -42,7 +42,7 @@ pub(crate) fn visit_all<T: LockFiles, W: Write, E: Write>(
     paths: &[String],
     visit: &Visit<'_, '_, '_>,
 ) -> Result<bool, ToolFault>
-    ensures { VisitsAll (is_headed visit.now) (RunsVisit visit.now) (map (λ path. string_bytes path) paths.now)
+    ensures { VisitsAll (Headed (is_headed visit.now) (RunsVisit visit.now)) (map (λ path. string_bytes path) paths.now)
         (W.contents machine.old.writer) (W.contents machine.new.writer) result }
 {
     let mut answer = Ok(true);

@@ -31,7 +31,7 @@ use Rattle.ill_mail.specs.Keyed.{WithKey}
 use Rattle.ill_mail.specs.Nights.{InboxAtFile, OutboxAtFile, ExchangesAtFile}
 use Rattle.ill_line.specs.Guard.{IsGuarded}
 use Rattle.ill_shelf.specs.Home.{ActsAtHome, LoanAtHome, NewAtAnyFile, NotesAtHome, SendsAtHome, SlipAtHome}
-use Rattle.ill_shelf.specs.Shelf.{is_lines, VisitsShelf, VisitsWith, RetiresAtFile, TakesAtShelf}
+use Rattle.ill_shelf.specs.Shelf.{Headed, RetiresAtFile, TakesAtShelf, VisitsShelf, VisitsWith, is_lines}
 
 -- A command has this result. The input went from `left` to `rest`, and the output from `before` to `after`.
 -- Only a shelf retires a group.
@@ -96,13 +96,15 @@ RunsShelf (asks.Note folder txn words) left rest before after result =
     (rest ≡ left) × NotesAtHome folder txn (note_text words) before after result
 RunsShelf (asks.Slip folder txn) left rest before after result = (rest ≡ left) × SlipAtHome folder txn before after result
 RunsShelf (asks.Status folder form) left rest before after result =
-    (rest ≡ left) × VisitsShelf (is_lines form) (λ place. ShowsFile place form) before after result
+    (rest ≡ left) × VisitsShelf folder (Headed (is_lines form) (λ place. ShowsFile place form)) before after result
 RunsShelf (asks.Inbox folder incoming stamp key) left rest before after result =
-    (rest ≡ left) × VisitsWith key true InboxAtFile before after result
+    (rest ≡ left) × VisitsWith key folder (Headed true InboxAtFile) before after result
 RunsShelf (asks.Outbox folder outgoing key) left rest before after result =
-    (rest ≡ left) × WithKey key (VisitsShelf (is_some outgoing) (OutboxAtFile (is_some outgoing))) before after result
+    (rest ≡ left)
+    × WithKey key (VisitsShelf folder (Headed (is_some outgoing) (OutboxAtFile (is_some outgoing)))) before after result
 RunsShelf (asks.Exchange folder incoming outgoing form dates stamp copy beat key) left rest before after result =
-    (rest ≡ left) × VisitsWith key (is_lines form) (ExchangesAtFile (record { form = form; dates = dates })) before after result
+    (rest ≡ left)
+    × VisitsWith key folder (Headed (is_lines form) (ExchangesAtFile (record { form = form; dates = dates }))) before after result
 RunsShelf (asks.Retire folder group) left rest before after result = (rest ≡ left) × RetiresAtFile before after result
 RunsShelf other left rest before after result = (rest ≡ left) × (after ≡ before) × (result ≡ Err Arguments)
 

@@ -2,7 +2,7 @@
 use Rattle.std.proofs.Common.{ℕ, List, Option, inr, ap, subst, ◌∙◌}
 use Rattle.ill_mail.specs.Nights.{ExchangesAtFile, asked_night}
 use Rattle.ill_text.specs.Visits.{graver}
-use Rattle.ill_shelf.specs.Shelf.{VisitsShelf, is_lines}
+use Rattle.ill_shelf.specs.Shelf.{Headed, VisitsShelf, is_lines}
 use Rattle.ill_shelf.proofs.keyed.exchange_sealed.Goals as goal
 
 -- Proves the contract of `exchange_sealed`. `look_at_shelf` and `open_letters` write nothing, and `exchange_at_desks` visits
@@ -12,8 +12,13 @@ returns g c =
     let done = c.exchange_at_desks-done.result in
     let opened = c.in_ok-opened.opened in
     let quiet = ap (λ writer. g.W.Write.contents writer) (c.in_ok-opened.ensures.silent ∙ c.in_ok-shelf.ensures.silent) in
+    let heads = is_lines c.args.night.now.form in
+    let asked = asked_night c.args.night.now in
+    let end = g.W.Write.contents c.exchange_at_desks-done.new.machine.writer in
     let visited = subst (λ (start : Option (List ℕ)).
-    VisitsShelf (is_lines c.args.night.now.form) (ExchangesAtFile (asked_night c.args.night.now)) start
-    (g.W.Write.contents c.exchange_at_desks-done.new.machine.writer) done) quiet
+    VisitsShelf c.in_ok-shelf.shelf.folder.now (Headed heads (ExchangesAtFile asked)) start end done) quiet
     c.exchange_at_desks-done.ensures in
-    inr (done, opened.is_waiting, opened.are_sealed, visited, c.graver.ensures ∙ ap (graver done) c.opened_answer.ensures)
+    let here = subst (λ (folder : List ℕ).
+    VisitsShelf folder (Headed heads (ExchangesAtFile asked)) (g.W.Write.contents c.args.machine.now.writer) end done)
+    c.in_ok-shelf.ensures.folder visited in
+    inr (done, opened.is_waiting, opened.are_sealed, here, c.graver.ensures ∙ ap (graver done) c.opened_answer.ensures)

@@ -1,8 +1,9 @@
 -- Answers the contract of `exchange_at_desks` (`src/on_shelf.rt`).
 use Rattle.std.proofs.Common.{ℕ, List, Option, inr, map, ap, subst, sym}
 use Rattle.std.specs.Prelude.{string_bytes}
+use Rattle.ill_files.specs.ShelfNames.{AreOnShelf}
 use Rattle.ill_mail.specs.Nights.{AskedNight, ExchangesAtFile, asked_night}
-use Rattle.ill_shelf.specs.Shelf.{VisitsAll, is_lines}
+use Rattle.ill_shelf.specs.Shelf.{Headed, VisitsAll, is_lines}
 use Rattle.ill_shelf.proofs.on_shelf.exchange_at_desks.Goals as goal
 
 -- Proves the contract of `exchange_at_desks`. `visit_all` visits the desks, and `graver` combines its answer with that
@@ -16,10 +17,13 @@ returns g c =
     let quiet = ap (λ writer. g.W.Write.contents writer) c.in_ok-is_waiting.ensures.silent in
     let ended = ap (λ writer. g.W.Write.contents writer) c.end_night-further.ensures.silent in
     let told = g.W.Write.contents c.visit_all-answer.new.machine.writer in
-    let as_asked = subst (λ (now : AskedNight). VisitsAll (is_lines now.form) (ExchangesAtFile now) paths
+    let as_asked = subst (λ (now : AskedNight). VisitsAll (Headed (is_lines now.form) (ExchangesAtFile now)) paths
     (g.W.Write.contents c.sort_mails.new.machine.writer) told answer) c.at_each.ensures c.visit_all-answer.ensures in
-    let begun = subst (λ (start : Option (List ℕ)). VisitsAll heads (ExchangesAtFile asked) paths start told answer) quiet
-    as_asked in
+    let begun = subst (λ (start : Option (List ℕ)).
+    VisitsAll (Headed heads (ExchangesAtFile asked)) paths start told answer) quiet as_asked in
     let visited = subst (λ (end : Option (List ℕ)).
-    VisitsAll heads (ExchangesAtFile asked) paths (g.W.Write.contents c.args.machine.now.writer) end answer) (sym ended) begun in
-    inr (paths, answer, c.end_night-further.result, visited, c.end_night-further.ensures.further, c.graver.ensures)
+    VisitsAll (Headed heads (ExchangesAtFile asked)) paths (g.W.Write.contents c.args.machine.now.writer) end answer) (sym ended)
+    begun in
+    let found = subst (λ desks. AreOnShelf c.args.shelf.now.folder.now (map (λ path. string_bytes path) desks))
+    (sym c.deref.ensures.value) c.in_ok-desks.ensures.on_shelf in
+    inr (paths, answer, c.end_night-further.result, found, visited, c.end_night-further.ensures.further, c.graver.ensures)

@@ -25,7 +25,7 @@ loop-place-preserved g c =
     (g.W.Write.contents c.visit_desk-next.new.machine.writer) c.loop-place.answer c.visit_desk-next.result within found
     c.loop-place.invariant c.visit_desk-next.ensures in
     subst (λ (answer : Result Bool ToolFault).
-    VisitsAll (is_headed c.args.visit.now) (RunsVisit c.args.visit.now) (take (place + 1) names)
+    VisitsAll (Headed (is_headed c.args.visit.now) (RunsVisit c.args.visit.now)) (take (place + 1) names)
     (g.W.Write.contents c.args.machine.now.writer) (g.W.Write.contents c.visit_desk-next.new.machine.writer) answer)
     (sym c.graver-answer.ensures) visited
 

@@ -1,6 +1,6 @@
 -- Answers the contract of `run_on_shelf` (`src/words.rt`).
-use Rattle.std.proofs.Common.{◌≡◌, ℕ, Bool, Bor, List, map, Option, Some, None, refl, sym, subst}
-use Rattle.std.specs.Prelude.{is_some, option_map}
+use Rattle.std.proofs.Common.{ℕ, Bool, Bor, List, map, refl, sym, subst}
+use Rattle.std.specs.Prelude.{option_map}
 use Rattle.ill_line.specs.declared.request.Request.{Request}
 use Rattle.ill_line.specs.Asked.{asked}
 use Rattle.ill_mail.specs.Keyed.{WithKey}
@@ -8,16 +8,12 @@ use Rattle.ill_mail.specs.Nights.{OutboxAtFile}
 use Rattle.ill_tool.specs.Runs.{RunsShelf}
 use Rattle.ill_beside.specs.Notes.{note_text}
 use Rattle.ill_shelf.specs.Home.{ActsAtHome, NotesAtHome}
-use Rattle.ill_shelf.specs.Shelf.{TakesAtShelf, VisitsShelf}
+use Rattle.ill_shelf.specs.Shelf.{Headed, TakesAtShelf, VisitsShelf}
 use Rattle.ill_commands.specs.Letters.{TakesWith}
 use Rattle.ill_commands.specs.Streams.{streams_of}
 use Rattle.ill_desk.specs.declared.take.TakeForm.{TakeForm}
+use Rattle.ill_tool.proofs.WordsLemmas.{is_there}
 use Rattle.ill_tool.proofs.words.run_on_shelf.Goals as goal
-
--- An option and its image under `text` are both `Some` or both `None`.
-is_there : {X Y : Type 0} (text : X → Y) (folder : Option X) → is_some folder ≡ is_some (option_map text folder)
-is_there text (Some folder) = refl
-is_there text None = refl
 
 -- Proves the contract of `run_on_shelf` for the request `Act`. It is the contract of `act_on_shelf`, which reads no input.
 pub returns-in-Act : goal.returns-in-Act
@@ -76,7 +72,8 @@ returns-in-Outbox g c =
     let after = g.W.Write.contents c.outbox_of_shelf_with.new.machine.writer in
     let result = c.outbox_of_shelf_with.result in
     let key = option_map (λ text. text.now) c.in-Outbox.key in
-    let sent = subst (λ (has_folder : Bool). WithKey key (VisitsShelf has_folder (OutboxAtFile has_folder)) before after result)
+    let sent = subst (λ (has_folder : Bool). WithKey key
+    (VisitsShelf c.in-Outbox.file.now (Headed has_folder (OutboxAtFile has_folder))) before after result)
     (is_there (λ text. text.now) c.in-Outbox.folder) c.outbox_of_shelf_with.ensures in
     subst (λ (request : Request). RunsShelf (asked request) left left before after result) (sym c.in-Outbox.is) (refl, sent)
 

@@ -118,11 +118,11 @@ def block_of(text, types):
 
 def arguments_in(head):
     """Returns the words of the types that an instance gives its trait, as the prover names it: `VecU8` of `Vec<u8>`, and
-    `RefStr` of `&str`. Words that the instance itself declares are left out."""
+    `RefStr` of `&str`. Lifetimes, and words that the instance itself declares, are left out."""
     declared = re.match(r"impl<(.*?)>(?= )", head[0])
     own = re.findall(r"\w+", declared[1]) if declared else []
     given = re.match(r"(?:\w+::)*\w+<(.*)>\s+for ", head[2])
-    words = re.findall(r"\w+|&|\(\)", given[1]) if given else []
+    words = re.findall(r"\w+|&|\(\)", re.sub(r"'\w+", "", given[1])) if given else []
     return "".join({"&": "Ref", "()": "Unit"}.get(word, camel(word)) for word in words if word not in own)
 
 

@@ -8,7 +8,7 @@ use Rattle.ill_saved.specs.declared.fault.DeskFault.TheVariants as desks
 use Rattle.ill_saved.specs.declared.shown.Shown.{Shown}
 use Rattle.ill_words.specs.declared.outcome.DeskOutcome.{DeskOutcome}
 use Rattle.ill_text.specs.Diary.{DiaryState}
-use Rattle.ill_text.specs.Fault.{refused}
+use Rattle.ill_desk.specs.Refusals.{refused}
 use Rattle.ill_text.specs.declared.fault.ToolFault.{ToolFault}
 use Rattle.ill_text.specs.declared.fault.ToolFault.TheVariants.{Arguments, OutOfMemory}
 use Rattle.ill_saved.specs.Holdings.{Effects}

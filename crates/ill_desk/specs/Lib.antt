@@ -3,6 +3,7 @@ pub mod ActAs
 pub mod Actions
 pub mod New
 pub mod Performing
+pub mod Refusals
 pub mod Send
 pub mod Take
 pub mod Telling

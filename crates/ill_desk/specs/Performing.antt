@@ -16,7 +16,8 @@ use Rattle.ill_words.specs.declared.outcome.DeskOutcome.TheVariants.{Plain}
 use Rattle.ill_text.specs.declared.fault.ToolFault.{ToolFault}
 use Rattle.ill_text.specs.declared.fault.ToolFault.TheVariants.{Desk, Write, OutOfMemory}
 use Rattle.ill_saved.specs.Holdings.{Effects, IsReadAgain}
-use Rattle.ill_text.specs.Fault.{refused}
+use Rattle.ill_text.specs.Known.{known}
+use Rattle.ill_desk.specs.Refusals.{refused}
 
 -- ---- the known state
 
@@ -25,15 +26,6 @@ pub record HeldAndLanded (L : Type 0) : Type 0 where
   pub path : Option (List ℕ)
   pub live : L
   pub landed : Option (Option (List ℕ))
-
--- Returns `landed` if the Bool is true: the content is known of an honest store alone.
-abbrev pub known_if : Bool → Option (List ℕ) → Option (Option (List ℕ))
-known_if true landed = Some landed
-known_if false landed = None
-
--- Returns the content of a store, if it is known.
-abbrev pub known : StoreState → Option (Option (List ℕ))
-known store = known_if store.is_honest store.landed
 
 -- Returns the path of `desk`, the sides that it holds, and the content of its store, if it is known.
 abbrev pub view_of : {L S : Type 0} → (S → StoreState) → DeskOf L S → HeldAndLanded L

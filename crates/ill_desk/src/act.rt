@@ -11,10 +11,11 @@ ghost use Rattle.ill_text.specs.Fault.{CountsToolFailure};
 ghost use Rattle.ill_desk.specs.Act.{ActsAndSaves, EntersDone, NamesNone, RunsAct, fine_of};
 
 use crate::action::action;
+use crate::refusal::refused;
 use crate::side_line::report;
 use ill_saved::{Action, AnyDesk, Desk, Desk1, Holdings, Role, Store};
 use ill_text::diary::Entry;
-use ill_text::fault::{ToolFault, refused};
+use ill_text::fault::ToolFault;
 use ill_values::{Day, TxnId};
 use ill_words::{DeskOutcome, Outcome};
 use std::alloc::Global;

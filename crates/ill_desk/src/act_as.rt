@@ -11,11 +11,12 @@ ghost use Rattle.ill_desk.specs.Telling.{shown_at, WritesOutcome};
 ghost use Rattle.ill_desk.specs.ActAs.{EntersUnlessTried, action_line, asking_of, words_line, changed_line, is_as_seen, not_done, RunsActAs, RunsOrTries, RunsTrial, TriesAction, WritesChange, tried_shown, trial_line};
 
 use crate::act::{KeyedAction, named, perform};
+use crate::refusal::refused;
 use crate::side_line::report;
 use ill_core::Taking;
 use ill_saved::{Action, Desk, Shown, Store};
 use ill_text::diary::{Entry, Stamp, diary_line};
-use ill_text::fault::{ToolFault, refused};
+use ill_text::fault::ToolFault;
 use ill_text::output::write_whole;
 use ill_values::{Day, OutOfMemory, TxnId};
 use ill_words::{DeskOutcome, Outcome, push_shown};

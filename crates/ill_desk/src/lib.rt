@@ -7,6 +7,7 @@ pub mod act_as;
 mod action;
 pub mod laws;
 pub mod new;
+pub mod refusal;
 pub mod send;
 pub mod side_line;
 pub mod take;

@@ -9,11 +9,12 @@ ghost use Rattle.ill_text.specs.Fault.{CountsToolFailure};
 ghost use Rattle.ill_desk.specs.Take.{CountsTaking, KeepsBefore, KeepsBorrowed, KeepsPrefix, KeepsTaken, RunsTake, RunsTaking, SavesTaken, TakesAndSaves, borrowed_parts, kept_text, progress, TakesMessage};
 ghost use Rattle.ill_desk.specs.Telling.{short, wording};
 
+use crate::refusal::refused;
 use crate::side_line::{Told, report_message};
 use ill_core::Taking;
 use ill_der::{ApduView, Handler, encode};
 use ill_saved::{AnyDesk, Desk, Desk1, Holdings, ManySides, OneSide, Store};
-use ill_text::fault::{STORE_FAILED, ToolFault, refused};
+use ill_text::fault::{STORE_FAILED, ToolFault};
 use ill_text::input::{Counted, handle_input};
 use ill_text::output::write_and_flush;
 use ill_values::Apdu;

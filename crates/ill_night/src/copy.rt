@@ -5,7 +5,7 @@ ghost use Rattle.ill_record.specs.Side.{issued_of, IsPrefix};
 ghost use Rattle.ill_saved.specs.ManySides.{sides_held};
 ghost use Rattle.ill_record.specs.RecordsV2.{records_at, sides_encoding};
 ghost use Rattle.ill_text.specs.Fault.{CountsToolFailure, IsFileFault};
-ghost use Rattle.ill_desk.specs.Performing.{known};
+ghost use Rattle.ill_text.specs.Known.{known};
 ghost use Rattle.ill_text.specs.declared.fault.ToolFault.TheVariants.{OutOfMemory};
 ghost use Rattle.ill_night.specs.Copy.{Copies};
 ghost use Rattle.ill_night.specs.CopyOver.{CopiesOver, HasLoan, ReplacesKnown, ReplacesRead, ReplacesSides};

@@ -5,7 +5,7 @@ ghost use Rattle.std.specs.List.{list_all};
 ghost use Rattle.ill_saved.specs.ManySides.{sides_held};
 ghost use Rattle.ill_words.specs.Sending.{is_over};
 ghost use Rattle.ill_text.specs.Fault.{CountsToolFailure};
-ghost use Rattle.ill_desk.specs.Performing.{known};
+ghost use Rattle.ill_text.specs.Known.{known};
 ghost use Rattle.ill_night.specs.Retire.{Retires, are_all_over, last_word, last_words, retired_mark, word_bytes};
 
 use ill_der::encode;

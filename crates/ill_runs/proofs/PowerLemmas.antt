@@ -10,7 +10,8 @@ use Rattle.ill_saved.specs.Holdings.{IsReadAgain, map_ok}
 use Rattle.ill_record.specs.Sides.{SidesOf}
 use Rattle.ill_record.specs.RecordsV2.{records_at, sides_encoding}
 use Rattle.ill_saved.specs.ManySides.{DeskContents, many_sides, sides_held, whole_of}
-use Rattle.ill_desk.specs.Performing.{HeldAndLanded, known_if}
+use Rattle.ill_desk.specs.Performing.{HeldAndLanded}
+use Rattle.ill_text.specs.Known.{known_if}
 use Rattle.ill_world.specs.declared.event.DeskEvent.TheVariants.{Save, SaveFault, Restart}
 use Rattle.ill_world.specs.Desks.{DeskParty, Sending, desk_saves, desk_fails_to_save, desk_restarts}
 use Rattle.ill_runs.specs.Events.{desk_after, HappenAt, IsReadAs, IsDesk}

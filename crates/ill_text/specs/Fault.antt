@@ -1,12 +1,9 @@
 -- The faults that commands make of those of a desk and its store.
-use Rattle.std.specs.Prelude.{◌≡◌, ◌⊎◌, ℕ, ◌≤◌, Result, Ok, Err}
+use Rattle.std.specs.Prelude.{◌≡◌, ◌⊎◌, ℕ, ◌≤◌, Result, Err}
 use Rattle.ill_saved.specs.declared.fault.DeskFault.{DeskFault}
 use Rattle.ill_saved.specs.declared.fault.DeskFault.TheVariants as desks
 use Rattle.ill_store.specs.declared.store.StoreFault.TheVariants.{Failed}
 use Rattle.ill_store.specs.Store.{HasRisen}
-use Rattle.ill_words.specs.declared.outcome.Outcome.TheVariants as outcomes
-use Rattle.ill_words.specs.declared.outcome.DeskOutcome.{DeskOutcome}
-use Rattle.ill_words.specs.declared.outcome.DeskOutcome.TheVariants.{Plain, NoSuchTransaction, DeskFull}
 use Rattle.ill_text.specs.declared.fault.ToolFault.{ToolFault}
 use Rattle.ill_text.specs.declared.fault.ToolFault.TheVariants.{Desk, OutOfMemory}
 
@@ -24,13 +21,6 @@ abbrev pub IsOpenFault : ToolFault → Type 0
 IsOpenFault (Desk fault) = Unit {0}
 IsOpenFault OutOfMemory = Unit {0}
 IsOpenFault other = ⊥
-
--- Returns the visible outcome of a refusal. Any other fault of a desk is a fault of the command.
-abbrev pub refused : DeskFault → Result DeskOutcome ToolFault
-refused (desks.Core refusal) = Ok (Plain (outcomes.Refused refusal))
-refused desks.NoSuchTransaction = Ok NoSuchTransaction
-refused desks.DeskFull = Ok DeskFull
-refused fault = Err (desk_fault fault)
 
 -- If the answer is a failure of the store, their count has risen, or is at its maximum.
 abbrev pub ToolFailsCounted : {X : Type 0} → Result X ToolFault → ℕ → ℕ → Type 0

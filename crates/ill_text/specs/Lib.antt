@@ -7,6 +7,7 @@ pub mod Html
 pub mod Input
 pub mod Json
 pub mod Keys
+pub mod Known
 pub mod Lines
 pub mod LongLines
 pub mod Output

@@ -10,7 +10,6 @@ ghost use Rattle.ill_text.specs.ApduObject.{apdu_fields, body_fields, head_field
 use crate::json::{Value, push_members, push_plain};
 use ill_der::{ApduView, BodyView};
 use ill_values::{Day, Number, OutOfMemory};
-use ill_words::possible::expiry;
 
 /// Appends the object of `apdu` on a line.
 pub(crate) fn push_apdu_object(text: &mut Vec<u8>, apdu: &ApduView<'_>) -> Result<(), OutOfMemory>

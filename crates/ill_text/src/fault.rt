@@ -1,14 +1,12 @@
 //! The faults that stop a command.
 
-ghost use Rattle.std.specs.Prelude.{◌≡◌, true, is_ok};
-ghost use Rattle.ill_saved.specs.Holdings.{is_refusal};
-ghost use Rattle.ill_text.specs.Fault.{IsFileFault, IsOpenFault, desk_fault, refused};
+ghost use Rattle.std.specs.Prelude.{◌≡◌};
+ghost use Rattle.ill_text.specs.Fault.{IsFileFault, IsOpenFault, desk_fault};
 ghost use Rattle.ill_text.specs.declared.fault.ToolFault.TheVariants.{OutOfMemory};
 ghost use Rattle.ill_text.specs.Visits.{graver};
 
 use ill_der::DerFault;
 use ill_saved::{DeskFault, StoreFault};
-use ill_words::{DeskOutcome, Outcome};
 use std::alloc::{AllocError, AllocFailed};
 use std::io;
 use std::io::ErrorKind;
@@ -133,19 +131,6 @@ impl<S: Drop> From<(ToolFault, S)> for ToolFault {
 
     fn from((fault, _): (ToolFault, S)) -> ToolFault {
         fault
-    }
-}
-
-/// Returns the outcome of a desk's refusal. Any other fault of a desk ends the command.
-pub fn refused(fault: DeskFault) -> Result<DeskOutcome, ToolFault>
-    ensures value { result ≡ refused fault }
-    ensures outcome { is_refusal fault ≡ true → is_ok result ≡ true }
-{
-    match fault {
-        DeskFault::Core(refusal) => Ok(DeskOutcome::Plain(Outcome::Refused(refusal))),
-        DeskFault::NoSuchTransaction => Ok(DeskOutcome::NoSuchTransaction),
-        DeskFault::DeskFull => Ok(DeskOutcome::DeskFull),
-        fault => Err(fault.into()),
     }
 }
 

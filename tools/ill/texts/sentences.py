@@ -13,7 +13,6 @@ LIMIT = 20
 LONG = {
     "docs/ARCHITECTURE.md": ["a type of APDU: "],
     "docs/FORMATS.md": ["of both roles: IDLE 00"],
-    "docs/PROMISES.md": ["These pages list the laws of each crate: "],
 }
 
 COMPARED = repository.Comparison()

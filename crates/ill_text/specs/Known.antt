@@ -1,0 +1,12 @@
+-- The content of a store, as far as a contract knows it.
+use Rattle.std.specs.Prelude.{ℕ, Bool, true, false, List, Option, None, Some}
+use Rattle.ill_store.specs.Store.{StoreState}
+
+-- Returns `landed` if the Bool is true: the content is known of an honest store alone.
+abbrev pub known_if : Bool → Option (List ℕ) → Option (Option (List ℕ))
+known_if true landed = Some landed
+known_if false landed = None
+
+-- Returns the content of a store, if it is known.
+abbrev pub known : StoreState → Option (Option (List ℕ))
+known store = known_if store.is_honest store.landed

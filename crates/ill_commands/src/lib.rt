@@ -1,7 +1,6 @@
 //! The commands on the desk at a place: the desk is locked, opened, and shown or changed.
 #![tactic(auto)]
 
-pub mod at_file;
 pub mod commands;
 pub mod late_diary;
 pub mod laws;

@@ -15,6 +15,10 @@ desk_name role group = percent_encode ESCAPED group ++ (codes "." ++ role_name r
 abbrev pub desk_path : List ℕ → Role → List ℕ → List ℕ
 desk_path folder role group = folder ++ (codes "/" ++ desk_name role group)
 
+-- Returns the path of the own desk of the shelf in `folder`.
+abbrev pub own_path : List ℕ → List ℕ
+own_path folder = folder ++ (codes "/" ++ codes ".shelf")
+
 -- Returns the group in `name`, if `name` is that of a desk of `role`.
 abbrev pub group_in : Role → List ℕ → List ℕ
 group_in role name = percent_decode (take (length name - length (role_name role) - 1) name)

@@ -2,7 +2,7 @@
 //! desk.
 
 ghost use Rattle.std.specs.Prelude.{Decides, IfOk, IfSome, OnOk, ◌≡◌, ◌++◌, codes, map, ℕ, List, IfErr, string_bytes};
-ghost use Rattle.ill_files.specs.ShelfNames.{AreDeskNames, AreOnShelf, IsNamedOnShelf, IsDeskName, IsOnShelf, desk_name, desk_path, group_in};
+ghost use Rattle.ill_files.specs.ShelfNames.{AreDeskNames, AreOnShelf, IsNamedOnShelf, IsDeskName, desk_name, desk_path, group_in, own_path};
 ghost use Rattle.ill_values.specs.Text.{IsQualifier};
 ghost use Rattle.ill_record.specs.declared.role.Role.{Role};
 ghost use Rattle.ill_text.specs.Fault.{IsOpenFault};
@@ -84,7 +84,7 @@ impl<'a> Shelf<'a> {
 
     /// Returns the path of the shelf's own desk.
     pub fn own_desk(&self, alloc: Global) -> Result<String, OutOfMemory>
-        ensures { IfOk result (λ path. IsOnShelf self.now.folder.now (string_bytes path)) }
+        ensures { IfOk result (λ path. string_bytes path ≡ own_path self.now.folder.now) }
     {
         own_path(alloc, self.folder)
     }
@@ -105,7 +105,7 @@ impl<'a> Shelf<'a> {
 
 /// Returns the path of the own desk of the shelf in `folder`.
 pub fn own_path(alloc: Global, folder: &str) -> Result<String, OutOfMemory>
-    ensures { IfOk result (λ path. IsOnShelf folder.now (string_bytes path)) }
+    ensures { IfOk result (λ path. string_bytes path ≡ own_path folder.now) }
 {
     on_shelf(alloc, folder, OWN)
 }

@@ -1,3 +1,4 @@
 pub mod RoomsLemmas
 pub mod BadRooms
+pub mod KeyedLemmas
 pub mod PlaceLaws

@@ -6,7 +6,7 @@ ghost use Rattle.ill_mail.specs.Nights.{ExchangesAt, ExchangesAtFile, InboxAtFil
 ghost use Rattle.ill_inbox.specs.Inbox.{answered_with};
 ghost use Rattle.ill_desk.specs.Performing.{command_state, view_of};
 ghost use Rattle.ill_text.specs.declared.form.Form.TheVariants as forms;
-ghost use Rattle.ill_place.specs.Place.{file_at};
+ghost use Rattle.ill_place.specs.Place.{place_of};
 ghost use Rattle.ill_text.specs.Fault.{IsOpenFault};
 
 use crate::backup::HostBackup;
@@ -31,9 +31,9 @@ use ill_mailbox::places::{Places, look_at_out, look_at_places};
 use ill_night::night::Night;
 use ill_night::outbox::run_desk_outbox_stream;
 use ill_night::verdict::{Batch, Verdict};
-use ill_place::place::{DeskPlace, HostFiles};
+use ill_place::place::{DeskFiles, DeskPlace};
 use ill_room::sealed::Seal;
-use ill_saved::{Desk, LockFiles, Role, Store};
+use ill_saved::{Desk, Role, Store};
 use ill_text::diary::{WithDiary, begin_text};
 use ill_text::fault::ToolFault;
 use ill_text::form::Form;
@@ -44,19 +44,16 @@ use std::rt::Files;
 const NO_CAME: &str = ".came cannot be read or written";
 
 /// `ill inbox`: takes the mails of a folder.
-pub fn inbox<T: LockFiles, W: Write, E: Write>(
+pub fn inbox<T: Files, D: DeskFiles, W: Write, E: Write>(
     machine: &mut Machine<'_, T, W, E>,
-    file: &str,
+    place: &DeskPlace<'_, D>,
     incoming: Incoming<'_, '_, '_>,
 ) -> Result<bool, ToolFault>
-    ensures { InboxAtFile (file_at file.now) (W.contents machine.old.writer) (W.contents machine.new.writer) result }
+    ensures { InboxAtFile (place_of D.DeskStore.state place.now.path.now) (W.contents machine.old.writer)
+        (W.contents machine.new.writer) result }
 {
-    let place = DeskPlace {
-        files: HostFiles::of(machine.rt),
-        path: file,
-    };
     let mut locked = place.open_locked(machine.alloc)?;
-    let taken = take_mails(machine, file, incoming, &mut locked.desk);
+    let taken = take_mails(machine, place.path, incoming, &mut locked.desk);
     drop(locked);
     end(taken)
 }
@@ -248,20 +245,16 @@ fn seal_with<'k>(key: Option<&'k Key>, role: Role) -> Option<Seal<'k>> {
 }
 
 /// `ill outbox`: puts the messages of the loans that want sending into a folder, or writes them one after another.
-pub fn outbox<T: LockFiles, W: Write, E: Write>(
+pub fn outbox<T: Files, D: DeskFiles, W: Write, E: Write>(
     machine: &mut Machine<'_, T, W, E>,
-    file: &str,
+    place: &DeskPlace<'_, D>,
     folder: Option<Outlet<'_>>,
 ) -> Result<bool, ToolFault>
-    ensures { OutboxAtFile (is_some folder.entry) (file_at file.now) (W.contents machine.old.writer)
-        (W.contents machine.new.writer) result }
+    ensures { OutboxAtFile (is_some folder.entry) (place_of D.DeskStore.state place.now.path.now)
+        (W.contents machine.old.writer) (W.contents machine.new.writer) result }
 {
-    let place = DeskPlace {
-        files: HostFiles::of(machine.rt),
-        path: file,
-    };
     let locked = place.open_locked(machine.alloc)?;
-    let sent = send_from(machine, file, &locked.desk, folder);
+    let sent = send_from(machine, place.path, &locked.desk, folder);
     drop(locked);
     all_well(sent)
 }
@@ -333,22 +326,18 @@ fn asking<T: Files>(rt: &T, alloc: Global, file: &str) -> Result<Vec<u8>, ToolFa
 
 /// `ill exchange`: takes the mails that have come, performs the deeds of the day, copies the desk, and sends its
 /// messages. With `key`, mails come and go in sealed letters alone.
-pub fn exchange<T: LockFiles, W: Write, E: Write>(
+pub fn exchange<T: Files, D: DeskFiles, W: Write, E: Write>(
     machine: &mut Machine<'_, T, W, E>,
-    file: &str,
+    place: &DeskPlace<'_, D>,
     night: &Night<'_>,
     key: Option<&Key>,
 ) -> Result<bool, ToolFault>
-    ensures { ExchangesAtFile (asked_night night.now) (file_at file.now) (W.contents machine.old.writer)
-        (W.contents machine.new.writer) result }
+    ensures { ExchangesAtFile (asked_night night.now) (place_of D.DeskStore.state place.now.path.now)
+        (W.contents machine.old.writer) (W.contents machine.new.writer) result }
 {
-    let place = DeskPlace {
-        files: HostFiles::of(machine.rt),
-        path: file,
-    };
     let mut locked = place.open_locked(machine.alloc)?;
-    look_at_night(machine, file, night)?;
-    let done = exchange_at(machine, file, night, key, &mut locked.desk);
+    look_at_night(machine, place.path, night)?;
+    let done = exchange_at(machine, place.path, night, key, &mut locked.desk);
     drop(locked);
     done
 }

@@ -3,7 +3,7 @@
 ghost use Rattle.std.specs.Prelude.{true, Some, is_some, option_map};
 ghost use Rattle.ill_mail.specs.Keyed.{WithKey};
 ghost use Rattle.ill_mail.specs.Nights.{ExchangesAtFile, InboxAtFile, OutboxAtFile, asked_night};
-ghost use Rattle.ill_place.specs.Place.{file_at};
+ghost use Rattle.ill_place.specs.Place.{place_of};
 
 use crate::exchange::{exchange, inbox, outbox};
 use crate::outlet::Outlet;
@@ -12,39 +12,42 @@ use ill_key::Key;
 use ill_key::key_file::read_key;
 use ill_mailbox::mail::Incoming;
 use ill_night::night::Night;
-use ill_saved::LockFiles;
+use ill_place::place::{DeskFiles, DeskPlace};
 use ill_text::diary::Stamp;
 use ill_text::fault::ToolFault;
 use std::io::Write;
+use std::rt::Files;
 
 /// `ill inbox`: takes the mails of a folder, or the letters in it alone if there is a file of a key.
-pub fn inbox_with<T: LockFiles, W: Write, E: Write>(
+pub fn inbox_with<T: Files, D: DeskFiles, W: Write, E: Write>(
     machine: &mut Machine<'_, T, W, E>,
-    file: &str,
+    place: &DeskPlace<'_, D>,
     key_file: Option<&str>,
     incoming: &Incoming<'_, '_, '_>,
 ) -> Result<bool, ToolFault>
-    ensures { WithKey (option_map (λ file. file.now) key_file.entry) (InboxAtFile (file_at file.now)) (W.contents machine.old.writer)
+    ensures { WithKey (option_map (λ file. file.now) key_file.entry)
+        (InboxAtFile (place_of D.DeskStore.state place.now.path.now)) (W.contents machine.old.writer)
         (W.contents machine.new.writer) result }
 {
     match key_file {
-        Some(key_file) => inbox_sealed(machine, file, key_file, incoming),
-        None => inbox(machine, file, *incoming),
+        Some(key_file) => inbox_sealed(machine, place, key_file, incoming),
+        None => inbox(machine, place, *incoming),
     }
 }
 
 /// `ill inbox --key`: takes the letters of a folder.
-fn inbox_sealed<T: LockFiles, W: Write, E: Write>(
+fn inbox_sealed<T: Files, D: DeskFiles, W: Write, E: Write>(
     machine: &mut Machine<'_, T, W, E>,
-    file: &str,
+    place: &DeskPlace<'_, D>,
     key_file: &str,
     incoming: &Incoming<'_, '_, '_>,
 ) -> Result<bool, ToolFault>
-    ensures { WithKey (Some key_file.now) (InboxAtFile (file_at file.now)) (W.contents machine.old.writer) (W.contents machine.new.writer) result }
+    ensures { WithKey (Some key_file.now) (InboxAtFile (place_of D.DeskStore.state place.now.path.now))
+        (W.contents machine.old.writer) (W.contents machine.new.writer) result }
 {
     let key = read_key(machine.rt, key_file)?;
     let sealed = sealed_in(incoming.folder, incoming.stamp, &key);
-    inbox(machine, file, sealed)
+    inbox(machine, place, sealed)
 }
 
 /// Returns the letters in `folder` that are sealed with `key`.
@@ -63,62 +66,83 @@ fn sealed_in<'a, 'b, 'c>(
 
 /// `ill outbox`: puts the messages of the loans that want sending into a folder, in letters if there is a file of a key.
 /// Without a folder it writes them one after another.
-pub fn outbox_with<T: LockFiles, W: Write, E: Write>(
+pub fn outbox_with<T: Files, D: DeskFiles, W: Write, E: Write>(
     machine: &mut Machine<'_, T, W, E>,
-    file: &str,
+    place: &DeskPlace<'_, D>,
     key_file: Option<&str>,
     folder: Option<&str>,
 ) -> Result<bool, ToolFault>
-    ensures { WithKey (option_map (λ file. file.now) key_file.entry) (OutboxAtFile (is_some folder.entry) (file_at file.now))
+    ensures { WithKey (option_map (λ file. file.now) key_file.entry)
+        (OutboxAtFile (is_some folder.entry) (place_of D.DeskStore.state place.now.path.now))
         (W.contents machine.old.writer) (W.contents machine.new.writer) result }
 {
-    match (folder, key_file) {
-        (Some(folder), Some(key_file)) => outbox_sealed(machine, file, key_file, folder),
-        (Some(folder), None) => outbox(machine, file, Some(Outlet::plain(folder))),
-        (None, _) => outbox(machine, file, None),
+    match folder {
+        Some(folder) => outbox_into(machine, place, key_file, folder),
+        None => outbox(machine, place, None),
+    }
+}
+
+/// Puts the messages of the loans that want sending into `folder`, in letters if there is a file of a key.
+fn outbox_into<T: Files, D: DeskFiles, W: Write, E: Write>(
+    machine: &mut Machine<'_, T, W, E>,
+    place: &DeskPlace<'_, D>,
+    key_file: Option<&str>,
+    folder: &str,
+) -> Result<bool, ToolFault>
+    ensures { WithKey (option_map (λ file. file.now) key_file.entry)
+        (OutboxAtFile true (place_of D.DeskStore.state place.now.path.now)) (W.contents machine.old.writer)
+        (W.contents machine.new.writer) result }
+{
+    match key_file {
+        Some(key_file) => outbox_sealed(machine, place, key_file, folder),
+        None => outbox(machine, place, Some(Outlet::plain(folder))),
     }
 }
 
 /// `ill outbox --key`: puts the messages of the loans that want sending into `folder`, in letters.
-fn outbox_sealed<T: LockFiles, W: Write, E: Write>(
+fn outbox_sealed<T: Files, D: DeskFiles, W: Write, E: Write>(
     machine: &mut Machine<'_, T, W, E>,
-    file: &str,
+    place: &DeskPlace<'_, D>,
     key_file: &str,
     folder: &str,
 ) -> Result<bool, ToolFault>
-    ensures { WithKey (Some key_file.now) (OutboxAtFile true (file_at file.now)) (W.contents machine.old.writer) (W.contents machine.new.writer)
+    ensures { WithKey (Some key_file.now) (OutboxAtFile true (place_of D.DeskStore.state place.now.path.now))
+        (W.contents machine.old.writer) (W.contents machine.new.writer)
         result }
 {
     let key = read_key(machine.rt, key_file)?;
-    outbox(machine, file, Some(Outlet::sealed(folder, &key)))
+    outbox(machine, place, Some(Outlet::sealed(folder, &key)))
 }
 
 /// `ill exchange`: performs a night. If there is a file of a key, all messages come and go in letters.
-pub fn exchange_with<T: LockFiles, W: Write, E: Write>(
+pub fn exchange_with<T: Files, D: DeskFiles, W: Write, E: Write>(
     machine: &mut Machine<'_, T, W, E>,
-    file: &str,
+    place: &DeskPlace<'_, D>,
     key_file: Option<&str>,
     night: &Night<'_>,
 ) -> Result<bool, ToolFault>
-    ensures { WithKey (option_map (λ file. file.now) key_file.entry) (ExchangesAtFile (asked_night night.now) (file_at file.now))
+    ensures { WithKey (option_map (λ file. file.now) key_file.entry)
+        (ExchangesAtFile (asked_night night.now) (place_of D.DeskStore.state place.now.path.now))
         (W.contents machine.old.writer) (W.contents machine.new.writer) result }
 {
     match key_file {
-        Some(key_file) => exchange_sealed(machine, file, key_file, night),
-        None => exchange(machine, file, night, None),
+        Some(key_file) => exchange_sealed(machine, place, key_file, night),
+        None => exchange(machine, place, night, None),
     }
 }
 
 /// `ill exchange --key`: performs a night, whose messages come and go in letters.
-fn exchange_sealed<T: LockFiles, W: Write, E: Write>(
+fn exchange_sealed<T: Files, D: DeskFiles, W: Write, E: Write>(
     machine: &mut Machine<'_, T, W, E>,
-    file: &str,
+    place: &DeskPlace<'_, D>,
     key_file: &str,
     night: &Night<'_>,
 ) -> Result<bool, ToolFault>
-    ensures { WithKey (Some key_file.now) (ExchangesAtFile (asked_night night.now) (file_at file.now)) (W.contents machine.old.writer)
+    ensures { WithKey (Some key_file.now)
+        (ExchangesAtFile (asked_night night.now) (place_of D.DeskStore.state place.now.path.now))
+        (W.contents machine.old.writer)
         (W.contents machine.new.writer) result }
 {
     let key = read_key(machine.rt, key_file)?;
-    exchange(machine, file, night, Some(&key))
+    exchange(machine, place, night, Some(&key))
 }

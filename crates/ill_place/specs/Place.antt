@@ -14,6 +14,15 @@ pub record PlaceOf (S : Type 0) : Type 0 where
 abbrev pub place_of : {S : Type 0} → (S → StoreState) → List ℕ → PlaceOf S
 place_of state path = record { path = path; state = state }
 
+-- The place of a shelf: the path of its folder, and the states of the stores in the files of its desks.
+pub record ShelfOf (S : Type 0) : Type 0 where
+  pub folder : List ℕ
+  pub state : S → StoreState
+
+-- Returns the shelf in this folder, whose desks have stores with these states.
+abbrev pub shelf_of : {S : Type 0} → (S → StoreState) → List ℕ → ShelfOf S
+shelf_of state folder = record { folder = folder; state = state }
+
 -- Returns the state of a store in a file of the host. No contract says what such a file has, so it is not honest.
 abbrev pub file_state : FileStoreState → StoreState
 file_state file = record {

@@ -65,9 +65,18 @@ impl<'a, T: LockFiles> DeskFiles for HostFiles<'a, T> {
 #[derive(Drop)]
 pub struct DeskPlace<'a, D> {
     /// The files.
-    pub files: D,
+    pub files: &'a D,
     /// The path of the desk's file.
     pub path: &'a str,
+}
+
+/// The place of a shelf: the files in which its desks are kept, and its folder there.
+#[derive(Drop)]
+pub struct ShelfPlace<'a, D> {
+    /// The files.
+    pub files: &'a D,
+    /// The path of the shelf's folder.
+    pub folder: &'a str,
 }
 
 /// A desk at its place, and the lock of its file. Its end lets the desk go first, and then the lock.

@@ -1,6 +1,7 @@
 -- Proves what the names of a shelf's desks tell.
 use Rattle.std.proofs.Common.{inl, inr, refl, ℕ, Bool, List, Option, Result, Ok, Err, IfErr}
 use Rattle.ill_record.specs.declared.side.Side.{Side}
+use Rattle.ill_store.specs.Store.{StoreState}
 use Rattle.ill_text.specs.declared.fault.ToolFault.{ToolFault}
 use Rattle.ill_text.specs.declared.fault.ToolFault.TheVariants as faults
 use Rattle.ill_text.specs.Fault.{IsOpenFault}
@@ -12,14 +13,13 @@ use Rattle.ill_key.specs.KeyCommand.{IsKeyFault}
 use Rattle.ill_shelf.specs.Shelf.{OpensShelf, ShelfTaking, TakesAtHome}
 
 -- If an input is read by `TakesAtHome` of views of states, `TakesAtHome` reads it from view to view.
-pub taken_home : {S : Type 0} (view : S → ShelfTaking) (left rest : Option (List ℕ)) (before after : S)
-    (count : Result ℕ ToolFault)
-    → ReadsInput (λ (s : S) apdu r (t : S). TakesAtHome (view s) apdu r (view t)) left rest before count after
-    → ReadsInput TakesAtHome left rest (view before) count (view after)
-taken_home view left rest before after count is =
-    reads_on_views (λ s apdu r t. TakesAtHome (view s) apdu r (view t)) TakesAtHome view (λ s t apdu r h. h) left rest before
-    after count
-    is
+pub taken_home : {S T : Type 0} (state : T → StoreState) (view : S → ShelfTaking) (left rest : Option (List ℕ))
+    (before after : S) (count : Result ℕ ToolFault)
+    → ReadsInput (λ (s : S) apdu r (t : S). TakesAtHome state (view s) apdu r (view t)) left rest before count after
+    → ReadsInput (TakesAtHome state) left rest (view before) count (view after)
+taken_home state view left rest before after count is =
+    reads_on_views (λ s apdu r t. TakesAtHome state (view s) apdu r (view t)) (TakesAtHome state) view (λ s t apdu r h. h) left
+    rest before after count is
 
 -- Retiring a group fails by its store, or when memory runs out, alone.
 pub retire_faults : (sides : List Side) (old new : Option (Option (List ℕ))) (answer : Result Bool ToolFault) →

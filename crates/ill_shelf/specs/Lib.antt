@@ -1,2 +1,3 @@
+pub mod BadHomes
 pub mod Home
 pub mod Shelf

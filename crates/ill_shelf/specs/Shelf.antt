@@ -2,7 +2,7 @@
 -- gives the name of its desk (this profile's own).
 use Rattle.std.specs.Prelude.{◌≡◌, ◌⊎◌, ℕ, Bool, true, false, ◌&&◌, List, codes, Option, None, Some, is_some, Result, Ok}
 use Rattle.std.specs.Prelude.{Err}
-use Rattle.ill_store.specs.Store.{FileStoreState}
+use Rattle.ill_store.specs.Store.{StoreState}
 use Rattle.ill_text.specs.declared.fault.ToolFault.{ToolFault}
 use Rattle.ill_text.specs.declared.fault.ToolFault.TheVariants.{Left}
 use Rattle.ill_text.specs.declared.form.Form.{Form}
@@ -15,7 +15,7 @@ use Rattle.ill_commands.specs.AtFile.{ShowsFile, TakesAtFile}
 use Rattle.ill_commands.specs.Streams.{Streams, streams_of}
 use Rattle.ill_files.specs.Opening.{FailsToOpen}
 use Rattle.ill_files.specs.ShelfNames.{AreOnShelf}
-use Rattle.ill_place.specs.Place.{PlaceOf, file_at}
+use Rattle.ill_place.specs.Place.{PlaceOf, ShelfOf, place_of}
 use Rattle.ill_mail.specs.Nights.{ExchangesAtFile, InboxAtFile, OutboxAtFile, asked_night}
 use Rattle.ill_text.specs.Input.{ReadsInput}
 use Rattle.ill_desk.specs.Take.{answer_of}
@@ -26,12 +26,13 @@ use Rattle.ill_text.specs.Visits.{Stop, VisitsEach, graver}
 use Rattle.ill_text.specs.Fault.{IsFileFault}
 use Rattle.ill_key.specs.KeyCommand.{FailsAtKey}
 use Rattle.ill_sorting.specs.Opened.{opened_answer}
+use Rattle.ill_shelf.specs.Home.{IsDeskFor}
 
 -- ---- one desk after another
 
 -- The effect of a command at the desk of a place: its output goes from the first to the second, and it has this result.
-abbrev pub AtDesk : Type 1
-AtDesk = PlaceOf FileStoreState → Option (List ℕ) → Option (List ℕ) → Result Bool ToolFault → Type 0
+abbrev pub AtDesk : Type 0 → Type 1
+AtDesk S = PlaceOf S → Option (List ℕ) → Option (List ℕ) → Result Bool ToolFault → Type 0
 
 -- If the line of the path was written, the command ran at the desk. If it was not, its fault is the answer.
 abbrev pub RunsAfter : (Option (List ℕ) → Option (List ℕ) → Result Bool ToolFault → Type 0) → Result (Unit {0}) ToolFault →
@@ -39,12 +40,13 @@ abbrev pub RunsAfter : (Option (List ℕ) → Option (List ℕ) → Result Bool 
 RunsAfter Runs (Ok done) between after answer = Runs between after answer
 RunsAfter Runs (Err fault) between after answer = (answer ≡ Err fault) × (after ≡ between)
 
--- If `is_headed`, the line of the path was written first. Then the command ran at the desk.
-abbrev pub Headed : Bool → AtDesk → Stop → Type 0
-Headed is_headed Runs stop =
+-- If `is_headed`, the line of the path was written first. Then the command ran at the desk. `state` has the states of the
+-- stores of desks.
+abbrev pub Headed : {S : Type 0} → (state : S → StoreState) → Bool → AtDesk S → Stop → Type 0
+Headed state is_headed Runs stop =
     (between : Option (List ℕ)) × (told : Result (Unit {0}) ToolFault)
     × WritesText stop.before between (heading is_headed stop.path) told
-    × RunsAfter (Runs (file_at stop.path)) told between stop.after stop.answer
+    × RunsAfter (Runs (place_of state stop.path)) told between stop.after stop.answer
 
 -- Returns true if the form is that of lines.
 abbrev pub is_lines : Form → Bool
@@ -60,7 +62,7 @@ is_headed (visits.Outbox outlet) = is_some outlet
 is_headed visit = true
 
 -- A visit has the effect of its command at one desk.
-abbrev pub RunsVisit : Visit → AtDesk
+abbrev pub RunsVisit : {S : Type 0} → Visit → AtDesk S
 RunsVisit (visits.Status form) = λ place. ShowsFile place form
 RunsVisit (visits.Inbox folder) = InboxAtFile
 RunsVisit (visits.Outbox outlet) = OutboxAtFile (is_some outlet)
@@ -125,30 +127,34 @@ RetiresAtFile before after result =
 
 -- ---- an input
 
--- The state of `take` on a shelf: its form and its output. `all_fine` is true if all went well so far.
+-- The state of `take` on a shelf: the shelf's folder, the form and the output. `all_fine` is true if all went well so far.
 pub record ShelfTaking : Type 0 where
+  pub folder : List ℕ
   pub form : TakeForm
   pub all_fine : Bool
   pub written : Option (List ℕ)
 
--- The APDU `a` was taken as by `take` at one desk, with `a` alone as the input.
-abbrev pub TakesAtHome : Handles ShelfTaking ToolFault
-TakesAtHome old a (Ok done) new =
-    (path : List ℕ) × (is_well : Bool) × (rest : Option (List ℕ))
-    × TakesAtFile (file_at path) old.form (streams_of (Some (encoding a)) old.written) (Ok is_well) (streams_of rest new.written)
+-- The APDU `a` was taken as by `take` at the desk of its group, or at the shelf's own desk. `a` alone was the input. `state`
+-- has the states of the stores of desks.
+abbrev pub TakesAtHome : {S : Type 0} → (state : S → StoreState) → Handles ShelfTaking ToolFault
+TakesAtHome state old a (Ok done) new =
+    (path : List ℕ) × IsDeskFor old.folder a.txn.group path × (is_well : Bool) × (rest : Option (List ℕ))
+    × TakesAtFile (place_of state path) old.form (streams_of (Some (encoding a)) old.written) (Ok is_well)
+    (streams_of rest new.written)
     × (new ≡ record old { all_fine = old.all_fine && is_well; written = new.written })
-TakesAtHome old a (Err fault) new =
-    (path : List ℕ) × (rest : Option (List ℕ))
-    × TakesAtFile (file_at path) old.form (streams_of (Some (encoding a)) old.written) (Err fault) (streams_of rest new.written)
+TakesAtHome state old a (Err fault) new =
+    (path : List ℕ) × IsDeskFor old.folder a.txn.group path × (rest : Option (List ℕ))
+    × TakesAtFile (place_of state path) old.form (streams_of (Some (encoding a)) old.written) (Err fault)
+    (streams_of rest new.written)
 
 -- Returns the state before the first APDU.
-abbrev pub shelf_taking : TakeForm → Option (List ℕ) → ShelfTaking
-shelf_taking form before = record { form = form; all_fine = true; written = before }
+abbrev pub shelf_taking : (folder : List ℕ) → TakeForm → Option (List ℕ) → ShelfTaking
+shelf_taking folder form before = record { folder = folder; form = form; all_fine = true; written = before }
 
--- The APDUs of the input were taken, each at a desk. Or the shelf could not be opened.
-abbrev pub TakesAtShelf : TakeForm → Streams → Result Bool ToolFault → Streams → Type 0
-TakesAtShelf form old result new =
+-- The APDUs of the input were taken, each at its desk. Or the shelf could not be opened.
+abbrev pub TakesAtShelf : {S : Type 0} → ShelfOf S → TakeForm → Streams → Result Bool ToolFault → Streams → Type 0
+TakesAtShelf shelf form old result new =
     (FailsToOpen old.written new.written result × (new.unread ≡ old.unread))
     ⊎ ((count : Result ℕ ToolFault) × (end : ShelfTaking)
-    × ReadsInput TakesAtHome old.unread new.unread (shelf_taking form old.written) count end
+    × ReadsInput (TakesAtHome shelf.state) old.unread new.unread (shelf_taking shelf.folder form old.written) count end
     × (new.written ≡ end.written) × (result ≡ answer_of count end.all_fine))

@@ -15,6 +15,7 @@ use ill_key::key_file::read_key;
 use ill_mail::outlet::Outlet;
 use ill_mailbox::mail::Incoming;
 use ill_night::night::Night;
+use ill_place::place::{DeskFiles, ShelfPlace};
 use ill_saved::LockFiles;
 use ill_sorting::opened::{Unpacking, open_letters, opened_answer, opened_folder};
 use ill_text::diary::Stamp;
@@ -22,34 +23,35 @@ use ill_text::fault::{ToolFault, graver};
 use std::io::Write;
 
 /// `ill shelf inbox`: takes the mails of a folder, or the letters in it alone if there is a file of a key.
-pub fn inbox_of_shelf_with<T: LockFiles, W: Write, E: Write>(
+pub fn inbox_of_shelf_with<T: LockFiles, D: DeskFiles, W: Write, E: Write>(
     machine: &mut Machine<'_, T, W, E>,
-    folder: &str,
+    place: &ShelfPlace<'_, D>,
     key_file: Option<&str>,
     incoming: &Incoming<'_, '_, '_>,
 ) -> Result<bool, ToolFault>
-    ensures { VisitsWith (option_map (λ file. file.now) key_file.entry) folder.now (Headed true InboxAtFile)
+    ensures { VisitsWith (option_map (λ file. file.now) key_file.entry) place.now.folder.now
+        (Headed D.DeskStore.state true InboxAtFile)
         (W.contents machine.old.writer) (W.contents machine.new.writer) result }
 {
     match key_file {
-        Some(key_file) => inbox_sealed(machine, folder, key_file, incoming),
-        None => inbox_of_shelf(machine, folder, *incoming),
+        Some(key_file) => inbox_sealed(machine, place, key_file, incoming),
+        None => inbox_of_shelf(machine, place, *incoming),
     }
 }
 
 /// `ill shelf inbox --key`: opens the letters of a folder, and takes the messages in them.
 #[tactic(auto, using(crate::proofs::ShelfLemmas::not_opened, crate::proofs::ShelfLemmas::no_key))]
-fn inbox_sealed<T: LockFiles, W: Write, E: Write>(
+fn inbox_sealed<T: LockFiles, D: DeskFiles, W: Write, E: Write>(
     machine: &mut Machine<'_, T, W, E>,
-    folder: &str,
+    place: &ShelfPlace<'_, D>,
     key_file: &str,
     incoming: &Incoming<'_, '_, '_>,
 ) -> Result<bool, ToolFault>
-    ensures { OpensShelf folder.now (Headed true InboxAtFile)
+    ensures { OpensShelf place.now.folder.now (Headed D.DeskStore.state true InboxAtFile)
         (W.contents machine.old.writer) (W.contents machine.new.writer) result }
 {
     let key = read_key(machine.rt, key_file)?;
-    let shelf = Shelf::open(machine.rt, machine.alloc, folder)?;
+    let shelf = Shelf::open(machine.rt, machine.alloc, place.folder)?;
     let messages = opened_folder(machine.rt, machine.alloc, &shelf)?;
     let unpacking = Unpacking {
         folder: incoming.folder,
@@ -58,7 +60,7 @@ fn inbox_sealed<T: LockFiles, W: Write, E: Write>(
     };
     let opened = open_letters(machine, &shelf, unpacking)?;
     let mails = mails_in(messages.as_str(), incoming.stamp);
-    let done = take_at_desks(machine, &shelf, mails, true);
+    let done = take_at_desks(machine, place.files, &shelf, mails, true);
     graver(done, opened_answer(opened))
 }
 
@@ -74,69 +76,87 @@ fn mails_in<'a, 'b, 'c>(folder: &'a str, stamp: &'b Option<Stamp<'c>>) -> Incomi
 
 /// `ill shelf outbox`: puts the messages of the loans that want sending into a folder, in letters if there is a file of a
 /// key. Without a folder it writes them one after another.
-pub fn outbox_of_shelf_with<T: LockFiles, W: Write, E: Write>(
+pub fn outbox_of_shelf_with<T: LockFiles, D: DeskFiles, W: Write, E: Write>(
     machine: &mut Machine<'_, T, W, E>,
-    folder: &str,
+    place: &ShelfPlace<'_, D>,
     key_file: Option<&str>,
     outgoing: Option<&str>,
 ) -> Result<bool, ToolFault>
     ensures { WithKey (option_map (λ file. file.now) key_file.entry)
-        (VisitsShelf folder.now (Headed (is_some outgoing.entry) (OutboxAtFile (is_some outgoing.entry))))
+        (VisitsShelf place.now.folder.now
+        (Headed D.DeskStore.state (is_some outgoing.entry) (OutboxAtFile (is_some outgoing.entry))))
         (W.contents machine.old.writer) (W.contents machine.new.writer) result }
 {
-    match (outgoing, key_file) {
-        (Some(out), Some(key_file)) => outbox_sealed(machine, folder, key_file, out),
-        (Some(out), None) => outbox_of_shelf(machine, folder, Some(Outlet::plain(out))),
-        (None, None) => outbox_of_shelf(machine, folder, None),
-        (None, Some(_)) => outbox_of_shelf(machine, folder, None),
+    match outgoing {
+        Some(out) => outbox_into(machine, place, key_file, out),
+        None => outbox_of_shelf(machine, place, None),
+    }
+}
+
+/// Puts the messages of the loans that want sending into the folder `out`, in letters if there is a file of a key.
+fn outbox_into<T: LockFiles, D: DeskFiles, W: Write, E: Write>(
+    machine: &mut Machine<'_, T, W, E>,
+    place: &ShelfPlace<'_, D>,
+    key_file: Option<&str>,
+    out: &str,
+) -> Result<bool, ToolFault>
+    ensures { WithKey (option_map (λ file. file.now) key_file.entry)
+        (VisitsShelf place.now.folder.now (Headed D.DeskStore.state true (OutboxAtFile true)))
+        (W.contents machine.old.writer) (W.contents machine.new.writer) result }
+{
+    match key_file {
+        Some(key_file) => outbox_sealed(machine, place, key_file, out),
+        None => outbox_of_shelf(machine, place, Some(Outlet::plain(out))),
     }
 }
 
 /// `ill shelf outbox --key`: puts the messages of the loans that want sending into the folder `out`, in letters.
-fn outbox_sealed<T: LockFiles, W: Write, E: Write>(
+fn outbox_sealed<T: LockFiles, D: DeskFiles, W: Write, E: Write>(
     machine: &mut Machine<'_, T, W, E>,
-    folder: &str,
+    place: &ShelfPlace<'_, D>,
     key_file: &str,
     out: &str,
 ) -> Result<bool, ToolFault>
-    ensures { WithKey (Some key_file.now) (VisitsShelf folder.now (Headed true (OutboxAtFile true)))
+    ensures { WithKey (Some key_file.now)
+        (VisitsShelf place.now.folder.now (Headed D.DeskStore.state true (OutboxAtFile true)))
         (W.contents machine.old.writer) (W.contents machine.new.writer) result }
 {
     let key = read_key(machine.rt, key_file)?;
-    outbox_of_shelf(machine, folder, Some(Outlet::sealed(out, &key)))
+    outbox_of_shelf(machine, place, Some(Outlet::sealed(out, &key)))
 }
 
 /// `ill shelf exchange`: performs the nights of the desks. If there is a file of a key, all messages come and go in
 /// letters.
-pub fn exchange_of_shelf_with<T: LockFiles, W: Write, E: Write>(
+pub fn exchange_of_shelf_with<T: LockFiles, D: DeskFiles, W: Write, E: Write>(
     machine: &mut Machine<'_, T, W, E>,
-    folder: &str,
+    place: &ShelfPlace<'_, D>,
     key_file: Option<&str>,
     night: &Night<'_>,
 ) -> Result<bool, ToolFault>
-    ensures { VisitsWith (option_map (λ file. file.now) key_file.entry) folder.now
-        (Headed (is_lines night.now.form) (ExchangesAtFile (asked_night night.now)))
+    ensures { VisitsWith (option_map (λ file. file.now) key_file.entry) place.now.folder.now
+        (Headed D.DeskStore.state (is_lines night.now.form) (ExchangesAtFile (asked_night night.now)))
         (W.contents machine.old.writer) (W.contents machine.new.writer) result }
 {
     match key_file {
-        Some(key_file) => exchange_sealed(machine, folder, key_file, night),
-        None => exchange_of_shelf(machine, folder, night),
+        Some(key_file) => exchange_sealed(machine, place, key_file, night),
+        None => exchange_of_shelf(machine, place, night),
     }
 }
 
 /// `ill shelf exchange --key`: performs the nights of the desks, whose messages come and go in letters.
 #[tactic(auto, using(crate::proofs::ShelfLemmas::not_opened, crate::proofs::ShelfLemmas::no_key))]
-fn exchange_sealed<T: LockFiles, W: Write, E: Write>(
+fn exchange_sealed<T: LockFiles, D: DeskFiles, W: Write, E: Write>(
     machine: &mut Machine<'_, T, W, E>,
-    folder: &str,
+    place: &ShelfPlace<'_, D>,
     key_file: &str,
     night: &Night<'_>,
 ) -> Result<bool, ToolFault>
-    ensures { OpensShelf folder.now (Headed (is_lines night.now.form) (ExchangesAtFile (asked_night night.now)))
+    ensures { OpensShelf place.now.folder.now
+        (Headed D.DeskStore.state (is_lines night.now.form) (ExchangesAtFile (asked_night night.now)))
         (W.contents machine.old.writer) (W.contents machine.new.writer) result }
 {
     let key = read_key(machine.rt, key_file)?;
-    let shelf = look_at_shelf(machine, folder, night)?;
+    let shelf = look_at_shelf(machine, place.folder, night)?;
     let messages = opened_folder(machine.rt, machine.alloc, &shelf)?;
     let unpacking = Unpacking {
         folder: night.incoming,
@@ -145,6 +165,6 @@ fn exchange_sealed<T: LockFiles, W: Write, E: Write>(
     };
     let opened = open_letters(machine, &shelf, unpacking)?;
     let way = Way::sealed(messages.as_str(), &key);
-    let done = exchange_at_desks(machine, &shelf, night, way);
+    let done = exchange_at_desks(machine, place.files, &shelf, night, way);
     graver(done, opened_answer(opened))
 }

@@ -2,6 +2,8 @@
 #![tactic(auto)]
 
 pub mod keyed;
+mod last_words;
+pub mod laws;
 pub mod on_shelf;
 pub mod take_home;
 mod visit;

@@ -5,16 +5,17 @@ ghost use Rattle.ill_files.specs.ShelfNames.{AreOnShelf};
 ghost use Rattle.ill_commands.specs.AtFile.{ShowsFile, message_of};
 ghost use Rattle.ill_commands.specs.Note.{text_of};
 ghost use Rattle.ill_desk.specs.ActAs.{asking_of};
-ghost use Rattle.ill_place.specs.Place.{OpensAt, place_of};
+ghost use Rattle.ill_place.specs.Place.{OpensAt, place_of, shelf_of};
 ghost use Rattle.ill_mail.specs.Nights.{ExchangesAtFile, InboxAtFile, OutboxAtFile, asked_night};
-ghost use Rattle.ill_shelf.specs.Home.{ActsAtHome, IsHome, LoanAtHome, NewAtAnyFile, NotesAtHome, SendsAtHome, SlipAtHome};
+ghost use Rattle.ill_shelf.specs.Home.{ActsAtHome, BeginsShelf, IsHome, LoanAtHome, NotesAtHome, SendsAtHome, SlipAtHome};
 ghost use Rattle.ill_shelf.specs.Shelf.{Headed, IsFurther, RetiresAtFile, VisitsShelf, is_lines, retired_line, told_with};
 ghost use Rattle.ill_text.specs.Fault.{IsOpenFault};
 
+use crate::last_words::send_last_words;
 use crate::visit::{Visit, visit_all};
-use ill_commands::at_file::{loan, new, note, send_with, slip};
-use ill_commands::commands::act_at;
-use ill_commands::note::NoteView;
+use ill_commands::commands::{act_at, loan, new, slip};
+use ill_commands::letters::send_with;
+use ill_commands::note::{NoteView, note};
 use ill_desk::act_as::ActionView;
 use ill_files::durable::error_of_store;
 use ill_files::home::refuse_lost;
@@ -30,10 +31,10 @@ use ill_mailbox::mail_box::remove_if_there;
 use ill_mailbox::places::{Places, look_at_places};
 use ill_night::night::Night;
 use ill_night::retire::run_desk_retire;
-use ill_place::place::{DeskFiles, DeskPlace, HostFiles, LockedAt};
+use ill_place::place::{DeskFiles, DeskPlace, LockedAt, ShelfPlace};
 use ill_saved::{Desk, FileStore, LockFiles, RECORD_LIMIT, Role, Store};
 use ill_show::loan::LoanView;
-use ill_sorting::last_words::{load_mark, send_last_words};
+use ill_sorting::last_words::load_mark;
 use ill_sorting::sorting::{MailsFrom, sort_mails};
 use ill_text::diary::Stamp;
 use ill_text::fault::{STORE_FAILED, ToolFault, graver};
@@ -47,16 +48,21 @@ use std::rt::Files;
 use std::{fs, io};
 
 /// `ill shelf new`: begins a shelf in a folder. The folder is made if it is not there.
-pub fn new_shelf<T: LockFiles, W: Write, E: Write>(
+pub fn new_shelf<T: Files, D: DeskFiles, W: Write, E: Write>(
     machine: &mut Machine<'_, T, W, E>,
-    folder: &str,
+    place: &ShelfPlace<'_, D>,
     role: Role,
 ) -> Result<bool, ToolFault>
-    ensures { NewAtAnyFile role (W.contents machine.old.writer) (W.contents machine.new.writer) result }
+    ensures { BeginsShelf (shelf_of D.DeskStore.state place.now.folder.now) role (W.contents machine.old.writer)
+        (W.contents machine.new.writer) result }
 {
-    make_shelf_folder(machine.rt, folder)?;
-    let own = own_path(machine.alloc, folder)?;
-    new(machine, own.as_str(), role)
+    make_shelf_folder(machine.rt, place.folder)?;
+    let own = own_path(machine.alloc, place.folder)?;
+    let desk = DeskPlace {
+        files: place.files,
+        path: own.as_str(),
+    };
+    new(machine, &desk, role)
 }
 
 /// Makes the folder of a shelf, if it is not there.
@@ -74,25 +80,25 @@ fn make_shelf_folder<T: Files>(rt: &T, folder: &str) -> Result<(), ToolFault>
 
 /// `ill shelf act`: performs the action of `view`, at the desk of its group. If `is_long` is set, the item of the loan is
 /// written too. A new group is begun only if `is_new_group` is set.
-pub fn act_on_shelf<T: LockFiles, W: Write, E: Write>(
+pub fn act_on_shelf<T: Files, D: DeskFiles, W: Write, E: Write>(
     machine: &mut Machine<'_, T, W, E>,
-    folder: &str,
+    place: &ShelfPlace<'_, D>,
     view: &ActionView<'_>,
     is_long: bool,
     is_new_group: bool,
 ) -> Result<bool, ToolFault>
-    ensures { ActsAtHome folder.now (asking_of view.now) is_long (W.contents machine.old.writer)
-        (W.contents machine.new.writer) result }
+    ensures { ActsAtHome (shelf_of D.DeskStore.state place.now.folder.now) (asking_of view.now) is_long
+        (W.contents machine.old.writer) (W.contents machine.new.writer) result }
 {
-    let shelf = Shelf::open(machine.rt, machine.alloc, folder)?;
+    let shelf = Shelf::open(machine.rt, machine.alloc, place.folder)?;
     let file = shelf.desk_of(machine.alloc, view.txn.group())?;
     let role = if is_new_group { Some(shelf.role) } else { None };
-    let place = DeskPlace {
-        files: HostFiles::of(machine.rt),
+    let desk = DeskPlace {
+        files: place.files,
         path: file.as_str(),
     };
-    let locked = open_or_begin(machine.rt, machine.alloc, &place, role)?;
-    act_at(machine, place.path, locked, view, is_long)
+    let locked = open_or_begin(machine.rt, machine.alloc, &desk, role)?;
+    act_at(machine, desk.path, locked, view, is_long)
 }
 
 /// Opens the desk at `place` under the lock of its file. If the file is not there and `role` is one, it begins a desk of
@@ -113,56 +119,76 @@ fn open_or_begin<T: Files, D: DeskFiles>(
 }
 
 /// `ill shelf send`: writes the bytes of a message of a transaction, or its letter if there is a file of a key.
-pub fn send_on_shelf_with<T: LockFiles, W: Write, E: Write>(
+pub fn send_on_shelf_with<T: Files, D: DeskFiles, W: Write, E: Write>(
     machine: &mut Machine<'_, T, W, E>,
-    folder: &str,
+    place: &ShelfPlace<'_, D>,
     key_file: Option<&str>,
     txn: &TxnId,
     number: Number,
 ) -> Result<bool, ToolFault>
-    ensures { SendsAtHome folder.now (option_map (λ file. file.now) key_file.entry) (message_of txn.now number)
+    ensures { SendsAtHome (shelf_of D.DeskStore.state place.now.folder.now)
+        (option_map (λ file. file.now) key_file.entry) (message_of txn.now number)
         (W.contents machine.old.writer) (W.contents machine.new.writer) result }
 {
-    let file = home_of(machine.rt, machine.alloc, folder, txn)?;
-    send_with(machine, file.as_str(), key_file, txn, number)
+    let file = home_of(machine.rt, machine.alloc, place.folder, txn)?;
+    let desk = DeskPlace {
+        files: place.files,
+        path: file.as_str(),
+    };
+    send_with(machine, &desk, key_file, txn, number)
 }
 
 /// `ill shelf loan`: shows all that is known of a transaction, or draws it.
-pub fn loan_on_shelf<T: LockFiles, W: Write, E: Write>(
+pub fn loan_on_shelf<T: Files, D: DeskFiles, W: Write, E: Write>(
     machine: &mut Machine<'_, T, W, E>,
-    folder: &str,
+    place: &ShelfPlace<'_, D>,
     view: &LoanView<'_>,
 ) -> Result<bool, ToolFault>
-    ensures { LoanAtHome folder.now view.now.form view.now.txn.now (W.contents machine.old.writer)
+    ensures { LoanAtHome (shelf_of D.DeskStore.state place.now.folder.now) view.now.form view.now.txn.now
+        (W.contents machine.old.writer)
         (W.contents machine.new.writer) result }
 {
-    let file = home_of(machine.rt, machine.alloc, folder, view.txn)?;
-    loan(machine, file.as_str(), view)
+    let file = home_of(machine.rt, machine.alloc, place.folder, view.txn)?;
+    let desk = DeskPlace {
+        files: place.files,
+        path: file.as_str(),
+    };
+    loan(machine, &desk, view)
 }
 
 /// `ill shelf note`: keeps a note on a transaction, beside the desk of its group.
-pub fn note_on_shelf<T: LockFiles, W: Write, E: Write>(
+pub fn note_on_shelf<T: Files, D: DeskFiles, W: Write, E: Write>(
     machine: &mut Machine<'_, T, W, E>,
-    folder: &str,
+    place: &ShelfPlace<'_, D>,
     view: &NoteView<'_>,
 ) -> Result<bool, ToolFault>
-    ensures { NotesAtHome folder.now view.now.txn.now (text_of view.now) (W.contents machine.old.writer)
+    ensures { NotesAtHome (shelf_of D.DeskStore.state place.now.folder.now) view.now.txn.now (text_of view.now)
+        (W.contents machine.old.writer)
         (W.contents machine.new.writer) result }
 {
-    let file = home_of(machine.rt, machine.alloc, folder, view.txn)?;
-    note(machine, file.as_str(), view)
+    let file = home_of(machine.rt, machine.alloc, place.folder, view.txn)?;
+    let desk = DeskPlace {
+        files: place.files,
+        path: file.as_str(),
+    };
+    note(machine, &desk, view)
 }
 
 /// `ill shelf slip`: writes a slip of a transaction.
-pub fn slip_on_shelf<T: LockFiles, W: Write, E: Write>(
+pub fn slip_on_shelf<T: Files, D: DeskFiles, W: Write, E: Write>(
     machine: &mut Machine<'_, T, W, E>,
-    folder: &str,
+    place: &ShelfPlace<'_, D>,
     txn: &TxnId,
 ) -> Result<bool, ToolFault>
-    ensures { SlipAtHome folder.now txn.now (W.contents machine.old.writer) (W.contents machine.new.writer) result }
+    ensures { SlipAtHome (shelf_of D.DeskStore.state place.now.folder.now) txn.now (W.contents machine.old.writer)
+        (W.contents machine.new.writer) result }
 {
-    let file = home_of(machine.rt, machine.alloc, folder, txn)?;
-    slip(machine, file.as_str(), txn)
+    let file = home_of(machine.rt, machine.alloc, place.folder, txn)?;
+    let desk = DeskPlace {
+        files: place.files,
+        path: file.as_str(),
+    };
+    slip(machine, &desk, txn)
 }
 
 /// Returns the path of the desk of the group of `txn`, unless the group is retired.
@@ -177,32 +203,34 @@ fn home_of<T: Files>(rt: &T, alloc: Global, folder: &str, txn: &TxnId) -> Result
 }
 
 /// `ill shelf status`: shows the sides of each desk.
-pub fn status_of_shelf<T: LockFiles, W: Write, E: Write>(
+pub fn status_of_shelf<T: Files, D: DeskFiles, W: Write, E: Write>(
     machine: &mut Machine<'_, T, W, E>,
-    folder: &str,
+    place: &ShelfPlace<'_, D>,
     form: Form,
 ) -> Result<bool, ToolFault>
-    ensures { VisitsShelf folder.now (Headed (is_lines form) (λ place. ShowsFile place form))
+    ensures { VisitsShelf place.now.folder.now
+        (Headed D.DeskStore.state (is_lines form) (λ desk. ShowsFile desk form))
         (W.contents machine.old.writer) (W.contents machine.new.writer) result }
 {
-    let shelf = Shelf::open(machine.rt, machine.alloc, folder)?;
+    let shelf = Shelf::open(machine.rt, machine.alloc, place.folder)?;
     let desks = shelf.desks(machine.rt, machine.alloc)?;
-    visit_all(machine, &desks, &Visit::Status(form))
+    visit_all(machine, place.files, &desks, &Visit::Status(form))
 }
 
 /// `ill shelf outbox`: puts the messages of the loans that want sending into a folder, or writes them one after
 /// another.
-pub fn outbox_of_shelf<T: LockFiles, W: Write, E: Write>(
+pub fn outbox_of_shelf<T: Files, D: DeskFiles, W: Write, E: Write>(
     machine: &mut Machine<'_, T, W, E>,
-    folder: &str,
+    place: &ShelfPlace<'_, D>,
     outlet: Option<Outlet<'_>>,
 ) -> Result<bool, ToolFault>
-    ensures { VisitsShelf folder.now (Headed (is_some outlet.entry) (OutboxAtFile (is_some outlet.entry)))
+    ensures { VisitsShelf place.now.folder.now
+        (Headed D.DeskStore.state (is_some outlet.entry) (OutboxAtFile (is_some outlet.entry)))
         (W.contents machine.old.writer) (W.contents machine.new.writer) result }
 {
-    let shelf = Shelf::open(machine.rt, machine.alloc, folder)?;
+    let shelf = Shelf::open(machine.rt, machine.alloc, place.folder)?;
     let desks = shelf.desks(machine.rt, machine.alloc)?;
-    let answer = visit_all(machine, &desks, &Visit::Outbox(outlet));
+    let answer = visit_all(machine, place.files, &desks, &Visit::Outbox(outlet));
     graver(answer, send_words_to(machine, &shelf, outlet))
 }
 
@@ -225,27 +253,28 @@ fn send_words_to<T: Files, W: Write, E: Write>(
 }
 
 /// `ill shelf inbox`: takes the mails of a folder, each at the desk of its group.
-pub fn inbox_of_shelf<T: LockFiles, W: Write, E: Write>(
+pub fn inbox_of_shelf<T: LockFiles, D: DeskFiles, W: Write, E: Write>(
     machine: &mut Machine<'_, T, W, E>,
-    folder: &str,
+    place: &ShelfPlace<'_, D>,
     incoming: Incoming<'_, '_, '_>,
 ) -> Result<bool, ToolFault>
-    ensures { VisitsShelf folder.now (Headed true InboxAtFile)
+    ensures { VisitsShelf place.now.folder.now (Headed D.DeskStore.state true InboxAtFile)
         (W.contents machine.old.writer) (W.contents machine.new.writer) result }
 {
-    let shelf = Shelf::open(machine.rt, machine.alloc, folder)?;
-    take_at_desks(machine, &shelf, incoming, false)
+    let shelf = Shelf::open(machine.rt, machine.alloc, place.folder)?;
+    take_at_desks(machine, place.files, &shelf, incoming, false)
 }
 
 /// Takes the mails of `incoming`, each at the desk of its group. The shelf sorts them. `is_own` is set if it has put them
 /// there itself.
-pub(crate) fn take_at_desks<T: LockFiles, W: Write, E: Write>(
+pub(crate) fn take_at_desks<T: LockFiles, D: DeskFiles, W: Write, E: Write>(
     machine: &mut Machine<'_, T, W, E>,
+    files: &D,
     shelf: &Shelf<'_>,
     incoming: Incoming<'_, '_, '_>,
     is_own: bool,
 ) -> Result<bool, ToolFault>
-    ensures { VisitsShelf shelf.now.folder.now (Headed true InboxAtFile)
+    ensures { VisitsShelf shelf.now.folder.now (Headed D.DeskStore.state true InboxAtFile)
         (W.contents machine.old.writer) (W.contents machine.new.writer) result }
 {
     let from = MailsFrom {
@@ -254,7 +283,7 @@ pub(crate) fn take_at_desks<T: LockFiles, W: Write, E: Write>(
     };
     let is_waiting = sort_mails(machine, shelf, from, None)?;
     let desks = desks_and_own(machine.rt, machine.alloc, shelf)?;
-    let answer = visit_all(machine, &desks, &Visit::Inbox(incoming));
+    let answer = visit_all(machine, files, &desks, &Visit::Inbox(incoming));
     graver(answer, waiting(is_waiting))
 }
 
@@ -284,20 +313,21 @@ fn waiting(is_waiting: bool) -> Result<bool, ToolFault>
 }
 
 /// `ill shelf exchange`: sorts the mail that has come, and exchanges the mail of each desk.
-pub fn exchange_of_shelf<T: LockFiles, W: Write, E: Write>(
+pub fn exchange_of_shelf<T: LockFiles, D: DeskFiles, W: Write, E: Write>(
     machine: &mut Machine<'_, T, W, E>,
-    folder: &str,
+    place: &ShelfPlace<'_, D>,
     night: &Night<'_>,
 ) -> Result<bool, ToolFault>
-    ensures { VisitsShelf folder.now (Headed (is_lines night.now.form) (ExchangesAtFile (asked_night night.now)))
+    ensures { VisitsShelf place.now.folder.now
+        (Headed D.DeskStore.state (is_lines night.now.form) (ExchangesAtFile (asked_night night.now)))
         (W.contents machine.old.writer) (W.contents machine.new.writer) result }
 {
-    let shelf = look_at_shelf(machine, folder, night)?;
+    let shelf = look_at_shelf(machine, place.folder, night)?;
     let way = Way {
         incoming: night.incoming,
         key: None,
     };
-    exchange_at_desks(machine, &shelf, night, way)
+    exchange_at_desks(machine, place.files, &shelf, night, way)
 }
 
 /// Opens the shelf in `folder`, and looks at the paths of `night` before anything is done.
@@ -341,13 +371,15 @@ impl<'a> Way<'a> {
 }
 
 /// Performs the nights of the desks of `shelf`, whose mails come and go on this way.
-pub(crate) fn exchange_at_desks<T: LockFiles, W: Write, E: Write>(
+pub(crate) fn exchange_at_desks<T: LockFiles, D: DeskFiles, W: Write, E: Write>(
     machine: &mut Machine<'_, T, W, E>,
+    files: &D,
     shelf: &Shelf<'_>,
     night: &Night<'_>,
     way: Way<'_>,
 ) -> Result<bool, ToolFault>
-    ensures { VisitsShelf shelf.now.folder.now (Headed (is_lines night.now.form) (ExchangesAtFile (asked_night night.now)))
+    ensures { VisitsShelf shelf.now.folder.now
+        (Headed D.DeskStore.state (is_lines night.now.form) (ExchangesAtFile (asked_night night.now)))
         (W.contents machine.old.writer) (W.contents machine.new.writer) result }
 {
     let from = MailsFrom {
@@ -357,7 +389,7 @@ pub(crate) fn exchange_at_desks<T: LockFiles, W: Write, E: Write>(
     let is_waiting = sort_mails(machine, shelf, from, night.copy)?;
     let desks = desks_and_own(machine.rt, machine.alloc, shelf)?;
     let visit = Visit::Exchange(at_each(night, way.incoming), way.key);
-    let answer = visit_all(machine, &desks, &visit);
+    let answer = visit_all(machine, files, &desks, &visit);
     let ending = Ending {
         night,
         key: way.key,

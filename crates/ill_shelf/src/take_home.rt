@@ -1,14 +1,15 @@
 //! The command `take` on a shelf: each APDU of the input is taken at the desk of its group.
 
-ghost use Rattle.std.specs.Prelude.{◌≡◌, IfErr, IfOk, option_map};
+ghost use Rattle.std.specs.Prelude.{◌≡◌, IfErr, IfOk, option_map, string_bytes};
 ghost use Rattle.ill_der.specs.ShortForm.{encoding};
 ghost use Rattle.ill_commands.specs.Letters.{TakesSealed, TakesWith};
 ghost use Rattle.ill_commands.specs.Streams.{streams_of};
+ghost use Rattle.ill_place.specs.Place.{shelf_of};
+ghost use Rattle.ill_shelf.specs.Home.{IsDeskFor};
 ghost use Rattle.ill_shelf.specs.Shelf.{TakesAtShelf, TakesAtHome};
 ghost use Rattle.ill_text.specs.Fault.{IsOpenFault};
 
-use ill_commands::at_file::take;
-use ill_commands::commands::TakeView;
+use ill_commands::commands::{TakeView, take};
 use ill_der::{ApduView, BodyView, Handler, encode};
 use ill_files::home::home_at;
 use ill_files::machine::Machine;
@@ -16,6 +17,7 @@ use ill_files::shelf::Shelf;
 use ill_key::key_file::read_key;
 use ill_key::letter::open_letter;
 use ill_key::role::other_sender;
+use ill_place::place::{DeskFiles, DeskPlace, ShelfPlace};
 use ill_saved::{DeskFault, LockFiles};
 use ill_sorting::sorting::{Route, make_desk, route_of};
 use ill_text::fault::ToolFault;
@@ -25,17 +27,19 @@ use std::alloc::Global;
 use std::io::{Read, Write};
 
 /// `ill shelf take`: takes the APDUs of the input, each at the desk of its group.
-fn take_on_shelf<T: LockFiles, R: Read, W: Write, E: Write>(
+fn take_on_shelf<T: LockFiles, D: DeskFiles, R: Read, W: Write, E: Write>(
     machine: &mut Machine<'_, T, W, E>,
-    folder: &str,
+    place: &ShelfPlace<'_, D>,
     view: &TakeView<'_, '_>,
     reader: &mut R,
 ) -> Result<bool, ToolFault>
-    ensures { TakesAtShelf view.now.form (streams_of (R.remaining reader.old) (W.contents machine.old.writer)) result
+    ensures { TakesAtShelf (shelf_of D.DeskStore.state place.now.folder.now) view.now.form
+        (streams_of (R.remaining reader.old) (W.contents machine.old.writer)) result
         (streams_of (R.remaining reader.new) (W.contents machine.new.writer)) }
 {
-    let shelf = Shelf::open(machine.rt, machine.alloc, folder)?;
+    let shelf = Shelf::open(machine.rt, machine.alloc, place.folder)?;
     let mut taken = Counted::new(TakesHome {
+        files: place.files,
         shelf,
         view: *view,
         all_fine: true,
@@ -47,59 +51,72 @@ fn take_on_shelf<T: LockFiles, R: Read, W: Write, E: Write>(
 }
 
 /// `ill shelf take`: takes the messages of the input, or those of the letter on it if there is a file of a key.
-pub fn take_on_shelf_with<T: LockFiles, R: Read, W: Write, E: Write>(
+pub fn take_on_shelf_with<T: LockFiles, D: DeskFiles, R: Read, W: Write, E: Write>(
     machine: &mut Machine<'_, T, W, E>,
-    folder: &str,
+    place: &ShelfPlace<'_, D>,
     key_file: Option<&str>,
     view: &TakeView<'_, '_>,
     reader: &mut R,
 ) -> Result<bool, ToolFault>
-    ensures { TakesWith (option_map (λ file. file.now) key_file.entry) (TakesAtShelf view.now.form)
+    ensures { TakesWith (option_map (λ file. file.now) key_file.entry)
+        (TakesAtShelf (shelf_of D.DeskStore.state place.now.folder.now) view.now.form)
         (streams_of (R.remaining reader.old) (W.contents machine.old.writer)) result
         (streams_of (R.remaining reader.new) (W.contents machine.new.writer)) }
 {
     match key_file {
-        Some(key_file) => take_letter_on_shelf(machine, folder, key_file, view, reader),
-        None => take_on_shelf(machine, folder, view, reader),
+        Some(key_file) => take_letter_on_shelf(machine, place, key_file, view, reader),
+        None => take_on_shelf(machine, place, view, reader),
     }
 }
 
 /// `ill shelf take --key`: opens the letter on the input, and takes its messages, each at the desk of its group.
-fn take_letter_on_shelf<T: LockFiles, R: Read, W: Write, E: Write>(
+fn take_letter_on_shelf<T: LockFiles, D: DeskFiles, R: Read, W: Write, E: Write>(
     machine: &mut Machine<'_, T, W, E>,
-    folder: &str,
+    place: &ShelfPlace<'_, D>,
     key_file: &str,
     view: &TakeView<'_, '_>,
     reader: &mut R,
 ) -> Result<bool, ToolFault>
-    ensures { TakesSealed (TakesAtShelf view.now.form)
+    ensures { TakesSealed (TakesAtShelf (shelf_of D.DeskStore.state place.now.folder.now) view.now.form)
         (streams_of (R.remaining reader.old) (W.contents machine.old.writer)) result
         (streams_of (R.remaining reader.new) (W.contents machine.new.writer)) }
 {
     let key = read_key(machine.rt, key_file)?;
-    let shelf = Shelf::open(machine.rt, machine.alloc, folder)?;
+    let shelf = Shelf::open(machine.rt, machine.alloc, place.folder)?;
     let sender = other_sender(shelf.role);
     match open_letter(machine.alloc, &key, sender, reader) {
-        Ok(text) => take_on_shelf(machine, folder, view, &mut text.as_slice()),
+        Ok(text) => take_on_shelf(machine, place, view, &mut text.as_slice()),
         Err(fault) => Err(fault),
     }
 }
 
 /// A handler that takes each APDU at the desk of its group, and records if all went well.
 #[derive(Drop)]
-struct TakesHome<'a, 'b, 'c> {
+struct TakesHome<'a, 'b, 'c, D> {
+    files: &'a D,
     shelf: Shelf<'a>,
     view: TakeView<'b, 'c>,
     all_fine: bool,
 }
 
-impl<T: LockFiles, W: Write, E: Write> Handler<Machine<'_, T, W, E>> for TakesHome<'_, '_, '_> {
+impl<T: LockFiles, D: DeskFiles, W: Write, E: Write> Handler<Machine<'_, T, W, E>>
+    for TakesHome<'_, '_, '_, D> {
     type Fault = ToolFault;
 
-    ghost handles = { λ old apdu result new. TakesAtHome
-        (record { form = old.0.view.form; all_fine = old.0.all_fine; written = W.contents old.1.writer })
+    ghost handles = { λ old apdu result new. TakesAtHome D.DeskStore.state
+        (record {
+          folder = old.0.shelf.folder.now;
+          form = old.0.view.form;
+          all_fine = old.0.all_fine;
+          written = W.contents old.1.writer;
+        })
         apdu result
-        (record { form = new.0.view.form; all_fine = new.0.all_fine; written = W.contents new.1.writer }) };
+        (record {
+          folder = new.0.shelf.folder.now;
+          form = new.0.view.form;
+          all_fine = new.0.all_fine;
+          written = W.contents new.1.writer;
+        }) };
 
     fn handle(
         &mut self,
@@ -116,7 +133,11 @@ impl<T: LockFiles, W: Write, E: Write> Handler<Machine<'_, T, W, E>> for TakesHo
             Err(_) => return Err(ToolFault::OutOfMemory),
         };
         let mut input = bytes.as_slice();
-        match take(machine, file.as_str(), &self.view, &mut input) {
+        let desk = DeskPlace {
+            files: self.files,
+            path: file.as_str(),
+        };
+        match take(machine, &desk, &self.view, &mut input) {
             Ok(is_well) => {
                 self.all_fine = self.all_fine && is_well;
                 Ok(())
@@ -137,13 +158,15 @@ fn encoded(alloc: Global, apdu: &ApduView<'_>) -> Result<Vec<u8>, OutOfMemory>
 /// Returns the path of the desk for `apdu`. An ILL-Request to a responder's shelf makes the desk of a new group. A
 /// retired group has no desk, and neither has one whose desk is lost. The APDUs of any other group go to the shelf's
 /// own desk.
+#[tactic(auto, using(crate::proofs::HomeLemmas::home_is_for, crate::proofs::HomeLemmas::own_is_for))]
 fn desk_for<T: LockFiles>(
     rt: &T,
     alloc: Global,
     shelf: &Shelf<'_>,
     apdu: &ApduView<'_>,
 ) -> Result<String, ToolFault>
-    ensures { IfErr result IsOpenFault }
+    ensures desk { IfOk result (λ path. IsDeskFor shelf.now.folder.now apdu.now.txn.group (string_bytes path)) }
+    ensures faults { IfErr result IsOpenFault }
 {
     let desk = shelf.desk_of(alloc, apdu.group())?;
     let home = home_at(rt, alloc, desk.as_str())?;

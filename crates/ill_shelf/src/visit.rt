@@ -3,20 +3,20 @@
 
 ghost use Rattle.std.specs.Prelude.{◌≡◌, map, string_bytes};
 ghost use Rattle.ill_rows.specs.Heading.{heading};
-ghost use Rattle.ill_place.specs.Place.{file_at};
+ghost use Rattle.ill_place.specs.Place.{place_of};
 ghost use Rattle.ill_text.specs.Output.{WritesText};
 ghost use Rattle.ill_shelf.specs.Shelf.{Headed, RunsVisit, VisitsAll, is_headed, is_lines};
 ghost use Rattle.ill_text.specs.Visits.{graver};
 
-use ill_commands::at_file::status;
+use ill_commands::commands::status;
 use ill_files::machine::Machine;
 use ill_key::Key;
 use ill_mail::exchange::{exchange, inbox, outbox};
 use ill_mail::outlet::Outlet;
 use ill_mailbox::mail::Incoming;
 use ill_night::night::Night;
+use ill_place::place::{DeskFiles, DeskPlace};
 use ill_rows::listed::{Listed, heading};
-use ill_saved::LockFiles;
 use ill_text::fault::{ToolFault, graver};
 use ill_text::form::Form;
 use ill_text::output::write_whole;
@@ -37,37 +37,42 @@ pub(crate) enum Visit<'a, 'b, 'c> {
 }
 
 /// Visits the desks at `paths`, and returns the gravest of their answers.
-pub(crate) fn visit_all<T: LockFiles, W: Write, E: Write>(
+pub(crate) fn visit_all<T: Files, D: DeskFiles, W: Write, E: Write>(
     machine: &mut Machine<'_, T, W, E>,
+    files: &D,
     paths: &[String],
     visit: &Visit<'_, '_, '_>,
 ) -> Result<bool, ToolFault>
-    ensures { VisitsAll (Headed (is_headed visit.now) (RunsVisit visit.now)) (map (λ path. string_bytes path) paths.now)
-        (W.contents machine.old.writer) (W.contents machine.new.writer) result }
+    ensures { VisitsAll (Headed D.DeskStore.state (is_headed visit.now) (RunsVisit visit.now))
+        (map (λ path. string_bytes path) paths.now) (W.contents machine.old.writer) (W.contents machine.new.writer) result }
 {
     let mut answer = Ok(true);
     for place in 0..paths.len() {
-        let next = visit_desk(machine, paths[place].as_str(), visit);
+        let desk = DeskPlace {
+            files,
+            path: paths[place].as_str(),
+        };
+        let next = visit_desk(machine, &desk, visit);
         answer = graver(answer, next);
     }
     answer
 }
 
 /// Visits a desk, after the line of its path if `visit` writes one.
-fn visit_desk<T: LockFiles, W: Write, E: Write>(
+fn visit_desk<T: Files, D: DeskFiles, W: Write, E: Write>(
     machine: &mut Machine<'_, T, W, E>,
-    path: &str,
+    place: &DeskPlace<'_, D>,
     visit: &Visit<'_, '_, '_>,
 ) -> Result<bool, ToolFault>
-    ensures { Headed (is_headed visit.now) (RunsVisit visit.now) (record {
-      path = path.now;
+    ensures { Headed D.DeskStore.state (is_headed visit.now) (RunsVisit visit.now) (record {
+      path = place.now.path.now;
       before = W.contents machine.old.writer;
       after = W.contents machine.new.writer;
       answer = result;
     }) }
 {
-    match head(machine, path, is_headed(visit)) {
-        Ok(()) => visit_told(machine, path, visit),
+    match head(machine, place.path, is_headed(visit)) {
+        Ok(()) => visit_told(machine, place, visit),
         Err(fault) => Err(fault),
     }
 }
@@ -113,34 +118,36 @@ fn is_lines(form: Form) -> bool
 }
 
 /// Visits a desk, and writes a line to `errors` if the visit fails.
-fn visit_told<T: LockFiles, W: Write, E: Write>(
+fn visit_told<T: Files, D: DeskFiles, W: Write, E: Write>(
     machine: &mut Machine<'_, T, W, E>,
-    path: &str,
+    place: &DeskPlace<'_, D>,
     visit: &Visit<'_, '_, '_>,
 ) -> Result<bool, ToolFault>
-    ensures { RunsVisit visit.now (file_at path.now) (W.contents machine.old.writer) (W.contents machine.new.writer) result }
+    ensures { RunsVisit visit.now (place_of D.DeskStore.state place.now.path.now) (W.contents machine.old.writer)
+        (W.contents machine.new.writer) result }
 {
-    let answer = run_visit(machine, path, visit);
+    let answer = run_visit(machine, place, visit);
     if let Err(fault) = answer
         && fault != ToolFault::Left
     {
-        machine.warn_of_fault(path, fault);
+        machine.warn_of_fault(place.path, fault);
     }
     answer
 }
 
 /// Runs the command of `visit` at a desk.
-fn run_visit<T: LockFiles, W: Write, E: Write>(
+fn run_visit<T: Files, D: DeskFiles, W: Write, E: Write>(
     machine: &mut Machine<'_, T, W, E>,
-    path: &str,
+    place: &DeskPlace<'_, D>,
     visit: &Visit<'_, '_, '_>,
 ) -> Result<bool, ToolFault>
-    ensures { RunsVisit visit.now (file_at path.now) (W.contents machine.old.writer) (W.contents machine.new.writer) result }
+    ensures { RunsVisit visit.now (place_of D.DeskStore.state place.now.path.now) (W.contents machine.old.writer)
+        (W.contents machine.new.writer) result }
 {
     match visit {
-        Visit::Status(form) => status(machine, path, *form),
-        Visit::Inbox(incoming) => inbox(machine, path, *incoming),
-        Visit::Outbox(outlet) => outbox(machine, path, *outlet),
-        Visit::Exchange(night, key) => exchange(machine, path, night, *key),
+        Visit::Status(form) => status(machine, place, *form),
+        Visit::Inbox(incoming) => inbox(machine, place, *incoming),
+        Visit::Outbox(outlet) => outbox(machine, place, *outlet),
+        Visit::Exchange(night, key) => exchange(machine, place, night, *key),
     }
 }

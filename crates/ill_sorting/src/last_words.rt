@@ -1,23 +1,14 @@
-//! The last words of retired groups. A partner who missed how a loan ended asks for it each night. A run gives the answer
-//! from the mark of the group.
-
-ghost use Rattle.std.specs.Prelude.{◌≡◌, IfErr};
-ghost use Rattle.ill_text.specs.Fault.{IsFileFault};
+//! The last words of retired groups, which their marks have. A partner who missed how a loan ended asks for them each night.
 
 use ill_der::ApduView;
 use ill_files::durable::error_of_store;
-use ill_files::machine::Machine;
-use ill_files::shelf::{Shelf, retired_path};
-use ill_mail::outlet::Outlet;
-use ill_mail::sending::{SentAll, send_words};
-use ill_mailbox::mail_box::asked_bytes;
+use ill_files::shelf::retired_path;
 use ill_night::retire::words_in;
 use ill_saved::{FileStore, RECORD_LIMIT, Store};
-use ill_text::fault::ToolFault;
 use ill_text::input::apdus_in;
 use ill_values::Apdu;
 use std::alloc::Global;
-use std::io::{self, Write};
+use std::io;
 use std::rt::Files;
 
 /// Returns the bytes of the mark of the group of `desk`, if the group is retired.
@@ -64,24 +55,4 @@ impl LastWords {
         }
         Ok(None)
     }
-}
-
-/// Puts the last words that were asked for at `shelf` into the folder of `outlet`.
-pub fn send_last_words<T: Files, W: Write, E: Write>(
-    machine: &mut Machine<'_, T, W, E>,
-    shelf: &Shelf<'_>,
-    outlet: Outlet<'_>,
-) -> Result<SentAll, ToolFault>
-    ensures faults { IfErr result IsFileFault }
-    ensures silent { machine.new.writer ≡ machine.old.writer }
-{
-    let words = words_asked(machine.rt, machine.alloc, shelf)?;
-    send_words(machine, &words, outlet)
-}
-
-/// Returns the last words that were asked for at `shelf`.
-fn words_asked<T: Files>(rt: &T, alloc: Global, shelf: &Shelf<'_>) -> io::Result<Vec<Apdu>> {
-    let unsorted = shelf.unsorted(alloc)?;
-    let bytes = asked_bytes(rt, alloc, unsorted.as_str())?;
-    Ok(apdus_in(alloc, &bytes)?)
 }

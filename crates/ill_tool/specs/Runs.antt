@@ -2,6 +2,7 @@
 use Rattle.std.specs.Prelude.{◌≡◌, ℕ, Bool, List, Option, None, is_some, Result, Ok, Err, ◌⊎◌, true, IsErrAnd}
 use Rattle.clap.specs.Values.{kind_of}
 use Rattle.ill_values.specs.TxnId.{txn_id_of}
+use Rattle.ill_store.specs.Store.{StoreState}
 use Rattle.ill_text.specs.declared.fault.ToolFault.{ToolFault}
 use Rattle.ill_text.specs.declared.fault.ToolFault.TheVariants.{Arguments, OutOfMemory, Write}
 use Rattle.ill_text.specs.Show.{RunsShow}
@@ -21,114 +22,122 @@ use Rattle.ill_visits.specs.Visits.{ListsPaths}
 use Rattle.ill_visits.specs.Visits.{CountsPaths, TellsPaths}
 use Rattle.ill_commands.specs.Letters.{SendsWith, TakesWith}
 use Rattle.ill_commands.specs.Note.{NotesAtFile}
-use Rattle.ill_commands.specs.Streams.{streams_of}
+use Rattle.ill_commands.specs.Streams.{Streams, streams_of}
 use Rattle.ill_key.specs.KeyCommand.{RunsKey}
 use Rattle.ill_files.specs.Opening.{GoesWell}
-use Rattle.ill_place.specs.Place.{file_at}
+use Rattle.ill_place.specs.Place.{file_state, place_of, shelf_of}
 use Rattle.ill_beside.specs.Notes.{note_text}
 use Rattle.ill_visits.specs.Visits.{ReportsPaths}
 use Rattle.ill_mail.specs.Keyed.{WithKey}
 use Rattle.ill_mail.specs.Nights.{InboxAtFile, OutboxAtFile, ExchangesAtFile}
 use Rattle.ill_line.specs.Guard.{IsGuarded}
-use Rattle.ill_shelf.specs.Home.{ActsAtHome, LoanAtHome, NewAtAnyFile, NotesAtHome, SendsAtHome, SlipAtHome}
+use Rattle.ill_shelf.specs.Home.{ActsAtHome, BeginsShelf, LoanAtHome, NotesAtHome, SendsAtHome, SlipAtHome}
 use Rattle.ill_shelf.specs.Shelf.{Headed, RetiresAtFile, TakesAtShelf, VisitsShelf, VisitsWith, is_lines}
 
--- A command has this result. The input went from `left` to `rest`, and the output from `before` to `after`.
--- Only a shelf retires a group.
-abbrev pub Runs : Asked → Option (List ℕ) → Option (List ℕ) → Option (List ℕ) → Option (List ℕ) →
-    Result Bool ToolFault → Type 0
-Runs (asks.Show form) left rest before after result = GoesWell (RunsShow form left rest before after) result
-Runs asks.Check left rest before after result = GoesWell (Checks left rest before after) result
-Runs (asks.Simulate group transaction) left rest before after result =
-    GoesWell (Performs (txn_id_of group transaction) left rest before after) result
-Runs asks.SimulateDesks left rest before after result = GoesWell (PerformsDesks left rest before after) result
-Runs (asks.New file role) left rest before after result = (rest ≡ left) × NewAtFile (file_at file) role before after result
-Runs (asks.Act file asking by is_long is_new_group) left rest before after result =
-    (rest ≡ left) × ActsAtFile (file_at file) asking is_long before after result
-Runs (asks.Take file form stamp key) left rest before after result =
-    TakesWith key (TakesAtFile (file_at file) form) (streams_of left before) result (streams_of rest after)
-Runs (asks.Inbox file folder stamp key) left rest before after result =
-    (rest ≡ left) × WithKey key (InboxAtFile (file_at file)) before after result
-Runs (asks.Outbox file folder key) left rest before after result =
-    (rest ≡ left) × WithKey key (OutboxAtFile (is_some folder) (file_at file)) before after result
-Runs (asks.Exchange file incoming outgoing form dates stamp copy beat key) left rest before after result =
-    (rest ≡ left) × WithKey key (ExchangesAtFile (record { form = form; dates = dates }) (file_at file)) before after result
-Runs (asks.Key file deed) left rest before after result = RunsKey deed left rest before after result
-Runs (asks.Send file txn number key) left rest before after result =
-    (rest ≡ left) × SendsWith (file_at file) key (message_of txn number) before after result
-Runs (asks.Listing paths wanted find form) left rest before after result =
-    (rest ≡ left) × ListsPaths form wanted find before after result
-Runs (asks.News paths last since form) left rest before after result =
-    (rest ≡ left) × TellsPaths form last since before after result
-Runs (asks.Figures paths view) left rest before after result = (rest ≡ left) × CountsPaths view before after result
-Runs (asks.Status file form) left rest before after result = (rest ≡ left) × ShowsFile (file_at file) form before after result
-Runs (asks.Loan file txn form) left rest before after result =
-    (rest ≡ left) × LoanAtFile (file_at file) form txn before after result
-Runs (asks.Note file txn words) left rest before after result =
-    (rest ≡ left) × NotesAtFile (file_at file) txn (note_text words) before after result
-Runs (asks.Slip file txn) left rest before after result = (rest ≡ left) × SlipAtFile (file_at file) txn before after result
-Runs (asks.Report paths today since) left rest before after result =
-    (rest ≡ left) × ReportsPaths today since before after result
-Runs (asks.Verify file form) left rest before after result = (rest ≡ left) × VerifiesFile (file_at file) form before after result
-Runs (asks.Retire file group) left rest before after result =
-    (rest ≡ left) × (after ≡ before) × (result ≡ Err Arguments)
+-- A command read nothing. `Does` has its effect: its output goes from the first to the second, and it has this result.
+abbrev pub ReadsNothing : (Does : Option (List ℕ) → Option (List ℕ) → Result Bool ToolFault → Type 0) → Streams →
+    Result Bool ToolFault → Streams → Type 0
+ReadsNothing Does old result new = (new.unread ≡ old.unread) × Does old.written new.written result
+
+-- A command was refused: it read nothing and wrote nothing.
+abbrev pub IsRefused : Streams → Result Bool ToolFault → Streams → Type 0
+IsRefused old result new = (new ≡ old) × (result ≡ Err Arguments)
+
+-- A command has this result, and its streams went from `old` to `new`. `state` has the states of the stores of desks. Only a
+-- shelf retires a group.
+abbrev pub Runs : {S : Type 0} → (state : S → StoreState) → Asked → Streams → Result Bool ToolFault → Streams → Type 0
+Runs state (asks.Show form) old result new =
+    GoesWell (RunsShow form old.unread new.unread old.written new.written) result
+Runs state asks.Check old result new = GoesWell (Checks old.unread new.unread old.written new.written) result
+Runs state (asks.Simulate group transaction) old result new =
+    GoesWell (Performs (txn_id_of group transaction) old.unread new.unread old.written new.written) result
+Runs state asks.SimulateDesks old result new =
+    GoesWell (PerformsDesks old.unread new.unread old.written new.written) result
+Runs state (asks.New file role) old result new = ReadsNothing (NewAtFile (place_of state file) role) old result new
+Runs state (asks.Act file asking by is_long is_new_group) old result new =
+    ReadsNothing (ActsAtFile (place_of state file) asking is_long) old result new
+Runs state (asks.Take file form stamp key) old result new =
+    TakesWith key (TakesAtFile (place_of state file) form) old result new
+Runs state (asks.Inbox file folder stamp key) old result new =
+    ReadsNothing (WithKey key (InboxAtFile (place_of state file))) old result new
+Runs state (asks.Outbox file folder key) old result new =
+    ReadsNothing (WithKey key (OutboxAtFile (is_some folder) (place_of state file))) old result new
+Runs state (asks.Exchange file incoming outgoing form dates stamp copy beat key) old result new =
+    ReadsNothing (WithKey key (ExchangesAtFile (record { form = form; dates = dates }) (place_of state file))) old result new
+Runs state (asks.Key file deed) old result new = RunsKey deed old.unread new.unread old.written new.written result
+Runs state (asks.Send file txn number key) old result new =
+    ReadsNothing (SendsWith (place_of state file) key (message_of txn number)) old result new
+Runs state (asks.Listing paths wanted find form) old result new = ReadsNothing (ListsPaths form wanted find) old result new
+Runs state (asks.News paths last since form) old result new = ReadsNothing (TellsPaths form last since) old result new
+Runs state (asks.Figures paths view) old result new = ReadsNothing (CountsPaths view) old result new
+Runs state (asks.Status file form) old result new =
+    ReadsNothing (ShowsFile (place_of state file) form) old result new
+Runs state (asks.Loan file txn form) old result new =
+    ReadsNothing (LoanAtFile (place_of state file) form txn) old result new
+Runs state (asks.Note file txn words) old result new =
+    ReadsNothing (NotesAtFile (place_of state file) txn (note_text words)) old result new
+Runs state (asks.Slip file txn) old result new = ReadsNothing (SlipAtFile (place_of state file) txn) old result new
+Runs state (asks.Report paths today since) old result new = ReadsNothing (ReportsPaths today since) old result new
+Runs state (asks.Verify file form) old result new =
+    ReadsNothing (VerifiesFile (place_of state file) form) old result new
+Runs state (asks.Retire file group) old result new = IsRefused old result new
 
 -- The guard refused a request for one desk, and nothing was read or written. Or its command has this result.
-abbrev pub RunsGuarded : Asked → Option (List ℕ) → Option (List ℕ) → Option (List ℕ) → Option (List ℕ) →
-    Result Bool ToolFault → Type 0
-RunsGuarded asked left rest before after result =
-    (IsErrAnd result (IsGuarded asked) × (rest ≡ left) × (after ≡ before)) ⊎ Runs asked left rest before after result
+abbrev pub RunsGuarded : {S : Type 0} → (state : S → StoreState) → Asked → Streams → Result Bool ToolFault → Streams → Type 0
+RunsGuarded state asked old result new = (IsErrAnd result (IsGuarded asked) × (new ≡ old)) ⊎ Runs state asked old result new
 
--- A command on a shelf. In a transaction it has the effect of the command for one desk, that of the group on this shelf. The
--- input goes from `left` to `rest`, and the output from `before` to `after`.
-abbrev pub RunsShelf : Asked → Option (List ℕ) → Option (List ℕ) → Option (List ℕ) → Option (List ℕ) →
-    Result Bool ToolFault → Type 0
-RunsShelf (asks.New folder role) left rest before after result = (rest ≡ left) × NewAtAnyFile role before after result
-RunsShelf (asks.Act folder asking by is_long is_new_group) left rest before after result =
-    (rest ≡ left) × ActsAtHome folder asking is_long before after result
-RunsShelf (asks.Take folder form stamp key) left rest before after result =
-    TakesWith key (TakesAtShelf form) (streams_of left before) result (streams_of rest after)
-RunsShelf (asks.Send folder txn number key) left rest before after result =
-    (rest ≡ left) × SendsAtHome folder key (message_of txn number) before after result
-RunsShelf (asks.Loan folder txn form) left rest before after result =
-    (rest ≡ left) × LoanAtHome folder form txn before after result
-RunsShelf (asks.Note folder txn words) left rest before after result =
-    (rest ≡ left) × NotesAtHome folder txn (note_text words) before after result
-RunsShelf (asks.Slip folder txn) left rest before after result = (rest ≡ left) × SlipAtHome folder txn before after result
-RunsShelf (asks.Status folder form) left rest before after result =
-    (rest ≡ left) × VisitsShelf folder (Headed (is_lines form) (λ place. ShowsFile place form)) before after result
-RunsShelf (asks.Inbox folder incoming stamp key) left rest before after result =
-    (rest ≡ left) × VisitsWith key folder (Headed true InboxAtFile) before after result
-RunsShelf (asks.Outbox folder outgoing key) left rest before after result =
-    (rest ≡ left)
-    × WithKey key (VisitsShelf folder (Headed (is_some outgoing) (OutboxAtFile (is_some outgoing)))) before after result
-RunsShelf (asks.Exchange folder incoming outgoing form dates stamp copy beat key) left rest before after result =
-    (rest ≡ left)
-    × VisitsWith key folder (Headed (is_lines form) (ExchangesAtFile (record { form = form; dates = dates }))) before after result
-RunsShelf (asks.Retire folder group) left rest before after result = (rest ≡ left) × RetiresAtFile before after result
-RunsShelf other left rest before after result = (rest ≡ left) × (after ≡ before) × (result ≡ Err Arguments)
+-- A command on a shelf. In a transaction it has the effect of the command for one desk, that of the group on this shelf. Its
+-- streams went from `old` to `new`.
+abbrev pub RunsShelf : {S : Type 0} → (state : S → StoreState) → Asked → Streams → Result Bool ToolFault → Streams → Type 0
+RunsShelf state (asks.New folder role) old result new =
+    ReadsNothing (BeginsShelf (shelf_of state folder) role) old result new
+RunsShelf state (asks.Act folder asking by is_long is_new_group) old result new =
+    ReadsNothing (ActsAtHome (shelf_of state folder) asking is_long) old result new
+RunsShelf state (asks.Take folder form stamp key) old result new =
+    TakesWith key (TakesAtShelf (shelf_of state folder) form) old result new
+RunsShelf state (asks.Send folder txn number key) old result new =
+    ReadsNothing (SendsAtHome (shelf_of state folder) key (message_of txn number)) old result new
+RunsShelf state (asks.Loan folder txn form) old result new =
+    ReadsNothing (LoanAtHome (shelf_of state folder) form txn) old result new
+RunsShelf state (asks.Note folder txn words) old result new =
+    ReadsNothing (NotesAtHome (shelf_of state folder) txn (note_text words)) old result new
+RunsShelf state (asks.Slip folder txn) old result new =
+    ReadsNothing (SlipAtHome (shelf_of state folder) txn) old result new
+RunsShelf state (asks.Status folder form) old result new =
+    ReadsNothing (VisitsShelf folder (Headed state (is_lines form) (λ place. ShowsFile place form))) old result new
+RunsShelf state (asks.Inbox folder incoming stamp key) old result new =
+    ReadsNothing (VisitsWith key folder (Headed state true InboxAtFile)) old result new
+RunsShelf state (asks.Outbox folder outgoing key) old result new =
+    ReadsNothing (WithKey key (VisitsShelf folder (Headed state (is_some outgoing) (OutboxAtFile (is_some outgoing))))) old
+    result new
+RunsShelf state (asks.Exchange folder incoming outgoing form dates stamp copy beat key) old result new =
+    let night = ExchangesAtFile (record { form = form; dates = dates }) in
+    ReadsNothing (VisitsWith key folder (Headed state (is_lines form) night)) old result new
+RunsShelf state (asks.Retire folder group) old result new = ReadsNothing RetiresAtFile old result new
+RunsShelf state other old result new = IsRefused old result new
 
 -- The command of a call has this result: for one desk behind the guard, on a shelf, or for the command line itself. The
 -- last reads nothing.
-abbrev pub RunsCall : Call → Option (List ℕ) → Option (List ℕ) → Option (List ℕ) → Option (List ℕ) →
+abbrev pub RunsCall : {S : Type 0} → (state : S → StoreState) → Call → Streams → Result Bool ToolFault → Streams → Type 0
+RunsCall state (calls.Desk request) old result new = RunsGuarded state (asked request) old result new
+RunsCall state (calls.Shelf request) old result new = RunsShelf state (asked request) old result new
+RunsCall state calls.Help old result new = ReadsNothing TellsHelp old result new
+
+-- The command of a call was run. Its streams were `old` before, and `rest` is left of the input. `result` is its result, or the
+-- fault `Write` of the flush. Or there was no memory for the buffer of the output.
+abbrev pub PerformsCall : {S : Type 0} → (state : S → StoreState) → Call → (old : Streams) → (rest : Option (List ℕ)) →
     Result Bool ToolFault → Type 0
-RunsCall (calls.Desk request) = RunsGuarded (asked request)
-RunsCall (calls.Shelf request) = RunsShelf (asked request)
-RunsCall calls.Help = λ left rest before after result. (rest ≡ left) × TellsHelp before after result
+PerformsCall state call old rest result =
+    ((result ≡ Err OutOfMemory) × (rest ≡ old.unread))
+    ⊎ ((after : Option (List ℕ)) × (done : Result Bool ToolFault)
+    × RunsCall state call old done (streams_of rest after) × IsFlushed done result)
 
--- The command of a call was run, from the output `before`. `result` is its result, or the fault `Write` of the
--- flush. Or there was no memory for the buffer of the output.
-abbrev pub PerformsCall : Call → Option (List ℕ) → Option (List ℕ) → Option (List ℕ) → Result Bool ToolFault → Type 0
-PerformsCall call left rest before result =
-    ((result ≡ Err OutOfMemory) × (rest ≡ left))
-    ⊎ ((after : Option (List ℕ)) × (done : Result Bool ToolFault) × RunsCall call left rest before after done
-    × IsFlushed done result)
-
--- A call from the output `before` ends with the exit status of its result. The reader that counts the messages of
--- the input tells nothing of their bytes, so the input is unknown.
+-- A call over the files of the host ends with the exit status of its result. Its output was `before`. The reader that counts
+-- the messages of the input tells nothing of their bytes, so the input is unknown.
 abbrev pub EndsCall : Call → Option (List ℕ) → ℕ → Type 0
 EndsCall call before status =
-    (result : Result Bool ToolFault) × PerformsCall call None None before result × (status ≡ exit_status result)
+    (result : Result Bool ToolFault) × PerformsCall file_state call (streams_of None before) None result
+    × (status ≡ exit_status result)
 
 -- The reading of a command line ends with the exit status of what was asked for. A call ends with that of its result.
 -- Words that `clap` refuses end as `TellsKind` says. A fault has its own status, or that of the flush before its line.

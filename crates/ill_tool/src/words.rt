@@ -4,6 +4,7 @@ ghost use Rattle.std.specs.Prelude.{◌≡◌, ◌⊎◌, ◌≤◌, true, is_so
 ghost use Rattle.ill_text.specs.declared.fault.ToolFault.TheVariants.{Write};
 ghost use Rattle.clap.specs.Values.{kind_of};
 ghost use Rattle.ill_line.specs.Asked.{asked};
+ghost use Rattle.ill_commands.specs.Streams.{streams_of};
 ghost use Rattle.ill_tool.specs.Runs.{EndsCall, EndsLine, EndsReading, PerformsCall, Runs, RunsCall, RunsGuarded, RunsShelf};
 ghost use Rattle.ill_tool.specs.ExitStatus.{IsFlushed, TellsKind, exit_status, status_of};
 
@@ -12,9 +13,9 @@ use crate::help::tell_command_line;
 use crate::simulate::{run_simulate, run_simulate_desks};
 use clap::Error;
 use clap::error::ErrorKind;
-use ill_commands::at_file::{act, loan, new, note, send_with, slip, status, take_with, verify};
-use ill_commands::commands::TakeView;
-use ill_commands::note::NoteView;
+use ill_commands::commands::{TakeView, act, loan, new, slip, status, verify};
+use ill_commands::letters::{send_with, take_with};
+use ill_commands::note::{NoteView, note};
 use ill_desk::act_as::ActionView;
 use ill_desk::take::TakeForm;
 use ill_explain::{Passed, Watched, explain, is_asked};
@@ -26,6 +27,7 @@ use ill_line::request::{Call, Refusal, Request, read_words};
 use ill_mail::keyed::{exchange_with, inbox_with, outbox_with};
 use ill_mailbox::mail::Incoming;
 use ill_night::night::Night;
+use ill_place::place::{DeskFiles, DeskPlace, HostFiles, ShelfPlace};
 use ill_saved::LockFiles;
 use ill_shelf::keyed::{exchange_of_shelf_with, inbox_of_shelf_with, outbox_of_shelf_with};
 use ill_shelf::on_shelf::{
@@ -132,7 +134,8 @@ fn answer_call<T: LockFiles, R: Read, W: Write, E: Write>(
     ensures most { result ≤ 3 }
 {
     let mut reader = Watched::new(machine.alloc, reader, is_asked(words));
-    let done = perform(machine, call, &mut reader);
+    let files = HostFiles::of(machine.rt);
+    let done = perform(machine, &files, call, &mut reader);
     end_with_status(machine, words, done, reader.passed())
 }
 
@@ -159,12 +162,14 @@ const BUFFER: usize = 65_536;
 
 /// Performs a command, with a buffer before the writer, and returns true if all went well. The commands themselves read
 /// in pieces.
-fn perform<T: LockFiles, R: Read, W: Write, E: Write>(
+fn perform<T: LockFiles, D: DeskFiles, R: Read, W: Write, E: Write>(
     machine: &mut Machine<'_, T, W, E>,
+    files: &D,
     call: &Call<'_>,
     reader: &mut R,
 ) -> Result<bool, ToolFault>
-    ensures { PerformsCall call.now (R.remaining reader.old) (R.remaining reader.new) (W.contents machine.old.writer) result }
+    ensures { PerformsCall D.DeskStore.state call.now
+        (streams_of (R.remaining reader.old) (W.contents machine.old.writer)) (R.remaining reader.new) result }
 {
     let Ok(buffer) = BufWriter::with_capacity(machine.alloc, BUFFER, &mut machine.writer) else {
         return Err(ToolFault::OutOfMemory);
@@ -175,22 +180,24 @@ fn perform<T: LockFiles, R: Read, W: Write, E: Write>(
         writer: buffer,
         errors: &mut machine.errors,
     };
-    let done = run_call(&mut buffered, call, reader);
+    let done = run_call(&mut buffered, files, call, reader);
     finish_writing(buffered.writer, done)
 }
 
 /// Runs the command of a call: for one desk, on a shelf, or for the command line itself.
-fn run_call<T: LockFiles, R: Read, W: Write, E: Write>(
+fn run_call<T: LockFiles, D: DeskFiles, R: Read, W: Write, E: Write>(
     machine: &mut Machine<'_, T, W, E>,
+    files: &D,
     call: &Call<'_>,
     reader: &mut R,
 ) -> Result<bool, ToolFault>
-    ensures { RunsCall call.now (R.remaining reader.old) (R.remaining reader.new) (W.contents machine.old.writer)
-        (W.contents machine.new.writer) result }
+    ensures { RunsCall D.DeskStore.state call.now
+        (streams_of (R.remaining reader.old) (W.contents machine.old.writer)) result
+        (streams_of (R.remaining reader.new) (W.contents machine.new.writer)) }
 {
     match call {
-        Call::Desk(request) => run_guarded(machine, request, reader),
-        Call::Shelf(request) => run_on_shelf(machine, request, reader),
+        Call::Desk(request) => run_guarded(machine, files, request, reader),
+        Call::Shelf(request) => run_on_shelf(machine, files, request, reader),
         Call::Help => tell_command_line(machine),
     }
 }
@@ -222,28 +229,32 @@ fn flush<W: Write>(writer: &mut W, done: Result<bool, ToolFault>) -> Result<bool
 }
 
 /// Runs the engine of a command for one desk, unless that is a desk of a shelf and is at stake.
-fn run_guarded<T: LockFiles, R: Read, W: Write, E: Write>(
+fn run_guarded<T: LockFiles, D: DeskFiles, R: Read, W: Write, E: Write>(
     machine: &mut Machine<'_, T, W, E>,
+    files: &D,
     request: &Request<'_>,
     reader: &mut R,
 ) -> Result<bool, ToolFault>
-    ensures { RunsGuarded (asked request.now) (R.remaining reader.old) (R.remaining reader.new)
-        (W.contents machine.old.writer) (W.contents machine.new.writer) result }
+    ensures { RunsGuarded D.DeskStore.state (asked request.now)
+        (streams_of (R.remaining reader.old) (W.contents machine.old.writer)) result
+        (streams_of (R.remaining reader.new) (W.contents machine.new.writer)) }
 {
     if let Err(fault) = refuse_desk_of_shelf(machine.rt, machine.alloc, request) {
         return Err(fault);
     }
-    run(machine, request, reader)
+    run(machine, files, request, reader)
 }
 
 /// Runs the engine of a command. Lines that are not about a fault of the command go to `errors`.
-fn run<T: LockFiles, R: Read, W: Write, E: Write>(
+fn run<T: LockFiles, D: DeskFiles, R: Read, W: Write, E: Write>(
     machine: &mut Machine<'_, T, W, E>,
+    files: &D,
     request: &Request<'_>,
     reader: &mut R,
 ) -> Result<bool, ToolFault>
-    ensures { Runs (asked request.now) (R.remaining reader.old) (R.remaining reader.new)
-        (W.contents machine.old.writer) (W.contents machine.new.writer) result }
+    ensures { Runs D.DeskStore.state (asked request.now)
+        (streams_of (R.remaining reader.old) (W.contents machine.old.writer)) result
+        (streams_of (R.remaining reader.new) (W.contents machine.new.writer)) }
 {
     match request {
         Request::Show { form } => all_well(run_show_as(
@@ -267,7 +278,7 @@ fn run<T: LockFiles, R: Read, W: Write, E: Write>(
             reader,
             &mut machine.writer,
         )),
-        Request::New { file, role } => new(machine, file, *role),
+        Request::New { file, role } => new(machine, &DeskPlace { files, path: file }, *role),
         Request::Act {
             file,
             txn,
@@ -280,7 +291,7 @@ fn run<T: LockFiles, R: Read, W: Write, E: Write>(
             ..
         } => act(
             machine,
-            file,
+            &DeskPlace { files, path: file },
             &ActionView {
                 txn,
                 today: *today,
@@ -296,22 +307,49 @@ fn run<T: LockFiles, R: Read, W: Write, E: Write>(
             form,
             stamp,
             key,
-        } => take_with(machine, file, *key, &take_view(*form, stamp), reader),
+        } => take_with(
+            machine,
+            &DeskPlace { files, path: file },
+            *key,
+            &take_view(*form, stamp),
+            reader,
+        ),
         Request::Inbox {
             file,
             folder,
             stamp,
             key,
-        } => inbox_with(machine, file, *key, &mails_in(folder, false, stamp)),
-        Request::Outbox { file, folder, key } => outbox_with(machine, file, *key, *folder),
-        Request::Exchange { file, night, key } => exchange_with(machine, file, *key, night),
+        } => inbox_with(
+            machine,
+            &DeskPlace { files, path: file },
+            *key,
+            &mails_in(folder, false, stamp),
+        ),
+        Request::Outbox { file, folder, key } => outbox_with(
+            machine,
+            &DeskPlace { files, path: file },
+            *key,
+            *folder,
+        ),
+        Request::Exchange { file, night, key } => exchange_with(
+            machine,
+            &DeskPlace { files, path: file },
+            *key,
+            night,
+        ),
         Request::Key { file, deed } => key(machine, file, *deed, reader),
         Request::Send {
             file,
             txn,
             number,
             key,
-        } => send_with(machine, file, *key, txn, *number),
+        } => send_with(
+            machine,
+            &DeskPlace { files, path: file },
+            *key,
+            txn,
+            *number,
+        ),
         Request::List {
             paths,
             wanted,
@@ -325,12 +363,20 @@ fn run<T: LockFiles, R: Read, W: Write, E: Write>(
             form,
         } => news(machine, paths, *last, *since, *form),
         Request::Figures { paths, view } => figures(machine, paths, view),
-        Request::Status { file, form } => status(machine, file, *form),
-        Request::Loan { file, txn, form } => loan(machine, file, &LoanView { txn, form: *form }),
-        Request::Note { file, txn, words } => note(machine, file, &NoteView { txn, words }),
-        Request::Slip { file, txn } => slip(machine, file, txn),
+        Request::Status { file, form } => status(machine, &DeskPlace { files, path: file }, *form),
+        Request::Loan { file, txn, form } => loan(
+            machine,
+            &DeskPlace { files, path: file },
+            &LoanView { txn, form: *form },
+        ),
+        Request::Note { file, txn, words } => note(
+            machine,
+            &DeskPlace { files, path: file },
+            &NoteView { txn, words },
+        ),
+        Request::Slip { file, txn } => slip(machine, &DeskPlace { files, path: file }, txn),
         Request::Retire { .. } => Err(ToolFault::Arguments),
-        Request::Verify { file, form } => verify(machine, file, *form),
+        Request::Verify { file, form } => verify(machine, &DeskPlace { files, path: file }, *form),
         Request::Report {
             paths,
             today,
@@ -361,16 +407,25 @@ fn mails_in<'a, 'b, 'c>(
 }
 
 /// Runs the engine of a command on a shelf. Any command that a shelf lacks is refused.
-fn run_on_shelf<T: LockFiles, R: Read, W: Write, E: Write>(
+fn run_on_shelf<T: LockFiles, D: DeskFiles, R: Read, W: Write, E: Write>(
     machine: &mut Machine<'_, T, W, E>,
+    files: &D,
     request: &Request<'_>,
     reader: &mut R,
 ) -> Result<bool, ToolFault>
-    ensures { RunsShelf (asked request.now) (R.remaining reader.old) (R.remaining reader.new)
-        (W.contents machine.old.writer) (W.contents machine.new.writer) result }
+    ensures { RunsShelf D.DeskStore.state (asked request.now)
+        (streams_of (R.remaining reader.old) (W.contents machine.old.writer)) result
+        (streams_of (R.remaining reader.new) (W.contents machine.new.writer)) }
 {
     match request {
-        Request::New { file, role } => new_shelf(machine, file, *role),
+        Request::New { file, role } => new_shelf(
+            machine,
+            &ShelfPlace {
+                files,
+                folder: file,
+            },
+            *role,
+        ),
         Request::Act {
             file,
             txn,
@@ -383,7 +438,10 @@ fn run_on_shelf<T: LockFiles, R: Read, W: Write, E: Write>(
             words,
         } => act_on_shelf(
             machine,
-            file,
+            &ShelfPlace {
+                files,
+                folder: file,
+            },
             &ActionView {
                 txn,
                 today: *today,
@@ -400,32 +458,102 @@ fn run_on_shelf<T: LockFiles, R: Read, W: Write, E: Write>(
             form,
             stamp,
             key,
-        } => take_on_shelf_with(machine, file, *key, &take_view(*form, stamp), reader),
+        } => take_on_shelf_with(
+            machine,
+            &ShelfPlace {
+                files,
+                folder: file,
+            },
+            *key,
+            &take_view(*form, stamp),
+            reader,
+        ),
         Request::Send {
             file,
             txn,
             number,
             key,
-        } => send_on_shelf_with(machine, file, *key, txn, *number),
+        } => send_on_shelf_with(
+            machine,
+            &ShelfPlace {
+                files,
+                folder: file,
+            },
+            *key,
+            txn,
+            *number,
+        ),
         Request::Loan { file, txn, form } => {
-            loan_on_shelf(machine, file, &LoanView { txn, form: *form })
+            loan_on_shelf(
+                machine,
+                &ShelfPlace {
+                    files,
+                    folder: file,
+                },
+                &LoanView { txn, form: *form },
+            )
         }
         Request::Note { file, txn, words } => {
-            note_on_shelf(machine, file, &NoteView { txn, words })
+            note_on_shelf(
+                machine,
+                &ShelfPlace {
+                    files,
+                    folder: file,
+                },
+                &NoteView { txn, words },
+            )
         }
-        Request::Slip { file, txn } => slip_on_shelf(machine, file, txn),
-        Request::Status { file, form } => status_of_shelf(machine, file, *form),
+        Request::Slip { file, txn } => slip_on_shelf(
+            machine,
+            &ShelfPlace {
+                files,
+                folder: file,
+            },
+            txn,
+        ),
+        Request::Status { file, form } => status_of_shelf(
+            machine,
+            &ShelfPlace {
+                files,
+                folder: file,
+            },
+            *form,
+        ),
         Request::Inbox {
             file,
             folder,
             stamp,
             key,
-        } => inbox_of_shelf_with(machine, file, *key, &mails_in(folder, true, stamp)),
+        } => inbox_of_shelf_with(
+            machine,
+            &ShelfPlace {
+                files,
+                folder: file,
+            },
+            *key,
+            &mails_in(folder, true, stamp),
+        ),
         Request::Outbox { file, folder, key } => {
-            outbox_of_shelf_with(machine, file, *key, *folder)
+            outbox_of_shelf_with(
+                machine,
+                &ShelfPlace {
+                    files,
+                    folder: file,
+                },
+                *key,
+                *folder,
+            )
         }
         Request::Exchange { file, night, key } => {
-            exchange_of_shelf_with(machine, file, *key, night)
+            exchange_of_shelf_with(
+                machine,
+                &ShelfPlace {
+                    files,
+                    folder: file,
+                },
+                *key,
+                night,
+            )
         }
         Request::Retire { file, group } => retire(machine, file, group),
         _ => Err(ToolFault::Arguments),

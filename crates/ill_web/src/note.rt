@@ -10,9 +10,9 @@ use crate::house::House;
 use crate::trouble::Trouble;
 use ill_beside::notes::is_note;
 use ill_browser::LoanName;
-use ill_commands::at_file::note;
-use ill_commands::note::NoteView;
+use ill_commands::note::{NoteView, note};
 use ill_page::seen_reply;
+use ill_place::place::{DeskPlace, HostFiles};
 use ill_report::link::Place;
 use ill_saved::LockFiles;
 
@@ -56,7 +56,12 @@ fn keep<T: LockFiles>(
         txn: place.txn,
         words: &words,
     };
-    match note(&mut house.machine(), place.desk, &view) {
+    let files = HostFiles::of(house.rt);
+    let desk = DeskPlace {
+        files: &files,
+        path: place.desk,
+    };
+    match note(&mut house.machine(), &desk, &view) {
         Ok(_) => Ok(seen_reply(house.alloc, place)?),
         Err(fault) => Err(Trouble::Desk(fault)),
     }

@@ -16,7 +16,7 @@ use ill_beside::annex::Annex;
 use ill_beside::file_lines::FileLines;
 use ill_beside::notes::Notes;
 use ill_browser::LoanName;
-use ill_commands::at_file::slip;
+use ill_commands::commands::slip;
 use ill_figures::figures::{FiguresView, Span};
 use ill_files::came::came_bytes;
 use ill_files::diary::diary_bytes;
@@ -28,6 +28,7 @@ use ill_page::{
     DeskShown, LoanShown, Status, begin_desks, end_desks, figures_page, loan_page, notice_page,
     page_reply, push_desk_part,
 };
+use ill_place::place::{DeskPlace, HostFiles};
 use ill_post::stamp_of;
 use ill_report::link::Place;
 use ill_report::report::push_fault;
@@ -247,7 +248,12 @@ fn slip_reply<T: LockFiles>(house: &House<'_, T>, place: &Place<'_>) -> Result<V
     ensures { ShowsSlip (asked_at place.now) (said result) }
 {
     let mut machine = house.machine();
-    slip(&mut machine, place.desk, place.txn)?;
+    let files = HostFiles::of(house.rt);
+    let desk = DeskPlace {
+        files: &files,
+        path: place.desk,
+    };
+    slip(&mut machine, &desk, place.txn)?;
     Ok(page_reply(house.alloc, Status::Good, &machine.writer)?)
 }
 

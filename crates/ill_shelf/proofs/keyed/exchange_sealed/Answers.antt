@@ -16,9 +16,11 @@ returns g c =
     let asked = asked_night c.args.night.now in
     let end = g.W.Write.contents c.exchange_at_desks-done.new.machine.writer in
     let visited = subst (λ (start : Option (List ℕ)).
-    VisitsShelf c.in_ok-shelf.shelf.folder.now (Headed heads (ExchangesAtFile asked)) start end done) quiet
+    VisitsShelf c.in_ok-shelf.shelf.folder.now (Headed g.D.DeskStore.Store.state heads (ExchangesAtFile asked)) start end done)
+    quiet
     c.exchange_at_desks-done.ensures in
     let here = subst (λ (folder : List ℕ).
-    VisitsShelf folder (Headed heads (ExchangesAtFile asked)) (g.W.Write.contents c.args.machine.now.writer) end done)
+    VisitsShelf folder (Headed g.D.DeskStore.Store.state heads (ExchangesAtFile asked))
+    (g.W.Write.contents c.args.machine.now.writer) end done)
     c.in_ok-shelf.ensures.folder visited in
     inr (done, opened.is_waiting, opened.are_sealed, here, c.graver.ensures ∙ ap (graver done) c.opened_answer.ensures)

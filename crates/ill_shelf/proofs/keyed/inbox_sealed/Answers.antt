@@ -14,8 +14,10 @@ returns g c =
     let quiet = ap (λ writer. g.W.Write.contents writer) c.in_ok-opened.ensures.silent in
     let end = g.W.Write.contents c.take_at_desks-done.new.machine.writer in
     let visited = subst (λ (start : Option (List ℕ)).
-    VisitsShelf c.in_ok-shelf.shelf.folder.now (Headed true InboxAtFile) start end done) quiet c.take_at_desks-done.ensures in
+    VisitsShelf c.in_ok-shelf.shelf.folder.now (Headed g.D.DeskStore.Store.state true InboxAtFile) start end done) quiet
+    c.take_at_desks-done.ensures in
     let here = subst (λ (folder : List ℕ).
-    VisitsShelf folder (Headed true InboxAtFile) (g.W.Write.contents c.args.machine.now.writer) end done)
+    VisitsShelf folder (Headed g.D.DeskStore.Store.state true InboxAtFile) (g.W.Write.contents c.args.machine.now.writer) end
+    done)
     c.in_ok-shelf.ensures.folder visited in
     inr (done, opened.is_waiting, opened.are_sealed, here, c.graver.ensures ∙ ap (graver done) c.opened_answer.ensures)

@@ -1,7 +1,7 @@
 -- Answers the contract of `act_on_shelf` (`src/on_shelf.rt`).
 use Rattle.std.proofs.Common.{ℕ, List, inr, subst}
 use Rattle.std.specs.Prelude.{string_bytes}
-use Rattle.ill_place.specs.Place.{OpensAt, file_at}
+use Rattle.ill_place.specs.Place.{OpensAt, place_of, shelf_of}
 use Rattle.ill_text.specs.declared.fault.ToolFault.TheVariants.{OutOfMemory}
 use Rattle.ill_desk.specs.ActAs.{asking_of}
 use Rattle.ill_files.proofs.OpenLemmas.{open_fault}
@@ -12,9 +12,11 @@ use Rattle.ill_shelf.proofs.on_shelf.act_on_shelf.Goals as goal
 pub returns : goal.returns
 returns g c =
     let path = string_bytes c.in_ok-file.file in
-    let home = is_home c.args.folder.now c.in_ok-shelf.shelf.folder.now c.in_ok-shelf.shelf.role c.args.view.now.txn.now.group
+    let home = is_home c.args.place.now.folder.now c.in_ok-shelf.shelf.folder.now c.in_ok-shelf.shelf.role
+    c.args.view.now.txn.now.group
     c.group.result.now path c.in_ok-shelf.ensures.folder c.group.ensures.value c.in_ok-file.ensures in
-    let opens = subst (λ (path : List ℕ). OpensAt (file_at path) c.in_ok-locked.locked.desk) c.as_str.ensures.value
+    let opens = subst (λ (path : List ℕ). OpensAt (place_of g.D.DeskStore.Store.state path) c.in_ok-locked.locked.desk)
+    c.as_str.ensures.value
     c.in_ok-locked.ensures.opens in
     (path, home, inr (c.in_ok-locked.locked.desk, c.act_at.ensures.0, opens, c.act_at.ensures.1))
 
@@ -23,14 +25,16 @@ pub returns-in_err-shelf : goal.returns-in_err-shelf
 returns-in_err-shelf g c =
     let result = c.from_residual.result in
     let opens = open_fault result c.in_err-shelf.field-0.0 c.from_residual.ensures.1 c.in_err-shelf.ensures.faults in
-    not_acted c.args.folder.now (asking_of c.args.view.now) c.args.is_long _ result opens
+    not_acted (shelf_of g.D.DeskStore.Store.state c.args.place.now.folder.now) (asking_of c.args.view.now) c.args.is_long _ result
+    opens
 
 -- If memory runs out for the path of the desk, no action is performed.
 pub returns-in_err-file : goal.returns-in_err-file
 returns-in_err-file g c =
     let result = c.from_residual-in_err-file.result in
     let opens = open_fault result OutOfMemory c.from_residual-in_err-file.ensures.1 tt in
-    not_acted c.args.folder.now (asking_of c.args.view.now) c.args.is_long _ result opens
+    not_acted (shelf_of g.D.DeskStore.Store.state c.args.place.now.folder.now) (asking_of c.args.view.now) c.args.is_long _ result
+    opens
 
 -- If the desk is not opened, no action is performed.
 pub returns-in_err-locked : goal.returns-in_err-locked
@@ -38,4 +42,5 @@ returns-in_err-locked g c =
     let result = c.from_residual-in_err-locked.result in
     let opens = open_fault result c.in_err-locked.field-0.0 c.from_residual-in_err-locked.ensures.1
     c.in_err-locked.ensures.faults in
-    not_acted c.args.folder.now (asking_of c.args.view.now) c.args.is_long _ result opens
+    not_acted (shelf_of g.D.DeskStore.Store.state c.args.place.now.folder.now) (asking_of c.args.view.now) c.args.is_long _ result
+    opens

@@ -17,12 +17,14 @@ returns g c =
     let quiet = ap (λ writer. g.W.Write.contents writer) c.in_ok-is_waiting.ensures.silent in
     let ended = ap (λ writer. g.W.Write.contents writer) c.end_night-further.ensures.silent in
     let told = g.W.Write.contents c.visit_all-answer.new.machine.writer in
-    let as_asked = subst (λ (now : AskedNight). VisitsAll (Headed (is_lines now.form) (ExchangesAtFile now)) paths
+    let as_asked = subst (λ (now : AskedNight).
+    VisitsAll (Headed g.D.DeskStore.Store.state (is_lines now.form) (ExchangesAtFile now)) paths
     (g.W.Write.contents c.sort_mails.new.machine.writer) told answer) c.at_each.ensures c.visit_all-answer.ensures in
     let begun = subst (λ (start : Option (List ℕ)).
-    VisitsAll (Headed heads (ExchangesAtFile asked)) paths start told answer) quiet as_asked in
+    VisitsAll (Headed g.D.DeskStore.Store.state heads (ExchangesAtFile asked)) paths start told answer) quiet as_asked in
     let visited = subst (λ (end : Option (List ℕ)).
-    VisitsAll (Headed heads (ExchangesAtFile asked)) paths (g.W.Write.contents c.args.machine.now.writer) end answer) (sym ended)
+    VisitsAll (Headed g.D.DeskStore.Store.state heads (ExchangesAtFile asked)) paths
+    (g.W.Write.contents c.args.machine.now.writer) end answer) (sym ended)
     begun in
     let found = subst (λ desks. AreOnShelf c.args.shelf.now.folder.now (map (λ path. string_bytes path) desks))
     (sym c.deref.ensures.value) c.in_ok-desks.ensures.on_shelf in

@@ -13,8 +13,9 @@ returns g c =
     let end = g.W.Write.contents c.exchange_at_desks.new.machine.writer in
     let result = c.exchange_at_desks.result in
     let visited = subst (λ (start : Option (List ℕ)).
-    VisitsShelf c.in_ok-shelf.shelf.folder.now (Headed heads (ExchangesAtFile asked)) start end result)
+    VisitsShelf c.in_ok-shelf.shelf.folder.now (Headed g.D.DeskStore.Store.state heads (ExchangesAtFile asked)) start end result)
     (ap (λ writer. g.W.Write.contents writer) c.in_ok-shelf.ensures.silent) c.exchange_at_desks.ensures in
     subst (λ (folder : List ℕ).
-    VisitsShelf folder (Headed heads (ExchangesAtFile asked)) (g.W.Write.contents c.args.machine.now.writer) end result)
+    VisitsShelf folder (Headed g.D.DeskStore.Store.state heads (ExchangesAtFile asked))
+    (g.W.Write.contents c.args.machine.now.writer) end result)
     c.in_ok-shelf.ensures.folder visited

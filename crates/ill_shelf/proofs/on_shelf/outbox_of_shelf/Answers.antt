@@ -15,7 +15,8 @@ returns g c =
     let to_folder = is_some c.args.outlet in
     let ended = ap (λ writer. g.W.Write.contents writer) c.send_words_to.ensures.silent in
     let visited = subst (λ (end : Option (List ℕ)).
-    VisitsAll (Headed to_folder (OutboxAtFile to_folder)) paths (g.W.Write.contents c.args.machine.now.writer) end answer)
+    VisitsAll (Headed g.D.DeskStore.Store.state to_folder (OutboxAtFile to_folder)) paths
+    (g.W.Write.contents c.args.machine.now.writer) end answer)
     (sym ended) c.visit_all-answer.ensures in
     let found = subst (λ desks. AreOnShelf c.in_ok-shelf.shelf.folder.now (map (λ path. string_bytes path) desks))
     (sym c.deref.ensures.value) c.in_ok-desks.ensures.on_shelf in

@@ -1,7 +1,7 @@
 -- Answers the contract of `slip_on_shelf` (`src/on_shelf.rt`).
 use Rattle.std.proofs.Common.{ℕ, List, inl, refl, subst}
 use Rattle.std.specs.Prelude.{string_bytes}
-use Rattle.ill_place.specs.Place.{file_at}
+use Rattle.ill_place.specs.Place.{place_of}
 use Rattle.ill_commands.specs.AtFile.{SlipAtFile}
 use Rattle.ill_record.specs.declared.role.Role.TheVariants.{Requester}
 use Rattle.ill_files.specs.ShelfNames.{desk_path}
@@ -13,7 +13,7 @@ pub returns : goal.returns
 returns g c = (
   string_bytes c.in_ok-file.file,
   c.in_ok-file.ensures.home,
-  subst (λ (path : List ℕ). SlipAtFile (file_at path) c.args.txn.now
+  subst (λ (path : List ℕ). SlipAtFile (place_of g.D.DeskStore.Store.state path) c.args.txn.now
       (g.W.Write.contents c.args.machine.now.writer) (g.W.Write.contents c.slip.new.machine.writer) c.slip.result)
       c.as_str.ensures.value c.slip.ensures,
 )
@@ -23,4 +23,4 @@ pub returns-in_err-file : goal.returns-in_err-file
 returns-in_err-file g c =
     let result = c.from_residual.result in
     let opens = open_fault result c.in_err-file.field-0.0 c.from_residual.ensures.1 c.in_err-file.ensures.faults in
-    (desk_path c.args.folder.now Requester c.args.txn.now.group, (Requester, refl), inl (opens, refl))
+    (desk_path c.args.place.now.folder.now Requester c.args.txn.now.group, (Requester, refl), inl (opens, refl))

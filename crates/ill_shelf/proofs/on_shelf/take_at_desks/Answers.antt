@@ -14,7 +14,8 @@ returns g c =
     let answer = c.visit_all-answer.result in
     let quiet = ap (λ writer. g.W.Write.contents writer) c.in_ok-is_waiting.ensures.silent in
     let visited = subst (λ (start : Option (List ℕ)).
-    VisitsAll (Headed true InboxAtFile) paths start (g.W.Write.contents c.visit_all-answer.new.machine.writer) answer) quiet
+    VisitsAll (Headed g.D.DeskStore.Store.state true InboxAtFile) paths start
+    (g.W.Write.contents c.visit_all-answer.new.machine.writer) answer) quiet
     c.visit_all-answer.ensures in
     let found = subst (λ desks. AreOnShelf c.args.shelf.now.folder.now (map (λ path. string_bytes path) desks))
     (sym c.deref.ensures.value) c.in_ok-desks.ensures.on_shelf in

@@ -7,6 +7,7 @@ use Rattle.ill_shelf.proofs.visit.visit_all.Given as goal
 -- The desks at the first `place` paths were visited.
 abbrev pub invariant-loop-place : goal.invariant-loop-place
 invariant-loop-place g l =
-    VisitsAll (Headed (is_headed l.visit) (RunsVisit l.visit)) (take l.place (map (λ path. string_bytes path) l.paths))
+    VisitsAll (Headed g.D.DeskStore.Store.state (is_headed l.visit) (RunsVisit l.visit))
+    (take l.place (map (λ path. string_bytes path) l.paths))
     (g.W.Write.contents l.fn.machine.writer)
     (g.W.Write.contents l.machine.writer) l.answer

@@ -2,6 +2,7 @@
 use Rattle.std.proofs.Common.{◌≡◌, ℕ, List, [], Option, inr, refl, subst, ap, ◌∙◌, rules}
 use Rattle.std.specs.Prelude.{None, Some}
 use Rattle.std.specs.Io.KnownBytes.{append_known}
+use Rattle.ill_commands.specs.Streams.{streams_of}
 use Rattle.ill_tool.specs.Runs.{RunsCall}
 use Rattle.ill_tool.proofs.words.perform.Goals as goal
 
@@ -25,6 +26,8 @@ returns g c =
     inr (
       after,
       done,
-      subst (λ (before : Option (List ℕ)). RunsCall c.args.call.now left rest before after done) before c.run_call-done.ensures,
+      subst (λ (before : Option (List ℕ)).
+          RunsCall g.D.DeskStore.Store.state c.args.call.now (streams_of left before) done (streams_of rest after)) before
+          c.run_call-done.ensures,
       c.finish_writing.ensures,
     )

@@ -1,66 +1,115 @@
 -- Answers the contract of `run` (`src/words.rt`).
-use Rattle.std.proofs.Common.{Bool, refl, sym, subst}
+use Rattle.std.proofs.Common.{ℕ, Bool, Bor, List, map, refl, sym, subst}
 use Rattle.ill_line.specs.declared.request.Request.{Request}
 use Rattle.ill_line.specs.Asked.{asked}
 use Rattle.ill_tool.specs.Runs.{Runs}
-use Rattle.ill_commands.specs.AtFile.{TakesAtFile}
+use Rattle.ill_beside.specs.Notes.{note_text}
+use Rattle.ill_commands.specs.AtFile.{ActsAtFile, TakesAtFile}
+use Rattle.ill_commands.specs.Note.{NotesAtFile}
 use Rattle.ill_commands.specs.Letters.{TakesWith}
 use Rattle.ill_commands.specs.Streams.{streams_of}
 use Rattle.ill_mail.specs.Keyed.{WithKey}
 use Rattle.ill_mail.specs.Nights.{OutboxAtFile}
-use Rattle.ill_place.specs.Place.{file_at}
+use Rattle.ill_place.specs.Place.{place_of}
 use Rattle.ill_tool.proofs.WordsLemmas.{is_there}
 use Rattle.ill_desk.specs.declared.take.TakeForm.{TakeForm}
 use Rattle.std.specs.Prelude.{option_map}
 use Rattle.ill_tool.proofs.words.run.Goals as goal
 
+-- Proves the contract of `run` for the request `Act`. It is the contract of `act`, which reads no input.
+pub returns-in-Act : goal.returns-in-Act
+returns-in-Act g c =
+    let left = g.R.Read.remaining c.args.reader.now in
+    let before = g.W.Write.contents c.args.machine.now.writer in
+    let after = g.W.Write.contents c.act.new.machine.writer in
+    let act = c.in-Act in
+    let place = place_of g.D.DeskStore.Store.state act.file.now in
+    let acted = subst (λ (words : List (Bor (List ℕ))). ActsAtFile place (record {
+      txn = act.txn;
+      today = act.today;
+      words = map (λ word. word.now) words;
+      seen = option_map (λ text. text.now) act.seen;
+      is_trial = act.is_trial;
+    }) act.is_long before after c.act.result) c.deref.ensures.value c.act.ensures in
+    subst (λ (request : Request). Runs g.D.DeskStore.Store.state (asked request) (streams_of left before) c.act.result
+    (streams_of left after)) (sym act.is) (refl, acted)
+
+-- Proves the contract of `run` for the request `Status`. It is the contract of `status`, which reads no input.
+pub returns-in-Status : goal.returns-in-Status
+returns-in-Status g c =
+    let left = g.R.Read.remaining c.args.reader.now in
+    let old = streams_of left (g.W.Write.contents c.args.machine.now.writer) in
+    let new = streams_of left (g.W.Write.contents c.status.new.machine.writer) in
+    subst (λ (request : Request). Runs g.D.DeskStore.Store.state (asked request) old c.status.result new) (sym c.in-Status.is)
+    (refl, c.status.ensures)
+
+-- Proves the contract of `run` for the request `Note`. It is the contract of `note`, which reads no input.
+pub returns-in-Note : goal.returns-in-Note
+returns-in-Note g c =
+    let left = g.R.Read.remaining c.args.reader.now in
+    let before = g.W.Write.contents c.args.machine.now.writer in
+    let after = g.W.Write.contents c.note.new.machine.writer in
+    let place = place_of g.D.DeskStore.Store.state c.in-Note.file.now in
+    let noted = subst (λ (words : List (Bor (List ℕ))).
+    NotesAtFile place c.in-Note.txn (note_text (map (λ word. word.now) words)) before after c.note.result)
+    c.deref-in-Note.ensures.value c.note.ensures in
+    subst (λ (request : Request). Runs g.D.DeskStore.Store.state (asked request) (streams_of left before) c.note.result
+    (streams_of left after)) (sym c.in-Note.is) (refl, noted)
+
 -- Proves the contract of `run` for the request `Send`. It is the contract of `send_with`, which reads no input.
 pub returns-in-Send : goal.returns-in-Send
 returns-in-Send g c =
     let left = g.R.Read.remaining c.args.reader.now in
-    subst (λ (request : Request). Runs (asked request) left left (g.W.Write.contents c.args.machine.now.writer)
-    (g.W.Write.contents c.send_with.new.machine.writer) c.send_with.result)
-    (sym c.in-Send.is) (refl, c.send_with.ensures)
+    let old = streams_of left (g.W.Write.contents c.args.machine.now.writer) in
+    let new = streams_of left (g.W.Write.contents c.send_with.new.machine.writer) in
+    subst (λ (request : Request). Runs g.D.DeskStore.Store.state (asked request) old c.send_with.result new) (sym c.in-Send.is)
+    (refl, c.send_with.ensures)
 
 -- Proves the contract of `run` for the request `Loan`. It is the contract of `loan`, which reads no input.
 pub returns-in-Loan : goal.returns-in-Loan
 returns-in-Loan g c =
     let left = g.R.Read.remaining c.args.reader.now in
-    subst (λ (request : Request). Runs (asked request) left left (g.W.Write.contents c.args.machine.now.writer)
-    (g.W.Write.contents c.loan.new.machine.writer) c.loan.result)
-    (sym c.in-Loan.is) (refl, c.loan.ensures)
+    let old = streams_of left (g.W.Write.contents c.args.machine.now.writer) in
+    let new = streams_of left (g.W.Write.contents c.loan.new.machine.writer) in
+    subst (λ (request : Request). Runs g.D.DeskStore.Store.state (asked request) old c.loan.result new) (sym c.in-Loan.is)
+    (refl, c.loan.ensures)
 
 -- Proves the contract of `run` for the request `Slip`. It is the contract of `slip`, which reads no input.
 pub returns-in-Slip : goal.returns-in-Slip
 returns-in-Slip g c =
     let left = g.R.Read.remaining c.args.reader.now in
-    subst (λ (request : Request). Runs (asked request) left left (g.W.Write.contents c.args.machine.now.writer)
-    (g.W.Write.contents c.slip.new.machine.writer) c.slip.result)
-    (sym c.in-Slip.is) (refl, c.slip.ensures)
+    let old = streams_of left (g.W.Write.contents c.args.machine.now.writer) in
+    let new = streams_of left (g.W.Write.contents c.slip.new.machine.writer) in
+    subst (λ (request : Request). Runs g.D.DeskStore.Store.state (asked request) old c.slip.result new) (sym c.in-Slip.is)
+    (refl, c.slip.ensures)
 
 -- Proves the contract of `run` for the request `List`. It is the contract of `list`, which reads no input.
 pub returns-in-List : goal.returns-in-List
 returns-in-List g c =
     let left = g.R.Read.remaining c.args.reader.now in
-    subst (λ (request : Request). Runs (asked request) left left (g.W.Write.contents c.args.machine.now.writer)
-    (g.W.Write.contents c.list.new.machine.writer) c.list.result)
-    (sym c.in-List.is) (refl, c.list.ensures)
+    let old = streams_of left (g.W.Write.contents c.args.machine.now.writer) in
+    let new = streams_of left (g.W.Write.contents c.list.new.machine.writer) in
+    subst (λ (request : Request). Runs g.D.DeskStore.Store.state (asked request) old c.list.result new) (sym c.in-List.is)
+    (refl, c.list.ensures)
 
 -- Proves the contract of `run` for the request `Inbox`. It is the contract of `inbox_with`, which reads no input.
 pub returns-in-Inbox : goal.returns-in-Inbox
 returns-in-Inbox g c =
     let left = g.R.Read.remaining c.args.reader.now in
-    subst (λ (request : Request). Runs (asked request) left left (g.W.Write.contents c.args.machine.now.writer)
-    (g.W.Write.contents c.inbox_with.new.machine.writer) c.inbox_with.result)
-    (sym c.in-Inbox.is) (refl, c.inbox_with.ensures)
+    let old = streams_of left (g.W.Write.contents c.args.machine.now.writer) in
+    let new = streams_of left (g.W.Write.contents c.inbox_with.new.machine.writer) in
+    subst (λ (request : Request). Runs g.D.DeskStore.Store.state (asked request) old c.inbox_with.result new) (sym c.in-Inbox.is)
+    (refl, c.inbox_with.ensures)
 
 -- Proves the contract of `run` for the request `Exchange`. It is the contract of `exchange_with`, which reads no input.
 pub returns-in-Exchange : goal.returns-in-Exchange
 returns-in-Exchange g c =
     let left = g.R.Read.remaining c.args.reader.now in
-    subst (λ (request : Request). Runs (asked request) left left (g.W.Write.contents c.args.machine.now.writer)
-    (g.W.Write.contents c.exchange_with.new.machine.writer) c.exchange_with.result)
-    (sym c.in-Exchange.is) (refl, c.exchange_with.ensures)
+    let old = streams_of left (g.W.Write.contents c.args.machine.now.writer) in
+    let new = streams_of left (g.W.Write.contents c.exchange_with.new.machine.writer) in
+    subst (λ (request : Request). Runs g.D.DeskStore.Store.state (asked request) old c.exchange_with.result new)
+    (sym c.in-Exchange.is)
+    (refl, c.exchange_with.ensures)
 
 -- Proves the contract of `run` for the request `Outbox`. It is the contract of `outbox_with`, which reads no input.
 pub returns-in-Outbox : goal.returns-in-Outbox
@@ -69,11 +118,12 @@ returns-in-Outbox g c =
     let before = g.W.Write.contents c.args.machine.now.writer in
     let after = g.W.Write.contents c.outbox_with.new.machine.writer in
     let key = option_map (λ text. text.now) c.in-Outbox.key in
+    let place = place_of g.D.DeskStore.Store.state c.in-Outbox.file.now in
     let sent = subst (λ (has_folder : Bool).
-    WithKey key (OutboxAtFile has_folder (file_at c.in-Outbox.file.now)) before after c.outbox_with.result)
+    WithKey key (OutboxAtFile has_folder place) before after c.outbox_with.result)
     (is_there (λ text. text.now) c.in-Outbox.folder) c.outbox_with.ensures in
-    subst (λ (request : Request). Runs (asked request) left left before after c.outbox_with.result) (sym c.in-Outbox.is)
-    (refl, sent)
+    subst (λ (request : Request). Runs g.D.DeskStore.Store.state (asked request) (streams_of left before)
+    c.outbox_with.result (streams_of left after)) (sym c.in-Outbox.is) (refl, sent)
 
 -- Proves the contract of `run` for the request `Take`. It is the contract of `take_with`, in the form that `take_view`
 -- passes.
@@ -83,7 +133,10 @@ returns-in-Take g c =
     let rest = g.R.Read.remaining c.take_with.new.reader in
     let before = g.W.Write.contents c.args.machine.now.writer in
     let after = g.W.Write.contents c.take_with.new.machine.writer in
-    let took = subst (λ (form : TakeForm).
-    TakesWith (option_map (λ file. file.now) c.in-Take.key) (TakesAtFile (file_at c.in-Take.file.now) form)
-    (streams_of left before) c.take_with.result (streams_of rest after)) c.take_view.ensures c.take_with.ensures in
-    subst (λ (request : Request). Runs (asked request) left rest before after c.take_with.result) (sym c.in-Take.is) took
+    let place = place_of g.D.DeskStore.Store.state c.in-Take.file.now in
+    let old = streams_of left before in
+    let new = streams_of rest after in
+    let took = subst (λ (form : TakeForm). TakesWith (option_map (λ file. file.now) c.in-Take.key) (TakesAtFile place form) old
+    c.take_with.result new) c.take_view.ensures c.take_with.ensures in
+    subst (λ (request : Request). Runs g.D.DeskStore.Store.state (asked request) old c.take_with.result new)
+    (sym c.in-Take.is) took

@@ -1,0 +1,31 @@
+//! Laws of the commands on a shelf: contracts of functions that do nothing.
+
+ghost use Rattle.std.specs.Prelude.{ℕ, Bool, List, Option, None, Ok};
+ghost use Rattle.ill_values.specs.TxnId.{Qualifiers};
+ghost use Rattle.ill_values.specs.declared.apdu.Apdu.{Apdu};
+ghost use Rattle.ill_commands.specs.AtFile.{MessageOf};
+ghost use Rattle.ill_place.specs.Place.{shelf_of};
+ghost use Rattle.ill_shelf.specs.BadHomes.{IsNowhere, IsTakenNowhere};
+ghost use Rattle.ill_shelf.specs.Home.{NotesAtHome, SendsAtHome, SlipAtHome};
+ghost use Rattle.ill_shelf.specs.Shelf.{ShelfTaking, TakesAtHome};
+
+use ill_commands::laws::no_command_ends_well_at_another_desk;
+use ill_saved::Store;
+
+/// If no desk of a group was loaded, no command in a transaction of the group ends well on a shelf. No message of the group
+/// is taken there, if the shelf's own desk was not loaded either.
+pub fn no_command_ends_well_away_from_its_group<S: Store>()
+    ensures slips { (folder : List ℕ) (txn : Qualifiers) (is_well : Bool) (before after : Option (List ℕ)) →
+        IsNowhere (shelf_of S.state folder) txn.group →
+        SlipAtHome (shelf_of S.state folder) txn before after (Ok is_well) → ⊥ }
+    ensures notes { (folder : List ℕ) (txn : Qualifiers) (words : List ℕ) (is_well : Bool) (before after : Option (List ℕ)) →
+        IsNowhere (shelf_of S.state folder) txn.group →
+        NotesAtHome (shelf_of S.state folder) txn words before after (Ok is_well) → ⊥ }
+    ensures sends { (folder : List ℕ) (message : MessageOf) (is_well : Bool) (before after : Option (List ℕ)) →
+        IsNowhere (shelf_of S.state folder) message.txn.group →
+        SendsAtHome (shelf_of S.state folder) None message before after (Ok is_well) → ⊥ }
+    ensures takes { (apdu : Apdu) (old new : ShelfTaking) →
+        IsTakenNowhere (shelf_of S.state old.folder) apdu.txn.group → TakesAtHome S.state old apdu (Ok tt) new → ⊥ }
+{
+    no_command_ends_well_at_another_desk::<S>();
+}

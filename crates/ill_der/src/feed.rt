@@ -128,13 +128,13 @@ impl Feed {
         laws::read_again();
         laws::short_has_the_size();
         if self.size == 0 {
-            return self.go_on(piece, context, handler);
+            return self.hand_on(piece, context, handler);
         }
         let filled = fill(&mut self.buffer, self.size, piece);
         match handle_first(self.alloc, &self.buffer[..filled], context, handler) {
             Ok(Ok(end)) => {
                 let after = end - self.size;
-                self.go_on(&piece[after..], context, handler)
+                self.hand_on(&piece[after..], context, handler)
             }
             Ok(Err(fault)) => match closing(fault) {
                 None => {
@@ -152,7 +152,7 @@ impl Feed {
 
     /// Hands on the APDUs with which `bytes` begins, and then replaces the held bytes by the rest. If
     /// handling fails, the feed is unchanged.
-    fn go_on<C, H: Handler<C>>(
+    fn hand_on<C, H: Handler<C>>(
         &mut self,
         bytes: &[u8],
         context: &mut C,

@@ -190,7 +190,7 @@ impl Sorted {
         ensures store { desk.new.store ≡ desk.old.store }
     {
         let apdu = read.to_apdu(alloc)?;
-        let outcome = hand(alloc, desk, &apdu)?;
+        let outcome = deliver(alloc, desk, &apdu)?;
         let now = desk.shown(H::key_of(&apdu)).once_saved();
         self.tell(bytes, read, outcome, now)?;
         Ok(outcome)
@@ -232,8 +232,8 @@ impl Sorted {
     }
 }
 
-/// Hands `apdu` to its side, and returns the outcome.
-fn hand<H: Holdings, S: Store>(
+/// Delivers `apdu` to its side, and returns the outcome.
+fn deliver<H: Holdings, S: Store>(
     alloc: Global,
     desk: &mut AnyDesk<H, S>,
     apdu: &Apdu,

@@ -49,7 +49,7 @@ fn save<H: DeskKind>(
 ) -> Option<bool> {
     begin(alloc, desk, txn)?;
     let landed = DeskView::of(alloc, desk, Some(txn));
-    go_on(alloc, desk, txn)?;
+    act_again(alloc, desk, txn)?;
     let before = DeskView::of(alloc, desk, Some(txn));
     desk.set_next(plan);
     marks::begin(alloc);
@@ -96,7 +96,7 @@ fn begin<H: DeskKind>(alloc: Global, desk: &mut MemoryDesk<H>, txn: &TxnId) -> O
 }
 
 /// Performs a second action, which is not saved.
-fn go_on<H: DeskKind>(alloc: Global, desk: &mut MemoryDesk<H>, txn: &TxnId) -> Option<()> {
+fn act_again<H: DeskKind>(alloc: Global, desk: &mut MemoryDesk<H>, txn: &TxnId) -> Option<()> {
     let words = match desk.role() {
         Role::Requester => "cancel",
         Role::Responder => "20250301 answer unfilled",

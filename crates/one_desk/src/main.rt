@@ -22,7 +22,7 @@ fn main(rt: HostRuntime) -> Result<()> {
 fn lend(rt: &HostRuntime) -> Result<()> {
     let loan = TxnId::new(rt.alloc(), b"North-2025", b"17")?;
     begin(rt, &loan)?;
-    go_on(rt, &loan)
+    take_answer(rt, &loan)
 }
 
 /// Begins the desk, which has no file before its first save, and asks.
@@ -35,7 +35,7 @@ fn begin(rt: &HostRuntime, loan: &TxnId) -> Result<()> {
 }
 
 /// Opens the desk again, and takes the answer.
-fn go_on(rt: &HostRuntime, loan: &TxnId) -> Result<()> {
+fn take_answer(rt: &HostRuntime, loan: &TxnId) -> Result<()> {
     let lock = FileLock::wait_for(rt, rt.alloc(), PATH)?;
     let mut locked = LockedDesk::open(rt.alloc(), lock)?;
     let taken = take(rt, &mut locked.desk, loan);

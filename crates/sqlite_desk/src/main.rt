@@ -28,7 +28,7 @@ fn main(rt: HostRuntime) -> Result<()> {
 fn lend(rt: &HostRuntime) -> Result<()> {
     let loan = TxnId::new(rt.alloc(), b"North-2025", b"17")?;
     begin(rt, &loan)?;
-    go_on(rt, &loan)
+    look_again(rt, &loan)
 }
 
 /// Opens the SQLite file, or makes it, asks, and closes the file.
@@ -37,7 +37,7 @@ fn begin(rt: &HostRuntime, loan: &TxnId) -> Result<()> {
 }
 
 /// Opens the SQLite file again, looks at the loan, and closes the file.
-fn go_on(rt: &HostRuntime, loan: &TxnId) -> Result<()> {
+fn look_again(rt: &HostRuntime, loan: &TxnId) -> Result<()> {
     Ok(show_again(rt, Connection::open(rt, PATH)?, loan)?.close()?)
 }
 

@@ -15,8 +15,8 @@ returns-then-self-eq0 g c =
     let held = take c.self.inside.size c.self.inside.buffer in
     let opened = holds_prefix c.self.inside.closed held c.args.self.now c.self.view_is c.requires in
     let none : held ≡ [] = rw c.if-self-eq0.true refl in
-    goes_on_alone g.H.Handler.handles held c.args.piece.now _ _ c.args.self.now c.go_on.result c.go_on.new.self opened none
-    c.go_on.ensures
+    goes_on_alone g.H.Handler.handles held c.args.piece.now _ _ c.args.self.now c.hand_on.result c.hand_on.new.self opened none
+    c.hand_on.ensures
 
 pub overflow_sub-after : goal.overflow_sub-after
 overflow_sub-after g c =
@@ -79,10 +79,10 @@ returns-in-Ok-Ok g c =
     subst (λ (k : Option DerFault).
     HandlesRest handles (held_of k (take size new), (c.handle_first.new.handler, c.handle_first.new.context))
     (take (length c.args.piece.now - (c.in-Ok-Ok.end - size)) (drop (c.in-Ok-Ok.end - size) c.args.piece.now))
-    c.go_on-in-Ok-Ok.result (c.go_on-in-Ok-Ok.new.self, (c.go_on-in-Ok-Ok.new.handler, c.go_on-in-Ok-Ok.new.context)))
-    opened c.go_on-in-Ok-Ok.ensures in
+    c.hand_on-in-Ok-Ok.result (c.hand_on-in-Ok-Ok.new.self, (c.hand_on-in-Ok-Ok.new.handler, c.hand_on-in-Ok-Ok.new.context)))
+    opened c.hand_on-in-Ok-Ok.ensures in
     goes_on_after handles c.read_again.ensures old new c.args.piece.now size filled c.in-Ok-Ok.end _ _ _ c.args.self.now
-    c.go_on-in-Ok-Ok.result c.go_on-in-Ok-Ok.new.self c.fill-filled.ensures c.self.invariant was first on
+    c.hand_on-in-Ok-Ok.result c.hand_on-in-Ok-Ok.new.self c.fill-filled.ensures c.self.invariant was first on
 
 pub returns-in-None : goal.returns-in-None
 returns-in-None g c =

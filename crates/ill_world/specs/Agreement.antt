@@ -29,7 +29,7 @@ use Rattle.ill_world.specs.Safety.{OfBoth}
 
 -- ---- one answer, and one end
 
--- No two messages answer one number.
+-- If the messages m and n of `at` answer one number k, as `answered` tells, m is n.
 abbrev pub AnswersOnce : (Body → Option ℕ) → (ℕ → Option Apdu) → Type 0
 AnswersOnce answered at =
     (m n k : ℕ) (a b : Apdu) → at m ≡ Some a → at n ≡ Some b →

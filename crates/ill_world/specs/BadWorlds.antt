@@ -30,7 +30,7 @@ use Rattle.ill_world.specs.World.{Party, Parties, happens, sent_message}
 abbrev pub Has : Party → Side → Type 0
 Has p side = (p.live ≡ side) ⊎ (p.landed ≡ side)
 
--- `says` holds of no message's body.
+-- `says` holds of the body of no message that `at` gives.
 abbrev pub NoneSays : (ℕ → Option Apdu) → (Body → Type 0) → Type 0
 NoneSays at says = (n : ℕ) (a : Apdu) → at n ≡ Some a → says a.body → ⊥
 
@@ -67,11 +67,15 @@ pub data Misleads (x : RequesterRecord) (y : ResponderRecord) : Type 0 where
   -- The requester's due date is after each due date that the responder has.
   due_later : (due : Date) → x.due ≡ Some due →
       ((granted : Date) → due_of y ≡ Some granted → is_before granted due ≡ true) → Misleads x y
+  -- The responder is in RETURNED or CHECKED-IN, and the requester is not in RETURNED.
   not_returned : y.state ≡ states.Returned → (x.state ≡ states.Returned → ⊥) → Misleads x y
   checked_in_unreturned : y.state ≡ states.CheckedIn → (x.state ≡ states.Returned → ⊥) → Misleads x y
+  -- The responder is in CANCELLED, and the requester is in neither CANCEL-PENDING nor CANCELLED.
   cancelled_unasked : y.state ≡ states.Cancelled → (x.state ≡ states.CancelPending → ⊥) →
       (x.state ≡ states.Cancelled → ⊥) → Misleads x y
+  -- The responder has the received mark, and the requester has issued no Received.
   not_received : y.received ≡ true → has_message_with is_received x.issued ≡ false → Misleads x y
+  -- The requester has the checked-in mark, and the responder is not in CHECKED-IN.
   not_checked_in : x.checked_in ≡ true → (y.state ≡ states.CheckedIn → ⊥) → Misleads x y
 
 -- `at` gives the messages of the live side of `p`, or those that `p` has sent.
@@ -80,12 +84,14 @@ HasMessages p at = (at ≡ message (issued_of p.live)) ⊎ (at ≡ sent_message 
 
 -- The sides of `w` do not agree. Each case gives one reason.
 pub data Disagrees (w : Parties) : Type 0 where
+  -- The requester has two replies to conditions k, or the responder two answers to Cancel k or to Renew k.
   conditions_twice : (at : ℕ → Option Apdu) (k : ℕ) (said again : Bool) → HasMessages w.requester at →
       TwoSay at (λ body. body ≡ ConditionalReply k said) (λ body. body ≡ ConditionalReply k again) → Disagrees w
   cancel_twice : (at : ℕ → Option Apdu) (k : ℕ) (said again : Bool) → HasMessages w.responder at →
       TwoSay at (λ body. body ≡ CancelReply k said) (λ body. body ≡ CancelReply k again) → Disagrees w
   renew_twice : (at : ℕ → Option Apdu) (k : ℕ) (due again : Option Date) → HasMessages w.responder at →
       TwoSay at (λ body. body ≡ RenewAnswer k due) (λ body. body ≡ RenewAnswer k again) → Disagrees w
+  -- The responder has two messages that end the request.
   ended_twice : (responder : Side) → Has w.responder responder →
       TwoSay (message (issued_of responder)) (λ body. is_end body ≡ true) (λ body. is_end body ≡ true) → Disagrees w
   -- The responder has conditions as accepted. But the requester has sent no yes to them, or has no such yes in memory.
@@ -93,6 +99,7 @@ pub data Disagrees (w : Parties) : Type 0 where
       NoneSays (sent_message w.requester.sent) (λ body. accepts body ≡ Some c) → Disagrees w
   acceptance_forgotten : (y : ResponderRecord) (c : ℕ) → Has w.responder (sides.Responder y) → y.accepted ≡ Some c →
       NoneSays (message (issued_of w.requester.live)) (λ body. accepts body ≡ Some c) → Disagrees w
+  -- A claim of one record on the other side is wrong.
   misled : (x : RequesterRecord) (y : ResponderRecord) → Has w.requester (sides.Requester x) →
       Has w.responder (sides.Responder y) → Misleads x y → Disagrees w
 

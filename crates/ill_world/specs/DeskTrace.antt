@@ -1,4 +1,5 @@
--- The trace of a script of desks (this profile's own).
+-- A trace of a script of two desks has a line for each event. The line shows both sides of the event's transaction. The
+-- trace is this profile's own.
 use Rattle.std.specs.Prelude.{ℕ, List}
 use Rattle.ill_values.specs.TxnId.{Qualifiers}
 use Rattle.ill_saved.specs.declared.shown.Shown.{Shown}

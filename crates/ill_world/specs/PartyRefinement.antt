@@ -34,7 +34,7 @@ is_of txn (Err fault) = false
 
 -- ---- parties
 
--- Returns the value that was read, or `live` if there was a fault. An honest store gives no fault.
+-- Returns the value that was read, or `live` if there was a fault. A correct store gives no fault.
 abbrev pub read_or : {V : Type 0} → V → Result V RecordFault → V
 read_or live (Ok landed) = landed
 read_or live (Err fault) = live

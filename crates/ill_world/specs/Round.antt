@@ -96,6 +96,7 @@ facing_in other = []
 
 -- The two records are not in step. Each case gives one reason.
 pub data OutOfStep (x : RequesterRecord) (y : ResponderRecord) : Type 0 where
+  -- The two states do not face each other.
   unfaced : is_among (facing_in y.state) x.state ≡ false → OutOfStep x y
   -- The conditions were declined, and the requester is still in CONDITIONAL.
   declined : x.state ≡ states.Conditional → has_message_with declines x.issued ≡ true → OutOfStep x y

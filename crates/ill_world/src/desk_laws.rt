@@ -108,8 +108,8 @@ pub fn desks_reach_what_they_hold()
     ensures { (w : DeskParties) (event : DeskEvent) → DesksInvariant w → ReachesSide w event }
 {}
 
-/// If two desks satisfy `DesksInvariant`, one arrival of the end of a request, or of a Returned, is enough. For its
-/// transaction is held.
+/// If two desks satisfy `DesksInvariant`, one delivery of a message that ends the request settles the requester's side.
+/// One delivery of a Returned settles the responder's side (`ArrivesAt`).
 pub fn one_arrival_at_a_desk_is_enough()
     ensures { (w : DeskParties) (event : DeskEvent) → DesksInvariant w → ArrivesAt w event }
 {
@@ -214,7 +214,7 @@ pub fn no_bad_projection_passes()
 {}
 
 /// If the writer fails, the bytes that a simulation of two desks has written are a prefix of the trace. If memory runs
-/// out, they are the trace of a prefix of the events. Any other result is right.
+/// out, they are the trace of a prefix of the events. Any other result is right: `Misreports` does not hold of it.
 pub fn no_bad_desk_trace_is_written()
     ensures write { (text left written : List ℕ) →
         Leaves written (desk_trace_of (desk_script text).events) →

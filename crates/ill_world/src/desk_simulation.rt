@@ -54,6 +54,8 @@ impl Performer for DeskWorld {
 
     ghost play = { two_desks };
 
+    /// Performs a line. An event happens in the transaction `in_use`, and a line `use` puts another in use. If none is
+    /// in use, an event is a bad line.
     fn perform_line(
         &mut self,
         alloc: Global,

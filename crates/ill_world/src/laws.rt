@@ -151,7 +151,8 @@ pub fn every_run_agrees()
     every_world_agrees();
 }
 
-/// If a world satisfies the invariant, one arrival of the end of a request, or of a Returned, is enough.
+/// If a world satisfies the invariant, one delivery of a message that ends the request settles the requester. One
+/// delivery of a Returned settles the responder (`Arrives`).
 pub fn one_arrival_is_enough()
     ensures { (txn : Qualifiers) (w : Parties) (event : Event) → Invariant txn w → Arrives w event }
 {
@@ -351,7 +352,7 @@ pub fn traces_show_runs()
 {}
 
 /// If the writer fails, the bytes that a simulation has written are a prefix of the trace of the script. If memory runs
-/// out, they are the trace of a prefix of the events. Any other result is right.
+/// out, they are the trace of a prefix of the events. Any other result is right: `Misreports` does not hold of it.
 pub fn no_bad_trace_is_written()
     ensures write { (txn : Qualifiers) (text left written : List ℕ) →
         Leaves written (trace_of txn (script text).events) →

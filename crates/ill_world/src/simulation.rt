@@ -52,6 +52,7 @@ impl Performer for World {
 
     ghost play = { two_sides };
 
+    /// Performs a line. If it has an event, its line of the trace is appended to `shown`.
     fn perform_line(
         &mut self,
         alloc: Global,

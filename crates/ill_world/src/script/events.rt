@@ -57,6 +57,7 @@ fn side_event(alloc: Global, verb: &[u8], words: &[&[u8]]) -> Result<Option<Even
     }
 }
 
+/// Returns the event that `verb` says of the side `who` without a further word, if it says one.
 fn bare_event(verb: &[u8], who: Role) -> Option<Event>
     ensures { result ≡ bare_event verb.now who }
 {
@@ -69,6 +70,7 @@ fn bare_event(verb: &[u8], who: Role) -> Option<Event>
     }
 }
 
+/// Returns the event that `verb` and one more word say of the side `who`, if they say one.
 fn event_with_word(
     alloc: Global,
     verb: &[u8],

@@ -119,6 +119,7 @@ no_other_end : (txn : Qualifiers) (x : RequesterRecord) (y : ResponderRecord) (r
 no_other_end txn x y responder_sent requester_sent requester_stands responder_stands issued e =
     go (is_among (states.NotSupplied ∷ later) x.state) refl
   where
+    -- If the requester were in NOT-SUPPLIED, or in SHIPPED or later, the responder would not be in CANCELLED.
     go : (b : Bool) → is_among (states.NotSupplied ∷ later) x.state ≡ b → b ≡ false
     go false is = refl
     go true is =
@@ -157,6 +158,7 @@ cancel_is_open txn x y responder_sent requester_sent requester_stands responder_
     let final = no_other_end txn x y responder_sent requester_sent requester_stands responder_stands issued cancelled in
     go issued_it final (requester.is_open x c) refl
   where
+    -- If Cancel c were closed, the responder would have issued both a yes and a no to it.
     go : is_message_with is_cancel x.issued c ≡ true → is_among (states.NotSupplied ∷ later) x.state ≡ false → (b : Bool)
         → requester.is_open x c ≡ b → b ≡ true
     go issued_it final true e = refl
@@ -175,7 +177,7 @@ cancel_is_open txn x y responder_sent requester_sent requester_stands responder_
         sym is ∙ body_of a refused.0 same ∙ no in
         search rules
 
--- `SaysTrue` holds of two such records: each record's claims on the other side are right.
+-- `SaysTrue` holds of two records of `PairOf`: each record's claims on the other side are right.
 pub says_true : PairOf SaysTrue
 says_true txn x y responder_sent requester_sent requester_stands responder_stands issued heeded = record {
   returned =
@@ -203,7 +205,7 @@ says_true txn x y responder_sent requester_sent requester_stands responder_stand
       ∙ has_issued y.issued responder_sent is_checked_in known.0 issued known.1 (tells_given_back known.0.body known.2));
 }
 
--- Of two such records, the requester's due date is not later than the responder's.
+-- `IsNotLater` holds of two records of `PairOf`: the requester's due date is not later than the responder's.
 not_later : PairOf IsNotLater
 not_later txn x y responder_sent requester_sent requester_stands responder_stands issued heeded =
     λ d e.
@@ -213,7 +215,7 @@ not_later txn x y responder_sent requester_sent requester_stands responder_stand
 
 -- ---- live and landed records
 
--- If `P` holds of all such pairs of records, it holds of the records of two such sides.
+-- If `PairOf P` holds, `P` holds of the records of two sides that satisfy the premises of `PairOf`.
 facing : (P : RequesterRecord → ResponderRecord → Type 0) → PairOf P
     → (txn : Qualifiers) (x y : Side) (responder_sent requester_sent : List (Option Apdu))
     → RequesterSideInvariant txn x responder_sent
@@ -226,7 +228,7 @@ facing P pair txn (sides.Responder x) y responder_sent requester_sent requester_
 facing P pair txn (sides.Requester x) (sides.Requester y) responder_sent requester_sent requester_stands responder_stands issued
     heeded = absurd responder_stands
 
--- If `P` holds of all such pairs, and a world satisfies the invariant, `P` holds of its four pairs.
+-- If `PairOf P` holds, and a world satisfies the invariant, `P` holds of its four pairs of records.
 of_both_facing : (P : RequesterRecord → ResponderRecord → Type 0) → PairOf P → (txn : Qualifiers) (w : Parties) → Invariant txn w
     → OfBoth (Facing P) w
 of_both_facing P pair txn w stands =
@@ -279,7 +281,7 @@ renewals_once txn (sides.Responder y) requester_sent stands =
     answers_once (responder.answered_number responder.MayRenew) y.issued stands.renewals.distinct
 renewals_once txn (sides.Requester x) requester_sent stands = absurd stands
 
--- A Bool counts for 1 at most.
+-- `if b then 1 else 0` is at most 1.
 pub at_most_one : (b : Bool) → (if b then 1 else 0) ≤ 1
 at_most_one true = omega arith
 at_most_one false = omega arith

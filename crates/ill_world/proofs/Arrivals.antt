@@ -57,7 +57,8 @@ pub record TransitionsSettle : Type 0 where
 
 -- ---- states
 
--- A requester in none of IDLE, CANCELLED and NOT-SUPPLIED may take a Shipped.
+-- A requester in none of IDLE, CANCELLED and NOT-SUPPLIED may take a Shipped. By the first premise `state` is a state
+-- of a requester.
 may_ship : (state : State) → is_among (states.InProcess ∷ states.CheckedIn ∷ []) state ≡ false
     → is_among (states.Idle ∷ []) state ≡ false → (state ≡ states.Cancelled → ⊥)
     → (state ≡ states.NotSupplied → ⊥)
@@ -66,7 +67,8 @@ may_ship states.Cancelled role idle cancelled ended = absurd (cancelled refl)
 may_ship states.NotSupplied role idle cancelled ended = absurd (ended refl)
 may_ship state role idle cancelled ended = search rules
 
--- A requester in none of IDLE, CANCELLED, SHIPPED and later may take an end without the item.
+-- A requester in none of IDLE, CANCELLED, SHIPPED and later may take an end without the item. By the first premise
+-- `state` is a state of a requester.
 may_end : (state : State) → is_among (states.InProcess ∷ states.CheckedIn ∷ []) state ≡ false
     → is_among (states.Idle ∷ []) state ≡ false → (state ≡ states.Cancelled → ⊥)
     → (is_among later state ≡ true → ⊥)
@@ -243,6 +245,7 @@ arrives_as rows txn x y responder_sent requester_sent n a (types.IllAnswer answe
     end_arrives rows txn x y responder_sent requester_sent n a requester_stands responder_stands issued heeded at
     (ap is_unsupplied is ∙ plain_end _ ends)
   where
+    -- An ILL-Answer that ends the request ends it without the item.
     plain_end : (b : Bool) → (b || (false || false)) ≡ true → b ≡ true
     plain_end true is = refl
     plain_end false is = search rules
@@ -271,6 +274,8 @@ settles_requester rows txn p side responder_sent requester_sent n a found reques
     subst (λ o. Settles (settled_by a.body) (receives p o).0 (receives p o).1.live) (sym is)
     (go p.live side requester_stands responder_stands issued heeded at)
   where
+    -- The live side is a requester's, and `side` is a responder's. By `arrives_as` the requester gets to the states of
+    -- the end.
     go : (live side : Side) → RequesterSideInvariant txn live responder_sent → ResponderSideInvariant txn side requester_sent
         → AreIssued responder_sent (issued_of side) → AreIssued requester_sent (issued_of live)
         → message (issued_of side) n ≡ Some a
@@ -334,6 +339,8 @@ settles_responder rows txn p side responder_sent requester_sent n a found reques
     subst (λ o. Settles (states.Returned ∷ states.CheckedIn ∷ []) (receives p o).0 (receives p o).1.live) (sym is)
     (go side p.live requester_stands responder_stands issued at)
   where
+    -- `side` is a requester's, and the live side is a responder's. By `returned_arrives` the responder gets to RETURNED
+    -- or CHECKED-IN.
     go : (side live : Side) → RequesterSideInvariant txn side responder_sent → ResponderSideInvariant txn live requester_sent
         → AreIssued responder_sent (issued_of live) → message (issued_of side) n ≡ Some a
         → Settles (states.Returned ∷ states.CheckedIn ∷ []) (receives (record p { live = live }) (Some a)).0

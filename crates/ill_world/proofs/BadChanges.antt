@@ -9,7 +9,7 @@ use Rattle.ill_world.specs.BadChanges.{DoesNothing, ChangesMore, ChangesTooMuch,
 use Rattle.ill_world.specs.BadChanges.{refusal, no_such_message, not_saved, not_sent, garbled, forged, live, released, sent}
 use Rattle.ill_world.specs.BadChanges.{by_nothing, by_a_fault, lost, wrong_role, no_memory}
 
--- If `OnlyLands` holds of a party, it has not changed more.
+-- If `OnlyLands` holds from `old` to `new`, `ChangesMore` does not.
 no_more : (old new : Party) → ChangesMore old new → OnlyLands old new → ⊥
 no_more old new (live other) lands = other lands.live
 no_more old new (released other) lands = other lands.released
@@ -39,7 +39,7 @@ none_too_much _ old new (by_a_fault who.Responder more) may = no_more old.respon
 pub none_lost : (old new : Parties) → LosesSent old new → KeepsSent old new → ⊥
 none_lost old new (lost of n a was gone) keeps = gone (keeps of n a was)
 
--- An outcome that `can_be_seen` allows is no such refusal.
+-- If `can_be_seen` holds of an outcome, it is neither of the refusals of `IsUnseen`.
 pub none_unseen : (outcome : Outcome) → IsUnseen outcome → can_be_seen outcome ≡ true → ⊥
 none_unseen _ wrong_role seen = true≢false (sym seen)
 none_unseen _ no_memory seen = true≢false (sym seen)

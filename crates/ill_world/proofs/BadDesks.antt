@@ -102,6 +102,7 @@ names_own txn event is = absurd is
 apart_from : (txn another of : Qualifiers) → of ≡ another → (txn ≡ another → ⊥) → is_same_txn txn of ≡ false
 apart_from txn another of is apart = go (is_same_txn txn of) refl
   where
+    -- If `txn` were `of`, it would be `another`.
     go : (same : Bool) → is_same_txn txn of ≡ same → same ≡ false
     go true same = absurd (apart (same_is txn of same ∙ is))
     go false same = refl
@@ -115,7 +116,7 @@ names_another txn another (events.Send role of n) is apart = apart_from txn anot
 names_another txn another (events.Deliver role of n) is apart = apart_from txn another of is apart
 names_another txn another event is apart = absurd is
 
--- An event that does not concern a transaction is none of its events, with any outcome.
+-- An event that does not concern a transaction is none of its events, whatever its outcome.
 never_reached : (outcome : DeskOutcome) → if_reached outcome false ≡ false
 never_reached (Plain outcome) = refl
 never_reached other = refl
@@ -146,7 +147,7 @@ noise_event txn w role bytes = is_one txn w (events.Noise role bytes) false refl
 
 -- ---- deliveries
 
--- A body of `EndsIn` ends the request, and settles it in these states.
+-- If `EndsIn body among` holds, `body` ends the request, and settles it in the states `among`.
 ends_as : (body : Body) (among : List State) → EndsIn body among → (is_end body ≡ true) × (settled_by body ≡ among)
 ends_as _ _ (shipped due) = (refl, refl)
 ends_as _ _ (cancelled c) = (refl, refl)
@@ -181,13 +182,13 @@ none_hidden p txn shown (hides_release held found other) shows = other (shows.li
 none_hidden p txn shown (hides_landed side found other) shows = other (shows.landed side found)
 none_hidden p txn shown (hides_sent sending found other) shows = other (shows.sent sending found)
 
--- An event of a transaction is seen there with its outcome and its world.
+-- If `own` is true, and `IsSeenAs` holds, the outcome and the new value are the expected ones.
 seen_there : {P : Type 0} (own : Bool) (expected : Outcome × P) (old new : P) (outcome : DeskOutcome) → own ≡ true
     → IsSeenAs own expected old outcome new → (outcome ≡ Plain expected.0) × (new ≡ expected.1)
 seen_there true expected old new outcome is seen = seen
 seen_there false expected old new outcome is seen = absurd (true≢false (sym is))
 
--- Any other event leaves the projection unchanged.
+-- If `own` is false, and `IsSeenAs` holds, the new value is the old one.
 unseen_there : {P : Type 0} (own : Bool) (expected : Outcome × P) (old new : P) (outcome : DeskOutcome) → own ≡ false
     → IsSeenAs own expected old outcome new → new ≡ old
 unseen_there true expected old new outcome is seen = absurd (true≢false is)
@@ -238,6 +239,7 @@ none_missed w (events.Send role of n) (txn, held, names, found, missed) reaches 
 none_missed w (events.Deliver role of n) (txn, held, names, found, missed) reaches =
     go (sent_message (sent_for of (party w (other role)).sent) n) refl
   where
+    -- If no message was sent, the outcome is NotSent. Otherwise the delivery of `a` reaches the held side.
     go : (sent : Option Apdu) → sent_message (sent_for of (party w (other role)).sent) n ≡ sent → ⊥
     go None e = not_plain (Plain NotSent) tt (subst IsNotReached (ap (λ o. (desk_receives (party w role) o).0) e) missed)
     go (Some a) e = held_missed (is_ill_request a.body) (party w role) txn of held _ names found (reaches a e) missed

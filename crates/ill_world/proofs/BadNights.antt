@@ -20,7 +20,7 @@ and_false : (b : Bool) → (b && false) ≡ false
 and_false true = refl
 and_false false = refl
 
--- The answer of `asks` is right.
+-- If `says` is the answer of `asks` for `side`, `MisjudgesAsking` does not hold of it.
 pub not_misasked : (side : Side) (says : Bool) → MisjudgesAsking side says → says ≡ asks side → ⊥
 not_misasked side says (over_asks _ over) e =
     true≢false (e ∙ ap (λ b. b && not (is_none (issued_of side))) (over_is_silent side over))

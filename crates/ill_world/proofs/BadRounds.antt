@@ -60,20 +60,20 @@ none_of_both w amiss restless (inr rest) = none_restless w restless rest
 
 -- ---- the world after events
 
--- If events were performed, or a prefix of them, the world after them is no other.
+-- If `Performs` holds, and memory ran out, a prefix of `events` leads to `new`. So `IsOfNoPrefix` does not hold.
 pub none_misled : {M : Type 0} (events : List Event) (old new : Parties) (memory : M) → IsOfNoPrefix (run_of old) events new
     → Performs run_of events old (Err memory) new → ⊥
 none_misled events old new memory none (prefix, (more, is), shown) = none prefix more is shown
 
 -- ---- a round that is cut short
 
--- A round that leaves out the last message leaves the two sides out of step.
+-- In the world `last_unheard who`, a round without the last message of `who` does not bring both sides in step.
 pub cut_leaves_apart : (who : Role) → AreInStep (run_of (last_unheard who) (cut_round who (last_unheard who))) → ⊥
 unfolding run_by sends_and_delivers
 cut_leaves_apart who.Requester step = true≢false (sym step.faced)
 cut_leaves_apart who.Responder step = true≢false (sym step.faced)
 
--- A whole round brings these two sides in step.
+-- In the world `last_unheard who`, a whole round brings both sides in step.
 pub whole_brings_in_step : (who : Role) → AreInStep (run_of (last_unheard who) (round_of (last_unheard who)))
 unfolding run_by sends_and_delivers
 whole_brings_in_step who.Requester =
@@ -81,13 +81,13 @@ whole_brings_in_step who.Requester =
 whole_brings_in_step who.Responder =
     record { faced = refl; undeclined = refl; received = λ is. search rules; checked_in = refl; due = λ is. refl }
 
--- A round that leaves out the first message leaves the two sides out of step, though a later one arrives.
+-- In the world `two_unheard who`, a round without the first message of `who` does not bring both sides in step.
 pub late_leaves_apart : (who : Role) → AreInStep (run_of (two_unheard who) (late_round who (two_unheard who))) → ⊥
 unfolding run_by sends_and_delivers
 late_leaves_apart who.Requester step = true≢false (sym step.faced)
 late_leaves_apart who.Responder step = true≢false (sym step.faced)
 
--- A whole round brings these two sides in step, too.
+-- In the world `two_unheard who`, a whole round brings both sides in step.
 pub whole_brings_both_in_step : (who : Role) → AreInStep (run_of (two_unheard who) (round_of (two_unheard who)))
 unfolding run_by sends_and_delivers
 whole_brings_both_in_step who.Requester =

@@ -21,7 +21,7 @@ same_after : (common xs ys : List ℕ) (a b : ℕ) → common ++ a ∷ xs ≡ co
 same_after [] xs ys a b e = first_same a b xs ys e
 same_after (c ∷ common) xs ys a b e = same_after common xs ys a b (rest_same c c (common ++ a ∷ xs) (common ++ b ∷ ys) e)
 
--- If bytes leave a trace, they are not its prefix.
+-- If `Leaves written trace` holds, `written` is no prefix of `trace`.
 no_prefix : (written trace : List ℕ) → Leaves written trace → IsPrefix written trace → ⊥
 no_prefix written trace (goes_on byte rest is) (more, prefix) =
     omega (arith, ap length is, ap length prefix, length-append trace (byte ∷ rest), length-append written more)
@@ -29,15 +29,17 @@ no_prefix written trace (differs common rest more byte other is there apart) (af
     apart (same_after common (rest ++ after) more byte other
     (sym (append_assoc common (byte ∷ rest) after) ∙ ap (λ l. l ++ after) (sym is) ∙ sym prefix ∙ there))
 
--- If bytes are the trace of no prefix of the events, no prefix has them as its trace.
+-- If `IsOfNoPrefix` holds of `written`, no prefix of `events` has `written` as its trace.
 no_events : {E : Type 0} (trace_of : List E → List ℕ) (events : List E) (written : List ℕ) → IsOfNoPrefix trace_of events written
     → (prefix : List E) × IsPrefix prefix events × (written ≡ trace_of prefix) → ⊥
 no_events trace_of events written none (prefix, (more, is), shown) = none prefix more is shown
 
--- A bad line is not at once there and not there.
+-- `bad` is not both `Some line` and `None`.
 some_line : (bad : Option ℕ) (line : ℕ) → bad ≡ Some line → bad ≡ None → ⊥
 some_line bad line is none = let both : ◌≡◌ {A = Option ℕ} (Some line) None = sym is ∙ none in search rules
 
+-- A simulation of `play` begins at `from` with `text` to read. It leaves the bytes `left` of `text`, and writes
+-- `written`.
 module _ {W E C : Type 0} (play : Play W E C) (from : Progress W C) (text left written : List ℕ) where
   -- Returns the streams before a simulation that reads `text`.
   abbrev before : Streams

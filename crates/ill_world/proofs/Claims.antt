@@ -33,7 +33,7 @@ tells_cancelled (types.CancelReply c true) tells = refl
 tells_cancelled (types.CancelReply c false) tells = absurd tells
 tells_cancelled body tells = search rules
 
--- A message that is evidence of an end without the item is such an end.
+-- A message that is evidence of an end without the item satisfies `is_unsupplied`.
 tells_ended : (body : Body) → requester.IsEvidence body requester.Ended → responder.is_unsupplied body ≡ true
 tells_ended (types.IllAnswer answer) tells = tells
 tells_ended types.Expired tells = refl
@@ -73,6 +73,7 @@ unfolding ships_first
 ships_before [] first renewed = search rules
 ships_before (a ∷ apdus) first renewed = go (is_shipped a.body) (is_renewal a.body) (ships_before apdus) first renewed
   where
+    -- If the first APDU is no Shipped, it is no Renew-Answer yes, and the rest has a Shipped.
     go : (shipped renewal : Bool) → (ships_first apdus ≡ true → has_message_with is_renewal apdus ≡ true
         → has_message_with is_shipped apdus ≡ true)
         → (shipped || (not renewal && ships_first apdus)) ≡ true → (renewal || has_message_with is_renewal apdus) ≡ true
@@ -120,7 +121,7 @@ not_supplied_faces txn x y responder_sent requester_sent requester_stands respon
     is_in_not_supplied y.state (sym responder_stands.ends.unsupplied
     ∙ has_issued y.issued responder_sent responder.is_unsupplied known.0 issued known.1 (tells_ended known.0.body known.2))
 
--- `EndsAlike` holds of two such sides.
+-- `EndsAlike` holds of two sides that satisfy the premises of `Pair`.
 ends_pair : Pair EndsAlike
 ends_pair txn (sides.Requester x) (sides.Responder y) responder_sent requester_sent requester_stands responder_stands issued = (
   cancelled_faces txn x y responder_sent requester_sent requester_stands responder_stands issued,
@@ -131,7 +132,7 @@ ends_pair txn (sides.Responder x) y responder_sent requester_sent requester_stan
 ends_pair txn (sides.Requester x) (sides.Requester y) responder_sent requester_sent requester_stands responder_stands issued =
     absurd responder_stands
 
--- `WasGranted` holds of two such sides.
+-- `WasGranted` holds of two sides that satisfy the premises of `Pair`.
 grant_pair : Pair WasGranted
 grant_pair txn (sides.Requester x) (sides.Responder y) responder_sent requester_sent requester_stands responder_stands issued =
     λ due e.
@@ -157,7 +158,7 @@ shipped_by txn x y responder_sent requester_sent (Some d) requester_stands respo
           (has_issued y.issued responder_sent is_renewal known.0 issued known.1 renewal)
     ]
 
--- `WasShipped` holds of two such sides.
+-- `WasShipped` holds of two sides that satisfy the premises of `Pair`.
 shipped_pair : Pair WasShipped
 shipped_pair txn (sides.Requester x) (sides.Responder y) responder_sent requester_sent requester_stands responder_stands issued =
     λ is. shipped_by txn x y responder_sent requester_sent x.due requester_stands responder_stands issued refl
@@ -180,7 +181,7 @@ live_issues p saved = λ a was. (
   prefix_message (issued_of p.landed) (issued_of p.live) was.0 a saved.prefix (saved.landed was.0 a was.1),
 )
 
--- `P` holds of all four pairs of sides, live or landed, in a world that satisfies the invariant.
+-- If `Pair P` holds, and a world satisfies the invariant, `P` holds of its four pairs of sides.
 of_both : (P : Side → Side → Type 0) → Pair P → (txn : Qualifiers) (w : Parties) → Invariant txn w → OfBoth P w
 of_both P pair txn w stands =
     let sent = w.responder.sent in

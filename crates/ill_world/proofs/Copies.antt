@@ -40,7 +40,8 @@ pub last_has_all : (txn : Qualifiers) (w : Parties) (of : Role) → Invariant tx
     → HasAllSent (party w of).landed (party w of)
 last_has_all txn w of stands = (saved_by txn w of stands).landed
 
--- A copy of a record that has landed before `more` may be put back after it, if it has every sent message.
+-- A copy of the landed record of `of` in `w` is put back after `more`. The invariant holds then, if the copy has every
+-- message that `of` has sent.
 pub back_stands : (txn : Qualifiers) → After txn → (w : Parties) (more : List Event) (of : Role) → Invariant txn w
     → HasAllSent (party w of).landed (party (run_of w more) of)
     → Invariant txn (puts_back of (party w of).landed (run_of w more))
@@ -83,13 +84,13 @@ shows_copy txn who.Responder copy w =
 abbrev pub landed_at : Qualifiers → DeskParties → Role → Side
 landed_at txn w of = side_for txn (party w of).landed
 
--- A desk shows its landed side.
+-- The projection to `txn` has the landed side of `txn` at desk `of` (`landed_at`).
 shows_landed : (txn : Qualifiers) (w : DeskParties) (of : Role) → (party (project txn w) of).landed ≡ landed_at txn w of
 shows_landed txn w who.Requester = refl
 shows_landed txn w who.Responder = refl
 
--- A copy of a desk that has landed before `more` may be put back after it. The invariant holds in each transaction in
--- which it has every sent message.
+-- A copy of what desk `of` has landed in `w` is put back after `more`. The invariant holds in `txn` then, if the copy
+-- has every message that was sent in `txn`.
 pub desk_back_stands : EachProjects → EachStands → (txn : Qualifiers) → After txn → (w : DeskParties) (more : List DeskEvent)
     (of : Role)
     → DesksInvariant w → HasAllSent (landed_at txn w of) (party (project txn (desks_run w more)) of)
@@ -113,7 +114,8 @@ desk_back_stands projects stand txn after w more of stands has =
 in_process_still : states.InProcess ≡ states.NotSupplied → ⊥
 in_process_still is = search rules
 
--- The world in which an older copy was put back is not safe.
+-- The world in which an older copy was put back is not safe. There the requester is in NOT-SUPPLIED, and the responder
+-- in IN-PROCESS.
 pub older_is_unsafe : Safe older_copy_back → ⊥
 unfolding run_by
 older_is_unsafe safe = in_process_still (safe.ends.live.1 refl)

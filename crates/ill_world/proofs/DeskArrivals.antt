@@ -42,7 +42,7 @@ use Rattle.ill_world.proofs.Desks.{EachProjects, same_plain}
 not_nothing : (says : _ → Bool) (apdus : List Apdu) → has_message_with says apdus ≡ true → apdus ≡ [] → ⊥
 not_nothing says apdus is none = true≢false (sym is ∙ ap (has_message_with says) none)
 
--- If an idle record implies five facts, the last of them holds of it.
+-- If `idle` is true, and implies that a to d are false and `none` is true, `none` is true.
 last_of_five : (idle a b c d none : Bool) → idle ≡ true
     → implies idle (not a && (not b && (not c && (not d && none)))) ≡ true → none ≡ true
 last_of_five true false false false false none is empty = empty
@@ -66,6 +66,7 @@ asked txn (sides.Requester x) (sides.Responder y) responder_sent requester_sent 
     (has_issued x.issued requester_sent is_ill_request known.0 heeded known.1
     (tells_requested known.0.number known.0.body known.2)) none
   where
+    -- A responder that has issued a message is not in IDLE.
     begun : (idle : Bool) → is_among (states.Idle ∷ []) y.state ≡ idle → idle ≡ false
     begun false e = refl
     begun true e = absurd (idle_issued y.issued n a
@@ -124,10 +125,12 @@ settles_as among true expected old new DeskFull side seen concerned is_plain set
 abbrev pub EachReaches : Type 0
 EachReaches = (w : DeskParties) (event : DeskEvent) → DesksInvariant w → ReachesSide w event
 
+-- Message n of `txn` is `a`, and comes to one of two desks that satisfy `DesksInvariant`.
 module _ (projects : EachProjects) (reaches : EachReaches) (w : DeskParties) (stands : DesksInvariant w) (txn : Qualifiers)
     (n : ℕ)
     (a : Apdu) where
-  -- If a message settles a side that has issued a message, it settles this side at its desk.
+  -- The side of `role` has issued a message, and the delivery settles it in the world of two parties. Then the delivery
+  -- settles it at its desk.
   settles_there : (role : Role) (among : List State) → sent_message (sent_for txn (party w (other role)).sent) n ≡ Some a
       → (issued_of (held_for txn (party w role).live).side ≡ [] → ⊥)
       → let after = happens (project txn w) (events.Deliver role n) in Settles among after.0 (party after.1 role).live

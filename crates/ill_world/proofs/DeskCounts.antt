@@ -111,6 +111,7 @@ has_without : (txn another : Qualifiers) (txns : List Qualifiers) → is_same_tx
 has_without txn another [] apart is = is
 has_without txn another (first ∷ txns) apart is = go (is_same_txn txn first) refl (has_without txn another txns apart)
   where
+    -- If `first` is `txn`, `another` is one of `txns`. Otherwise it is `first`, or one of the rest without `txn`.
     go : (same : Bool) → is_same_txn txn first ≡ same
         → (is_one_of another txns ≡ true → is_one_of another (without txn txns) ≡ true)
         → is_one_of another (cond same txns (first ∷ without txn txns)) ≡ true
@@ -127,6 +128,7 @@ not_both : (txn another : Qualifiers) (txns : List Qualifiers) → is_one_of txn
     → is_one_of another txns ≡ true → is_same_txn another txn ≡ false
 not_both txn another txns none is = go (is_same_txn another txn) refl
   where
+    -- If `another` were `txn`, `txn` would be one of `txns`.
     go : (same : Bool) → is_same_txn another txn ≡ same → same ≡ false
     go true same = absurd (true≢false (sym (subst (λ t. is_one_of t txns ≡ true) (same_is another txn same) is) ∙ none))
     go false same = refl
@@ -174,6 +176,7 @@ LeadsTo May p new = Leads May (live_txns p) (landed_txns p) (live_txns new) (lan
 abbrev Puts : Qualifiers → DeskParty → DeskParty → Type 0
 Puts of p new = (new ≡ p) ⊎ ((held : DeskEntry) × (txn_held held ≡ of) × (new ≡ record p { live = with_held p.live held }))
 
+-- Desk `p` may begin the transaction `of` only if `May` holds of it.
 module _ (May : Qualifiers → Type 0) (p : DeskParty) (of : Qualifiers) where
   -- A put side leaves the transactions unchanged if its own is held. Else it begins its own.
   put_leads : (held : DeskEntry) → txn_held held ≡ of → (found : Option DeskEntry) → found_by txn_held of p.live.held ≡ found
@@ -187,6 +190,7 @@ module _ (May : Qualifiers → Type 0) (p : DeskParty) (of : Qualifiers) where
       (ap (map txn_held) (put_last txn_held held p.live.held (ap (λ t. found_by txn_held t p.live.held) is ∙ e))
       ∙ map-append txn_held p.live.held (held ∷ []) ∙ ap (λ t. live_txns p ++ t ∷ []) is) refl
     where
+      -- A desk with room for one more holds at most 999 transactions.
       few : nat_lt (length p.live.held) most_sides ≡ true → length (live_txns p) + 1 ≤ 1000
       few room = omega (arith, ltb-true (length p.live.held) 1000 room, length-map p.live.held txn_held)
 
@@ -220,6 +224,7 @@ Permits May partner_sent (desk_events.Deliver role of n) =
     (a : Apdu) → sent_message (sent_for of partner_sent) n ≡ Some a → May a.txn
 Permits May partner_sent other = Unit {0}
 
+-- Desk `p` may begin only transactions of which `May` holds.
 module _ (grows : RowsGrow) (May : Qualifiers → Type 0) (p : DeskParty) where
   -- A decision puts its side, or leaves the desk unchanged.
   decided_puts : (of : Qualifiers) (action : Action) (held : DeskEntry) → txn_held held ≡ of → (result : Result Side Refusal)
@@ -228,7 +233,7 @@ module _ (grows : RowsGrow) (May : Qualifiers → Type 0) (p : DeskParty) where
       inr (record { side = new; released = held.released }, row_txn grows held.side new (acted action e) ∙ is, refl)
   decided_puts of action held is (Err refusal) e = inl refl
 
-  -- `LeadsTo` holds of a decision.
+  -- If `May` holds of `of` whenever the action may begin a side, `LeadsTo` holds of the decision.
   decides_leads : (of : Qualifiers) (action : Action) → (begins action ≡ true → May of) → (may : Bool)
       → LeadsTo May p (desk_decides p
       (if may then acts_reached p.live action (side_for_call p.live of (begins action)) else Err (faults.Core WrongRole))).1
@@ -249,7 +254,7 @@ module _ (grows : RowsGrow) (May : Qualifiers → Type 0) (p : DeskParty) where
       )
   took_puts a held is (Err refusal) new e = inl refl
 
-  -- `LeadsTo` holds of a taken message.
+  -- `LeadsTo` holds of a desk that takes `a`, if `May` holds of the transaction of `a`.
   takes_leads : (a : Apdu) → May a.txn → (own : Bool)
       → LeadsTo May p (record p {
         live =
@@ -264,7 +269,7 @@ module _ (grows : RowsGrow) (May : Qualifiers → Type 0) (p : DeskParty) where
       (is_ill_request a.body) (λ begins. may) (nat_lt (length p.live.held) most_sides) refl (found_by txn_held a.txn p.live.held)
       refl
 
-  -- `LeadsTo` holds of a delivery.
+  -- `LeadsTo` holds of a delivery, if `May` holds of the transaction of its message.
   receives_leads : (found : Option Apdu) → ((a : Apdu) → found ≡ Some a → May a.txn) → LeadsTo May p (desk_receives p found).1
   receives_leads None may = stays refl refl
   receives_leads (Some a) may = takes_leads a (may a refl) (is_own p.live.role a.body)
@@ -285,7 +290,7 @@ module _ (grows : RowsGrow) (May : Qualifiers → Type 0) (p : DeskParty) where
   held_txns : map txn_of (map (λ (held : DeskEntry). held.side) p.live.held) ≡ live_txns p
   held_txns = map-map txn_of (λ (held : DeskEntry). held.side) p.live.held
 
-  -- `LeadsTo` holds of each event.
+  -- `LeadsTo` holds of each event, if `May` holds of each transaction that it may begin (`Permits`).
   pub event_leads : (partner_sent : List Sending) (event : DeskEvent) → Permits May partner_sent event
       → LeadsTo May p (desk_happens_to p partner_sent event).1
   event_leads partner_sent (desk_events.Wish of wish) may =
@@ -303,7 +308,7 @@ module _ (grows : RowsGrow) (May : Qualifiers → Type 0) (p : DeskParty) where
 
 -- ---- facts that each event of two desks keeps
 
--- A fact of two lists holds of two lists that are equal to them.
+-- If `P` holds of `live` and `landed`, it holds of two lists that are equal to them.
 both_are : (P : List Qualifiers → List Qualifiers → Type 0) (live landed new_live new_landed : List Qualifiers)
     → new_live ≡ live → new_landed ≡ landed → P live landed → P new_live new_landed
 both_are P live landed new_live new_landed is there holds =
@@ -315,9 +320,11 @@ requester_counts : (live landed new_live new_landed others others_landed : List 
     → Counts new_live new_landed others others_landed
 requester_counts live landed new_live new_landed others others_landed leads (few, few_landed, known, known_landed) = go leads
   where
+    -- `Counts` holds with these live and landed transactions of the requester's desk.
     P : List Qualifiers → List Qualifiers → Type 0
     P l m = Counts l m others others_landed
 
+    -- Each change of `Leads` keeps `Counts`.
     go : Leads (λ txn. Unit {0}) live landed new_live new_landed → P new_live new_landed
     go (stays is there) = both_are P live landed new_live new_landed is there (few, few_landed, known, known_landed)
     go (begun txn none room may is there) =
@@ -343,15 +350,18 @@ responder_counts : (live landed others others_landed new new_landed : List Quali
     → Counts live landed new new_landed
 responder_counts live landed others others_landed new new_landed leads (few, few_landed, known, known_landed) = go leads
   where
+    -- `Counts` holds with these live and landed transactions of the responder's desk.
     P : List Qualifiers → List Qualifiers → Type 0
     P l m = Counts live landed l m
 
+    -- If `txn` and each of `others` are among `those`, so is each of `others` with `txn` at the end.
     with_one : (those : List Qualifiers) (txn : Qualifiers) → is_one_of txn those ≡ true → AreAmong others those
         → AreAmong (others ++ txn ∷ []) those
     with_one those txn here among t is =
         elim (has_either t txn others is)
         [ inl there ↦ among t there | inr same ↦ subst (λ u. is_one_of u those ≡ true) (sym same) here ]
 
+    -- Each change of `Leads` keeps `Counts`.
     go : Leads (IsKnown live landed) others others_landed new new_landed → P new new_landed
     go (stays is there) = both_are P others others_landed new new_landed is there (few, few_landed, known, known_landed)
     go (begun txn none room may is there) =
@@ -407,7 +417,7 @@ known_permitted w stands (desk_events.Deliver role of n) is =
     ((keeps_to w who.Responder stands).txn_of_sent of n a sent) (sent_known w stands of n a sent)
 known_permitted w stands event is = tt
 
--- After an event `DesksCount` holds of two desks.
+-- If two desks satisfy `DesksInvariant`, `DesksCount` holds after an event at the desk of `role`.
 pub count_at : RowsGrow → (w : DeskParties) (event : DeskEvent) → DesksInvariant w → (role : Role)
     → who_of (plain event) ≡ role
     → DesksCount (happens_at w role (λ p partner. desk_happens_to p partner.sent event)).1
@@ -444,6 +454,7 @@ none_full : EachReaches → (w : DeskParties) → DesksInvariant w → (role : R
     → (desks_happen w (desk_events.Deliver role txn n)).0 ≡ DeskFull → ⊥
 none_full reaches w stands role txn n room full = go (sent_message (sent_for txn (party w (other role)).sent) n) refl
   where
+    -- If no message was sent, the outcome is NotSent. Otherwise the desk holds the transaction, or has room.
     go : (found : Option Apdu) → sent_message (sent_for txn (party w (other role)).sent) n ≡ found → ⊥
     go None e = let seen : ◌≡◌ {A = DeskOutcome} (Plain NotSent) DeskFull =
         sym (ap (λ o. (desk_receives (party w role) o).0) e) ∙ full in search (rules, seen)
@@ -469,6 +480,7 @@ pub unheld_is_not_sent : (w : DeskParties) (txn : Qualifiers) (n : ℕ) → Desk
     → (desks_happen w (desk_events.Deliver who.Requester txn n)).0 ≡ Plain NotSent
 unheld_is_not_sent w txn n stands none = go (sent_message (sent_for txn w.responder.sent) n) refl
   where
+    -- No message was sent, since `none_sent` excludes the other case.
     go : (found : Option Apdu) → sent_message (sent_for txn w.responder.sent) n ≡ found
         → (desks_happen w (desk_events.Deliver who.Requester txn n)).0 ≡ Plain NotSent
     go None e = ap (λ o. (desk_receives w.requester o).0) e

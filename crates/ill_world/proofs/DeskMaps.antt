@@ -18,7 +18,7 @@ use Rattle.ill_world.proofs.Standings.{none_sent}
 abbrev Entries : Type 0
 Entries = List (Qualifiers × List (Option Apdu))
 
--- If both lists agree after their first entry, they agree with it.
+-- If the list and the map agree on `txn` after their first entry `e`, they agree on `txn` with it.
 sent_first : (txn : Qualifiers) (e : Qualifiers × List (Option Apdu)) (found : Option Sending)
     (there : Option (List (Option Apdu))) (same : Bool)
     → (found_or {X = Sending} (record { txn = txn; sent = nothing_sent }) found).sent ≡ found_or nothing_sent there
@@ -38,11 +38,12 @@ sent_there txn (e ∷ entries) = sent_first txn e (found_by txn_sent txn (sendin
 pub nothing_there : (n : ℕ) → sent_message nothing_sent n ≡ None
 nothing_there n = go (sent_message nothing_sent n) refl
   where
+    -- `none_sent` excludes that a message is found.
     go : (found : Option Apdu) → sent_message nothing_sent n ≡ found → found ≡ None
     go None e = refl
     go (Some a) e = absurd (none_sent n a e)
 
--- If a set entry and a put entry agree after the first entry, they agree with it.
+-- If `set_value` and `put_by` agree after the first entry `e`, they agree with it.
 set_first : (txn : Qualifiers) (new sent : List (Option Apdu)) (e : Qualifiers × List (Option Apdu))
     (found : Option (List (Option Apdu))) (entries set_on : Entries) (put_on : List Sending) (same : Bool)
     → is_same_txn txn e.0 ≡ same → cond same (Some e.1) found ≡ Some sent → (found ≡ Some sent → sendings_of set_on ≡ put_on)
@@ -53,7 +54,7 @@ set_first txn new sent e found entries set_on put_on true same there further =
 set_first txn new sent e found entries set_on put_on false same there further =
     ap (λ all. record { txn = e.0; sent = e.1 } ∷ all) (further there)
 
--- If the map has an entry for `txn`, a set entry is a put entry.
+-- If the map has an entry for `txn`, `set_value` changes the map as `put_by` changes the list.
 set_there : (txn : Qualifiers) (new sent : List (Option Apdu)) (entries : Entries) → lookup (is_same_txn txn) entries ≡ Some sent
     → sendings_of (set_value (is_same_txn txn) entries new)
     ≡ put_by txn_sent (record { txn = txn; sent = new }) (sendings_of entries)

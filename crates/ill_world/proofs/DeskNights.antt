@@ -40,9 +40,11 @@ module _ (wants : Side → Bool) where
   none_wanted txn [] none = none
   none_wanted txn (side ∷ more) none = go (wants side) (none_wanted txn more parts.1)
     where
+      -- `side` is not of `txn`, and none of `more` is.
       parts : (is_same_txn txn (txn_of side) ≡ false) × (is_one_of txn (map txn_of more) ≡ false)
       parts = or_parts (is_same_txn txn (txn_of side)) (is_one_of txn (map txn_of more)) none
 
+      -- If `side` is selected, it is not of `txn` either.
       go : (wanted : Bool) → is_one_of txn (map txn_of (filter wants more)) ≡ false
           → is_one_of txn (map txn_of (cond wanted (side ∷ filter wants more) (filter wants more))) ≡ false
       go true rest = or_from (is_same_txn txn (txn_of side)) (is_one_of txn (map txn_of (filter wants more))) parts.0 rest
@@ -53,6 +55,7 @@ module _ (wants : Side → Bool) where
   apart_wanted [] apart = apart
   apart_wanted (side ∷ more) apart = go (wants side) (apart_wanted more apart.1)
     where
+      -- If `side` is selected, no other selected side is of its transaction.
       go : (wanted : Bool) → AreApart (map txn_of (filter wants more))
           → AreApart (map txn_of (cond wanted (side ∷ filter wants more) (filter wants more)))
       go true rest = (none_wanted (txn_of side) more apart.0, rest)
@@ -65,7 +68,7 @@ module _ (wants : Side → Bool) where
       let parts = or_parts (is_same_txn txn (txn_of side)) (is_one_of txn (map txn_of more)) none in
       ap (λ b. cond b (Some side) (found_by txn_of txn more)) parts.0 ∙ found_none txn more parts.1
 
-  -- An idle side is found, if the Bool is true or not.
+  -- `cond wanted idle idle` is `idle`, whatever `wanted` is.
   idle_either : (idle : Side) (wanted : Bool) → idle ≡ cond wanted idle idle
   idle_either idle true = refl
   idle_either idle false = refl
@@ -78,12 +81,15 @@ module _ (wants : Side → Bool) where
   found_wanted txn idle (side ∷ more) apart =
       go (is_same_txn txn (txn_of side)) (wants side) refl refl (found_wanted txn idle more apart.1)
     where
+      -- Returns the selected side of `txn` among `more`, if there is one.
       kept : Option Side
       kept = found_by txn_of txn (filter wants more)
 
+      -- Returns the side of `txn` among `more`, if there is one.
       rest : Option Side
       rest = found_by txn_of txn more
 
+      -- `same` tells if `side` is of `txn`, and `wanted` if it is selected. If it is of `txn`, none of `more` is.
       go : (same wanted : Bool) → is_same_txn txn (txn_of side) ≡ same → wants side ≡ wanted
           → found_or idle kept ≡ cond (wants (found_or idle rest)) (found_or idle rest) idle
           → found_or idle (found_by txn_of txn (cond wanted (side ∷ filter wants more) (filter wants more)))
@@ -104,7 +110,8 @@ abbrev passes_of : Role → Side → List Event
 passes_of role side = sends_and_delivers role 1 (length (issued_of side))
 
 module _ (projects : EachProjects) (reaches : EachReaches) (after : EachStands) (txn : Qualifiers) where
-  -- In `txn` the half of the selected sides is the half of its side, if `wants` holds of it.
+  -- In `txn` the half of the selected sides is the half of its side. If `wants` does not hold of its side, the half is
+  -- a save.
   half_if_alike : (wants : Side → Bool) (w : DeskParties) (role : Role) → DesksInvariant w
       → project txn (desks_run w (desk_half_if wants role w))
       ≡ run_of (project txn w) (half_if (wants (party (project txn w) role).live) role (project txn w))
@@ -133,6 +140,7 @@ module _ (projects : EachProjects) (reaches : EachReaches) (after : EachStands) 
       apart : AreApart (map txn_of all)
       apart = held_apart projects reaches after txn w role stands
 
+      -- In `txn` the half saves, and passes on the messages of `side`, or of `idle` if `side` is not selected.
       saved_alike : project txn (desks_run w (desk_half_if wants role w))
           ≡ run_of v (events.Save role ∷ passes_of role (cond (wants side) side idle))
       saved_alike =
@@ -142,13 +150,14 @@ module _ (projects : EachProjects) (reaches : EachReaches) (after : EachStands) 
           ∙ ap (λ s. run_of (project txn saved) (passes_of role (cond (wants s) s idle))) (side_of_held txn live)
           ∙ ap (λ u. run_of u (passes_of role (cond (wants side) side idle))) (projects txn w (desk_events.Save role) stands).1
 
+      -- An idle side has issued no message, so that its half is a save.
       go : (wanted : Bool) → run_of v (events.Save role ∷ passes_of role (cond wanted side idle))
           ≡ run_of v (half_if wanted role v)
       go true = ap (λ (p : Party). run_of v (events.Save role ∷ passes_of role p.live)) (sym (shown txn w role))
       go false = ap (λ (apdus : List Apdu). run_of v (events.Save role ∷ sends_and_delivers role 1 (length apdus)))
           (idle_issues live.role txn)
 
-  -- In `txn` a night of two desks is a night of both sides.
+  -- In `txn` a night of two desks is a night of both sides. Each half is one of its side, by `half_if_alike`.
   pub night_alike : (w : DeskParties) → DesksInvariant w
       → project txn (desks_run w (desk_night_of w)) ≡ run_of (project txn w) (night_of (project txn w))
   night_alike w stands =

@@ -52,6 +52,7 @@ idle_sends : (p : Party) (n : ℕ) (released : Bool) → issued_of p.live ≡ []
     → (sends p n (message (issued_of p.live) n) released).1 ≡ p
 idle_sends p n released none = ap (λ apdus. (sends p n (message apdus n) released).1) none ∙ go n
   where
+    -- An empty list has no message m, so that its Send changes nothing.
     go : (m : ℕ) → (sends p n (message [] m) released).1 ≡ p
     go zero = refl
     go (suc m) = refl
@@ -100,7 +101,8 @@ same_party : (v : Parties) (role : Role) → with_party v role (party v role) �
 same_party v who.Requester = refl
 same_party v who.Responder = refl
 
--- An event of the transaction leads to the expected world, if an event that reaches no side changes nothing.
+-- An event of the transaction leads to the expected world, if it is not DeskFull, and NoSuchTransaction changes
+-- nothing.
 pub seen_alike : (own : Bool) → own ≡ true → (expected : Outcome × Parties) (old new : Parties) (outcome : DeskOutcome)
     → IsSeenAs (if_reached outcome own) expected old outcome new
     → (outcome ≡ DeskFull → ⊥) → (outcome ≡ NoSuchTransaction → expected.1 ≡ old) → new ≡ expected.1
@@ -143,7 +145,7 @@ module _ (projects : EachProjects) (reaches : EachReaches) (after : EachStands) 
       seen_elsewhere (concerns txn event) is (happens (project txn w) (plain event)) (project txn w)
       (project txn (desks_happen w event).1) (desks_happen w event).0 (projects txn w event stands)
 
-  -- `HappensAlike` holds of an event of `txn`, if an event that reaches no side changes nothing.
+  -- `HappensAlike` holds of an event of `txn`, if it is not DeskFull, and NoSuchTransaction changes nothing.
   alike : (w : DeskParties) (event : DeskEvent) → concerns txn event ≡ true → DesksInvariant w
       → ((desks_happen w event).0 ≡ DeskFull → ⊥)
       → ((desks_happen w event).0 ≡ NoSuchTransaction → (happens (project txn w) (plain event)).1 ≡ project txn w)
@@ -169,9 +171,11 @@ module _ (projects : EachProjects) (reaches : EachReaches) (after : EachStands) 
       found : Option DeskEntry
       found = found_by txn_held txn (party w role).live.held
 
+      -- The Send reaches a held side, or its outcome is NoSuchTransaction.
       reached : (outcome : DeskOutcome) → (desks_happen w event).0 ≡ outcome → Reaches false has_room found outcome
       reached outcome seen = subst (Reaches false has_room found) seen (reaches w event stands)
 
+      -- A side that is not held has issued nothing, so that its Send changes nothing.
       stays : (desks_happen w event).0 ≡ NoSuchTransaction → (happens v (events.Send role n)).1 ≡ v
       stays missed =
           let nothing : issued_of (party v role).live ≡ [] =
@@ -195,6 +199,8 @@ module _ (projects : EachProjects) (reaches : EachReaches) (after : EachStands) 
       found : Option DeskEntry
       found = found_by txn_held txn (party w role).live.held
 
+      -- The requester's desk holds each transaction in which a message was sent. An idle responder takes only an
+      -- ILL-Request.
       go : (to : Role) → sent_message (sent_for txn (party w (other to)).sent) n ≡ Some a
           → (found_by txn_held txn (party w to).live.held ≡ None) × (is_ill_request a.body ≡ false)
           → (receives (party (project txn w) to) (Some a)).1 ≡ party (project txn w) to
@@ -216,11 +222,13 @@ module _ (projects : EachProjects) (reaches : EachReaches) (after : EachStands) 
       v : Parties
       v = project txn w
 
+      -- If no message was sent, the party takes nothing. Otherwise `idle_stays` holds.
       received : (found : Option Apdu) → sent_message (sent_for txn (party w (other role)).sent) n ≡ found
           → (desks_happen w event).0 ≡ NoSuchTransaction → (receives (party v role) found).1 ≡ party v role
       received None e missed = refl
       received (Some a) e missed = idle_stays w role n a stands e missed
 
+      -- If the delivery does not reach its transaction, the projection does not change.
       stays : (desks_happen w event).0 ≡ NoSuchTransaction → (happens v (events.Deliver role n)).1 ≡ v
       stays missed =
           ap (λ (p : Party). with_party v role (receives (party v role) (sent_message p.sent n)).1) (shown txn w (other role))
@@ -261,7 +269,7 @@ module _ (projects : EachProjects) (reaches : EachReaches) (after : EachStands) 
 
   -- ---- the messages of a desk
 
-  -- The messages of sides are passed on by those of the first side, and then those of the others.
+  -- To pass on the messages of `side ∷ more` is to pass on those of `side`, then those of `more`.
   passes_both : (w : DeskParties) (role : Role) (side : Side) (more : List Side)
       → desks_run w (flat_map (passes_side role) (side ∷ more))
       ≡ desks_run (desks_run w (passes_side role side)) (flat_map (passes_side role) more)
@@ -296,6 +304,7 @@ module _ (projects : EachProjects) (reaches : EachReaches) (after : EachStands) 
       next_stands : DesksInvariant next
       next_stands = desks_stand_on after w (passes_side role side) stands
 
+      -- If `side` is of `txn`, none of `more` is. Otherwise its messages leave the projection unchanged.
       go : (same : Bool) → is_same_txn txn (txn_of side) ≡ same
           → project txn (desks_run next (flat_map (passes_side role) more))
           ≡ run_of (project txn next) (sends_and_delivers role 1
@@ -345,6 +354,7 @@ module _ (projects : EachProjects) (reaches : EachReaches) (after : EachStands) 
       saved : DeskParties
       saved = (desks_happen w (desk_events.Save role)).1
 
+      -- In `txn` the half saves, and passes on the messages of the held side.
       saved_alike : project txn (desks_run w (desk_half_of role w))
           ≡ run_of (project txn w) (events.Save role ∷ sends_and_delivers role 1 (length (issued_of (held_for txn live).side)))
       saved_alike =

@@ -165,6 +165,7 @@ pub receives_role : (role : Role) (p : DeskParty) (found : Option Apdu) → IsDe
 receives_role role p None is = is
 receives_role role p (Some a) is = (go (is_own p.live.role a.body), is.1)
   where
+    -- The desk keeps its role if it refuses a message of its own role, and if it takes another one.
     go : (own : Bool) → (if own then (Err (faults.Core WrongRole), p.live) else
         takes_reached p.live a (side_for_call p.live a.txn (is_ill_request a.body))).1.role ≡ role
     go true = is.0

@@ -26,6 +26,7 @@ last_from : {X : Type 0} (f : Apdu → Option X) (o : Option X) (apdus : List Ap
 last_from f o [] x is = inl is
 last_from {X = X} f o (a ∷ apdus) x is = go (f a) refl (λ p. last_from f p apdus x) is
   where
+    -- If `f` finds nothing in `a`, the last value is that of the rest. Otherwise `y` stands before the rest.
     go : (found : Option X) → f a ≡ found
         → ((p : Option X) → last_or p (filter_map f apdus) ≡ Some x → (p ≡ Some x) ⊎ Finds f apdus x)
         → last_or o (cons_option found (filter_map f apdus)) ≡ Some x
@@ -38,18 +39,20 @@ last_from {X = X} f o (a ∷ apdus) x is = go (f a) refl (λ p. last_from f p ap
 pub finds_last : {X : Type 0} (f : Apdu → Option X) (apdus : List Apdu) (x : X) → last_of f apdus ≡ Some x → Finds f apdus x
 finds_last f apdus x is = elim (last_from f None apdus x is) [ inl none ↦ search (rules, none) | inr there ↦ there ]
 
--- A number among all that are found is found in one of the APDUs.
+-- If k is among the numbers that `f` finds in `apdus`, `f` finds k in one of them.
 pub finds_any : (f : Apdu → Option ℕ) (apdus : List Apdu) (k : ℕ) → list_any (λ m. m == k) (filter_map f apdus) ≡ true
     → Finds f apdus k
 finds_any f [] k is = search rules
 finds_any f (a ∷ apdus) k is = go (f a) refl (finds_any f apdus k) is
   where
+    -- The number m that `f` finds in `a` is k, or k is found in the rest.
     pick : (m : ℕ) (here : Bool) → (m == k) ≡ here → f a ≡ Some m
         → (list_any (λ i. i == k) (filter_map f apdus) ≡ true → Finds f apdus k)
         → (here || list_any (λ i. i == k) (filter_map f apdus)) ≡ true → Finds f (a ∷ apdus) k
     pick m true e found rest is = (suc zero, a, refl, found ∙ ap Some (eqb-true m k e))
     pick m false e found rest is = finds_further f a apdus k (rest is)
 
+    -- `f` finds no number in `a`, or the number m.
     go : (found : Option ℕ) → f a ≡ found → (list_any (λ i. i == k) (filter_map f apdus) ≡ true → Finds f apdus k)
         → list_any (λ m. m == k) (cons_option found (filter_map f apdus)) ≡ true
         → Finds f (a ∷ apdus) k
@@ -63,11 +66,13 @@ all_found f p apdus zero a k all at is = search rules
 all_found f p [] (suc n) a k all at is = search rules
 all_found f p (b ∷ apdus) (suc zero) a k all at is = go (f b) (ap f (same_apdu b a at) ∙ is) all
   where
+    -- The number that `f` finds in `b` is k, and passes the test.
     go : (found : Option ℕ) → found ≡ Some k → list_all p (cons_option found (filter_map f apdus)) ≡ true → p k ≡ true
     go None e all = search rules
     go (Some m) e all = let same : m ≡ k = search rules in subst (λ i. p i ≡ true) same (and_parts _ _ all).0
 all_found f p (b ∷ apdus) (suc (suc n)) a k all at is = all_found f p apdus (suc n) a k (rest_all (f b) all) at is
   where
+    -- The numbers that `f` finds in the rest pass the test.
     rest_all : (found : Option ℕ) → list_all p (cons_option found (filter_map f apdus)) ≡ true
         → list_all p (filter_map f apdus) ≡ true
     rest_all None all = all
@@ -79,12 +84,12 @@ all_found f p (b ∷ apdus) (suc (suc n)) a k all at is = all_found f p apdus (s
 abbrev pub number_if : (Body → Bool) → Apdu → Option ℕ
 number_if says a = if says a.body then Some a.number else None
 
--- If a Bool gives the number n, it is true, and `number` is n.
+-- If `if says then Some number else None` is `Some n`, `says` is true and `number` is n.
 said_it : (says : Bool) (number n : ℕ) → (if says then Some number else None) ≡ Some n → (says ≡ true) × (number ≡ n)
 said_it true number n is = (refl, search rules)
 said_it false number n is = search rules
 
--- The last number of an APDU of which `says` holds is the number of such a message.
+-- If n is the last number that `number_if says` finds, message n has it, and `says` holds of this message.
 pub was_last : (says : Body → Bool) (txn : Qualifiers) (apdus : List Apdu) (n : ℕ) → are_numbered txn 1 apdus ≡ true
     → last_of (number_if says) apdus ≡ Some n
     → (a : Apdu) × (message apdus n ≡ Some a) × (says a.body ≡ true) × (a.number ≡ n)
@@ -100,6 +105,7 @@ last_from_there : (says : Body → Bool) (txn : Qualifiers) (first number : ℕ)
     → last_or (Some number) (filter_map (number_if says) apdus) ≡ Some n → number ≤ n
 last_from_there says txn first number apdus n numbered below last = go (last_from (number_if says) (Some number) apdus n last)
   where
+    -- The last number is `number` itself, or that of a later APDU.
     go : (◌≡◌ {A = Option ℕ} (Some number) (Some n)) ⊎ Finds (number_if says) apdus n → number ≤ n
     go (inl e) = let is_n : number ≡ n = search rules in omega (arith, is_n)
     go (inr (zero, a, at, is)) = search rules
@@ -127,6 +133,7 @@ last_not_below says txn first o (b ∷ apdus) zero a n numbered at is last =
 last_not_below says txn first o (b ∷ apdus) (suc i) a n numbered at is last =
     go (number_if says b) (λ p. last_not_below says txn (first + 1) p apdus i a n (and_parts _ _ numbered).1 at is) last
   where
+    -- The number found in `b`, or none, stands before those of the rest.
     go : (found : Option ℕ) → ((p : Option ℕ) → last_or p (filter_map (number_if says) apdus) ≡ Some n → a.number ≤ n)
         → last_or o (cons_option found (filter_map (number_if says) apdus)) ≡ Some n → a.number ≤ n
     go None rest last = rest o last
@@ -151,6 +158,7 @@ pub has_last : (says : Body → Bool) (o : Option ℕ) (apdus : List Apdu)
 has_last says o [] is = search rules
 has_last says o (a ∷ apdus) is = go (says a.body) (has_last says o apdus) is
   where
+    -- If `says` holds of `a`, its number is found. Otherwise a number is found in the rest.
     go : (here : Bool) → (list_any (λ (b : Apdu). says b.body) apdus ≡ true → (n : ℕ)
         × (last_or o (filter_map (number_if says) apdus) ≡ Some n)) → (here || list_any (λ (b : Apdu). says b.body) apdus) ≡ true
         → (n : ℕ) × (last_or o (cons_option (if here then Some a.number else None) (filter_map (number_if says) apdus)) ≡ Some n)

@@ -6,6 +6,7 @@ use Rattle.ill_values.specs.declared.apdu.Apdu.{Apdu}
 use Rattle.ill_values.specs.Body.{Body}
 use Rattle.ill_world.proofs.Uniqueness.{same_apdu}
 
+-- `take r a` is the record `r` after it takes `a`.
 module _ {R : Type 0} (take : R → Apdu → R) where
   -- Returns a record after it takes these APDUs, one after another.
   unfoldable pub taking : R → List Apdu → R
@@ -28,6 +29,7 @@ module _ {R : Type 0} (take : R → Apdu → R) where
     pub stays : (r : R) (a : Apdu) (number : ℕ) (body : Body) → reopens a.body body ≡ false → has_heard r number body ≡ true
         → has_heard (take r a) number body ≡ true
 
+  -- `Hears` holds of `has_heard` and `reopens`, for records of `Is` and messages of `Of`.
   module _ (Is : R → Type 0) (Of : Apdu → Type 0) (has_heard : R → ℕ → Body → Bool) (reopens : Body → Body → Bool)
       (hears : Hears Is Of has_heard reopens) where
     -- If `has_heard` holds of a message, it holds after further messages, if none of them reopens it.

@@ -45,7 +45,7 @@ over_means states.Conditional true marked own over = search rules
 over_means states.Conditional false marked own over = search rules
 over_means s declined marked own over = search rules
 
--- If the loan is over for both records, in states that face each other, the records are at rest.
+-- If the loan is over for two records whose states `s` and `t` face each other, they are at rest.
 rest_in : (x : RequesterRecord) (y : ResponderRecord) (s t : State) → is_over (sides.Requester x) ≡ true → x.state ≡ s
     → y.state ≡ t → is_nobodys (responder_turn_in t) ≡ true → is_among (faced_in s) t ≡ true → AtRest x y
 rest_in x y s t over at_s at_t ends faces = record {
@@ -116,6 +116,7 @@ pub unasked_is_open : (txn : Qualifiers) (side : Side) (requester_sent : List (O
     → is_over side ≡ false
 unasked_is_open txn (sides.Responder y) requester_sent apdus stands heeded none = go (is_among (states.Idle ∷ []) y.state) refl
   where
+    -- For a responder in IDLE the loan is not over. Another one was asked, so that the requester has issued a message.
     go : (idle : Bool) → is_among (states.Idle ∷ []) y.state ≡ idle → is_over (sides.Responder y) ≡ false
     go true is = idle_is_open y.state is
     go false is = let known = stands.knows responder.Requested is in let there = heeded known.0 known.1 in
@@ -143,12 +144,14 @@ module _ (txn : Qualifiers) (after : (w : Parties) (event : Event) → Invariant
       → wants_sending (asks w.requester.live) (run_of w (half_of who.Requester w)).responder.live ≡ true
   responder_wants w stands is_open = go (is_none (issued_of w.requester.live)) refl
     where
+      -- Returns the world after the requester's half.
       between : Parties
       between = run_of w (half_of who.Requester w)
 
       stands_between : Invariant txn between
       stands_between = run_stands txn after w (half_of who.Requester w) stands
 
+      -- If the requester has issued nothing, the loan is open for the responder. Otherwise the responder was asked.
       go : (none : Bool) → is_none (issued_of w.requester.live) ≡ none
           → wants_sending (asks w.requester.live) between.responder.live ≡ true
       go true none =
@@ -197,6 +200,7 @@ pub one_night : (w : Parties) → (is_over w.requester.live ≡ false → night_
     → AreInStepOrAtRest (run_of w (night_of w))
 one_night w rounds saves rests step = go (is_over w.requester.live) refl
   where
+    -- If the loan is open for the requester, the night is a round. Otherwise it is a save of each side.
     go : (over : Bool) → is_over w.requester.live ≡ over → AreInStepOrAtRest (run_of w (night_of w))
     go false is = inl (subst (λ (l : List Event). AreInStep (run_of w l)) (sym (rounds is)) step)
     go true is = inr (rest_after w (night_of w) (rests is) (saves is))

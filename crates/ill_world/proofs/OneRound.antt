@@ -112,6 +112,7 @@ none_there : (says : Body → Bool) (apdus : List Apdu) (i : ℕ) (a : Apdu) →
     → slice_get apdus i ≡ Some a → says a.body ≡ false
 none_there says apdus i a none at = go (says a.body) refl
   where
+    -- If `says` held of `a`, it would hold of an APDU of the list.
     go : (b : Bool) → says a.body ≡ b → b ≡ false
     go false e = refl
     go true e = let both : true ≡ false = sym (message_says says apdus (suc i) a at e) ∙ none in search rules
@@ -166,6 +167,7 @@ module _ (rows : TransitionsHear) where
   responder_grows y (a ∷ apdus) =
       prefix_of_prefix y.issued (lends y a).issued _ (grown (rows.responder_issues y a)) (responder_grows (lends y a) apdus)
     where
+      -- By `a` the responder issues nothing, or an ILL-Answer unfilled.
       grown : IssuesUnfilled y a.body (lends y a) → IsPrefix y.issued (lends y a).issued
       grown (inl same) = ([], same ∙ sym (append-nil y.issued))
       grown (inr more) = (next_apdu y.txn y.issued (types.IllAnswer results.Unfilled) ∷ [], more.1)
@@ -178,6 +180,7 @@ module _ (rows : TransitionsHear) where
       (λ r a ended. ap (is_among (states.NotSupplied ∷ [])) (rows.responder_final r a (final_too r.state ended)) ∙ ended) y
       apdus is
     where
+      -- NOT-SUPPLIED is one of the states that no message changes.
       final_too : (s : State) → is_among (states.NotSupplied ∷ []) s ≡ true
           → is_among (states.NotSupplied ∷ states.Cancelled ∷ states.CheckedIn ∷ []) s ≡ true
       final_too states.NotSupplied is = refl
@@ -188,7 +191,7 @@ module _ (rows : TransitionsHear) where
   not_undecided states.NotSupplied is undecided = search rules
   not_undecided s is undecided = search rules
 
-  -- A responder in NOT-SUPPLIED is in a state of an end, as the ILL-Answer unfilled leaves it.
+  -- If a state is that of the end by an ILL-Answer unfilled (first premise), it is NOT-SUPPLIED.
   ends_there : (s : State) → (true && is_among (states.NotSupplied ∷ []) s
       || (false && is_among (states.Cancelled ∷ []) s || false && is_among later s)) ≡ true
       → is_among (states.NotSupplied ∷ []) s ≡ true
@@ -202,6 +205,7 @@ module _ (rows : TransitionsHear) where
   issues_nothing y [] undecided = refl
   issues_nothing y (a ∷ apdus) undecided = issues_nothing (lends y a) apdus undecided ∙ same (rows.responder_issues y a)
     where
+      -- If the responder issued an ILL-Answer unfilled, it would stay in NOT-SUPPLIED, and not be undecided.
       same : IssuesUnfilled y a.body (lends y a) → (lends y a).issued ≡ y.issued
       same (inl is) = is
       same (inr more) =
@@ -220,6 +224,7 @@ module _ (rows : TransitionsHear) where
     abbrev borrower_new : RequesterRecord
     borrower_new = taking asks x lender_new.issued
 
+    -- Both records satisfy their invariants, and so does the responder's after it takes the requester's messages.
     module _ (borrower : RequesterInvariant txn x responder_sent) (lender : ResponderInvariant txn y requester_sent)
         (lender_after : ResponderInvariant txn lender_new requester_sent_after) where
       -- `has_heard` holds of message i + 1 at the requester, unless a later message reopens it.
@@ -267,6 +272,7 @@ module _ (rows : TransitionsHear) where
       ended_decides ended undecided =
           go (is_unsupplied at.1.body) (is_cancelled at.1.body) (is_shipped at.1.body) refl refl refl at.3
         where
+          -- The responder has issued a message that ends the request.
           at : (n : ℕ) × (a : Apdu) × (message lender_new.issued n ≡ Some a) × (is_end a.body ≡ true)
           at = says_message is_end lender_new.issued ended
 
@@ -282,6 +288,7 @@ module _ (rows : TransitionsHear) where
           apart states.Conditional (inr (inr is)) undecided = search rules
           apart s is undecided = search rules
 
+          -- The message ends the request without the item, by a Cancel-Reply yes or by a Shipped.
           go : (unsupplied cancelled shipped : Bool) → is_unsupplied at.1.body ≡ unsupplied → is_cancelled at.1.body ≡ cancelled
               → is_shipped at.1.body ≡ shipped → (unsupplied || (cancelled || shipped)) ≡ true → ⊥
           go true cancelled shipped a b c is =
@@ -317,6 +324,7 @@ module _ (rows : TransitionsHear) where
               (λ both. before_itself (lender_after.grants_first (suc j) (suc i) both.0 b a both.1 both.2 there at both.3 both.4
               both.5) later))
             where
+              -- No message is both before and after another.
               before_itself : {i j : ℕ} → suc j < suc i → i < j → ⊥
               before_itself first later = omega (arith, first, later)
 
@@ -325,6 +333,7 @@ module _ (rows : TransitionsHear) where
               → notices.has_heard borrower_new a.number a.body ≡ true
           last_heard a at = go (length lender_new.issued) refl at
             where
+              -- No message is later than the last one, so that none reopens it.
               go : (n : ℕ) → length lender_new.issued ≡ n → message lender_new.issued n ≡ Some a
                   → notices.has_heard borrower_new a.number a.body ≡ true
               go zero is at = search rules

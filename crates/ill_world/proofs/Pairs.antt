@@ -63,7 +63,7 @@ alike true b there back = sym (there refl)
 alike false true there back = back refl
 alike false false there back = refl
 
--- A Bool is true if a true one implies it.
+-- If `implies a b` and `a` are true, `b` is true.
 pub implied : (a b : Bool) → implies a b ≡ true → a ≡ true → b ≡ true
 implied a b implies_it is = search rules
 
@@ -217,7 +217,7 @@ pub attests_named : (n c : ℕ) (body : Body) → notices.Attests n body (notice
 attests_named n c (types.IllAnswer results.Conditional) attests = attests
 attests_named n c body attests = search rules
 
--- A message that attests an answer to a Renew is that answer.
+-- A message that attests an answer to Renew `renew` answers this Renew.
 pub attests_answered : (n renew : ℕ) (day : Date) (body : Body) → notices.Attests n body (notices.Answered renew day)
     → answered_number MayRenew body ≡ Some renew
 attests_answered n renew day (types.RenewAnswer c granted) attests = ap Some attests.0
@@ -234,7 +234,8 @@ attests_grant n renew due body some attests = search rules
 
 -- ---- a state, by the groups that have it or lack it
 
--- A requester that has an open Cancel, and does not wait for its answer, is in CANCELLED.
+-- A requester with an open Cancel that does not wait for its answer is in CANCELLED. `the` tells if this Cancel is its
+-- last one.
 cancelled_left : (s : State) (the : Bool) → (is_among (states.CancelPending ∷ states.Cancelled ∷ []) s && the) ≡ true
     → (is_among (states.CancelPending ∷ []) s && the) ≡ false → is_among (states.Cancelled ∷ []) s ≡ true
 cancelled_left states.CancelPending true may waits = search rules
@@ -301,7 +302,8 @@ settled_answers states.Shipped is = refl
 settled_answers states.Overdue is = refl
 settled_answers t is = search rules
 
--- A responder that has shipped, but is in none of these other states, is in RENEW/PENDING or RENEW/OVERDUE.
+-- If a responder has shipped, and is in none of the other states, it is in RENEW/PENDING or RENEW/OVERDUE. The other
+-- states are SHIPPED, OVERDUE, RECALL, RETURNED and CHECKED-IN.
 renew_left : (t : State) → is_among shipped_states t ≡ true → is_among (states.Recall ∷ []) t ≡ false
     → is_among (states.Returned ∷ states.CheckedIn ∷ []) t ≡ false
     → is_among (states.Shipped ∷ states.Overdue ∷ []) t ≡ false
@@ -397,13 +399,13 @@ pub not_below : (n : ℕ) (o : Option ℕ) → o ≡ Some n → is_below n o ≡
 not_below n None is below = search rules
 not_below n (Some m) is below = search rules
 
--- A state that is not NOT-SUPPLIED, and not SHIPPED or later, is none of these.
+-- A state that is neither NOT-SUPPLIED, nor SHIPPED or later, is not in the list of all these.
 pub neither : (s : State) → is_among (states.NotSupplied ∷ []) s ≡ false → is_among later s ≡ false
     → is_among (states.NotSupplied ∷ later) s ≡ false
 neither states.NotSupplied unsupplied shipped = search rules
 neither s unsupplied shipped = shipped
 
--- A state that is neither RECALL nor RETURNED is in the list of neither.
+-- A state that is neither RECALL nor RETURNED is not in the list of both.
 pub either_gone : (s : State) → is_among (states.Recall ∷ []) s ≡ false → is_among (states.Returned ∷ []) s ≡ false
     → is_among (states.Recall ∷ states.Returned ∷ []) s ≡ false
 either_gone states.Recall recalled returned = search rules
@@ -415,7 +417,7 @@ home_is_back : (t : State) → is_among (states.CheckedIn ∷ []) t ≡ true
 home_is_back states.CheckedIn is = refl
 home_is_back t is = search rules
 
--- The second of two Bools is false if the first is true and not both are.
+-- If `a && b` is false and `a` is true, `b` is false.
 pub second_false : (a b : Bool) → (a && b) ≡ false → a ≡ true → b ≡ false
 second_false a b none is = search rules
 
@@ -424,6 +426,7 @@ last_names : (apdus : List Apdu) → is_message_with names_conditions apdus (len
     → (a : Apdu) × (message apdus (length apdus) ≡ Some a) × (names_conditions a.body ≡ true)
 last_names apdus is = go (message apdus (length apdus)) refl is
   where
+    -- If no message is found, `is_there` is false.
     go : (found : Option Apdu) → message apdus (length apdus) ≡ found → is_there names_conditions found ≡ true → (a : Apdu)
         × (message apdus (length apdus) ≡ Some a) × (names_conditions a.body ≡ true)
     go None e is = search rules
@@ -491,7 +494,7 @@ attests_overdue : (n : ℕ) (due : Date) (body : Body) → notices.Attests n bod
 attests_overdue n due (types.Overdue day) attests = subst (λ d. is_same_day day d ≡ true) attests (same_itself day)
 attests_overdue n due body attests = search rules
 
--- The first of two Bools is false if the second is true and not both are.
+-- If `a && b` is false and `b` is true, `a` is false.
 first_false : (a b : Bool) → (a && b) ≡ false → b ≡ true → a ≡ false
 first_false a b none is = search rules
 
@@ -544,6 +547,7 @@ overdue_at s shipped recalled returned late = search rules
 
 -- ---- a requester's record and a responder's
 
+-- Both records satisfy their invariants, and have issued all messages that were sent. `HaveHeard` holds of them.
 module _ (txn : Qualifiers) (x : RequesterRecord) (y : ResponderRecord) (responder_sent requester_sent : List (Option Apdu))
     (borrower : RequesterInvariant txn x responder_sent) (lender : ResponderInvariant txn y requester_sent)
     (issued : AreIssued responder_sent y.issued) (heeded : AreIssued requester_sent x.issued) (hear : HaveHeard x y) where
@@ -773,6 +777,7 @@ module _ (txn : Qualifiers) (x : RequesterRecord) (y : ResponderRecord) (respond
       → Finds (λ a. answered_number MayRenew a.body) y.issued n → ⊥
   renew_answered n due some waits is (i, a, at, answers) = go (renew_answer a.body n answers)
     where
+      -- `has_heard` excludes a Renew-Answer no, and `not_granted` excludes a Renew-Answer yes.
       go : (granted : Option Date) × (a.body ≡ types.RenewAnswer n granted) → ⊥
       go (None, body) =
           let unheard : not (is_awaiting_answer x n) ≡ true =
@@ -874,6 +879,8 @@ module _ (txn : Qualifiers) (x : RequesterRecord) (y : ResponderRecord) (respond
   last_not_after due granted i j a b is out_there at_i is_a at_j is_b not_earlier =
       go (grant_kind a.body due is_a) (grant_kind b.body granted is_b)
     where
+      -- Either date is that of a Shipped or of a Renew-Answer yes. There is one Shipped at most, and later grants have
+      -- later dates.
       go : (a.body ≡ types.Shipped due) ⊎ ((c : ℕ) × (a.body ≡ types.RenewAnswer c (Some due)))
           → (b.body ≡ types.Shipped granted) ⊎ ((c : ℕ) × (b.body ≡ types.RenewAnswer c (Some granted)))
           → is_before due granted ≡ false
@@ -911,6 +918,7 @@ module _ (txn : Qualifiers) (x : RequesterRecord) (y : ResponderRecord) (respond
           let not_some : is_some x.due ≡ true = borrower.rules.parts.due ∙ (later_alike ∙ (sym lender.ends.shipped ∙ shipped)) in
           absurd (both_ways _ (ap is_some is) not_some)
 
+      -- A due date of the requester is the last one granted, for neither is before the other.
       go : (o : Option Date) → x.due ≡ o → x.due ≡ due_of y
       go None is = is ∙ nothing (due_of y) refl is
       go (Some due) is =

@@ -49,7 +49,7 @@ pub first_project : (txn : Qualifiers) → project txn first_desks ≡ first_wor
 unfolding side_with
 first_project txn = refl
 
--- The value of an option that is `new` or `found` is `new`, or that of `found`.
+-- If `same` is true, `new` is found. Otherwise the value of `found` is, or `instead`.
 found_either : {X : Type 0} (same : Bool) (instead new : X) (found : Option X)
     → found_or instead (cond same (Some new) found) ≡ cond same new (found_or instead found)
 found_either true instead new found = refl
@@ -62,7 +62,7 @@ held_after txn live new =
     ap (found_or (idle_held live.role txn)) (found_put txn_held txn new live.held)
     ∙ found_either (is_same_txn txn (txn_held new)) (idle_held live.role txn) new (found_by txn_held txn live.held)
 
--- The messages of an option that is `new` or `found` are those of `new`, or those of `found`.
+-- If `same` is true, the messages of `new` are found. Otherwise those of `found` are, or those of `instead`.
 sent_either : (same : Bool) (instead new : Sending) (found : Option Sending)
     → (found_or instead (cond same (Some new) found)).sent ≡ cond same new.sent (found_or instead found).sent
 sent_either true instead new found = refl
@@ -126,7 +126,8 @@ shows p txn = record {
 
 -- ---- an event of one transaction
 
--- An event names `of`. If `of` is `txn`, outcome and party are as expected of `txn`. Otherwise the party is unchanged.
+-- An event names `of`. If it reaches `of`, and `of` is `txn`, outcome and party are as expected of `txn`. Otherwise the
+-- party is unchanged.
 abbrev Seen : (Qualifiers → Outcome × Party) → Qualifiers → DeskParty → Qualifiers → DeskOutcome × DeskParty → Type 0
 Seen expected of p txn after = IsSeenAs (if_reached after.0 (is_same_txn txn of)) (expected txn) (party_for txn p) after.0
     (party_for txn after.1)
@@ -138,6 +139,7 @@ single : (expected : Qualifiers → Outcome × Party) (of : Qualifiers) (p new :
     → Seen expected of p txn (Plain outcome, new)
 single expected of p new outcome here there txn = go (is_same_txn txn of) refl
   where
+    -- `txn` is `of`, or another transaction.
     go : (same : Bool) → is_same_txn txn of ≡ same
         → IsSeenAs same (expected txn) (party_for txn p) (Plain outcome) (party_for txn new)
     go true e =
@@ -189,18 +191,18 @@ goes_on expected of p new outcome is here =
 abbrev IsNotReached : DeskFault → Type 0
 IsNotReached fault = (fault ≡ faults.NoSuchTransaction) ⊎ (fault ≡ faults.DeskFull)
 
--- If the event has such a fault, and the desk is unchanged, `Seen` holds in all transactions.
+-- If an event has a fault of `IsNotReached`, and the desk is unchanged, `Seen` holds in all transactions.
 not_reached : (expected : Qualifiers → Outcome × Party) (of : Qualifiers) (p : DeskParty) (fault : DeskFault)
     → IsNotReached fault → (txn : Qualifiers) → Seen expected of p txn (fault_seen fault, p)
 not_reached expected of p fault (inl is) txn = subst (λ f. Seen expected of p txn (fault_seen f, p)) (sym is) refl
 not_reached expected of p fault (inr is) txn = subst (λ f. Seen expected of p txn (fault_seen f, p)) (sym is) refl
 
--- The event reaches the entry `held`, or has such a fault.
+-- The event reaches the entry `held`, or has a fault of `IsNotReached`.
 abbrev Reaches : DeskEntry → Result DeskEntry DeskFault → Type 0
 Reaches held (Ok found) = found ≡ held
 Reaches held (Err fault) = IsNotReached fault
 
--- An event reaches the entry that is found or begun, or has such a fault.
+-- An event reaches the entry that is found or begun, or has a fault of `IsNotReached`.
 reaches : (may_begin has_room : Bool) (idle : DeskEntry) (found : Option DeskEntry)
     → Reaches (found_or idle found) (held_or_begun may_begin has_room idle found)
 reaches may_begin has_room idle (Some held) = refl
@@ -261,6 +263,7 @@ taken_by rows side new a refusal e =
       | inr same ↦ sym (ap (λ (r : Result Taking Refusal × Side). r.1) e) ∙ same
     ]
 
+-- The other desk has sent `a` as message n of its transaction, and desk `p` takes it.
 module _ (grows : RowsGrow) (rows : RefusalsChangeNothing) (p : DeskParty) (partner_sent : List Sending) (n : ℕ) (a : Apdu)
     (was : sent_message (sent_for a.txn partner_sent) n ≡ Some a) where
   -- Returns the outcome and the desk after a message was taken with this answer.
@@ -305,6 +308,7 @@ module _ (grows : RowsGrow) (rows : RefusalsChangeNothing) (p : DeskParty) (part
       (desk_took (if b then (Err (faults.Core WrongRole), p.live) else
       takes_reached p.live a (side_for_call p.live a.txn (is_ill_request a.body))))) (sym e) (go own refused)
     where
+      -- A message of the desk's own role is refused. For another one its side is looked for.
       go : (own : Bool) → (own ≡ true → takes (held_for a.txn p.live).side a ≡ (Err WrongRole, (held_for a.txn p.live).side))
           → Seen (received p partner_sent n) a.txn p txn
           (desk_took (if own then (Err (faults.Core WrongRole), p.live) else
@@ -402,7 +406,7 @@ own_refused (sides.Responder y) a is own =
     let same : is_same_txn a.txn y.txn ≡ true = ap (is_same_txn a.txn) is ∙ same_self a.txn in
     rw (same, own) refl
 
--- `PartySeen` holds of a delivery at a desk that satisfies `KeepsTo`.
+-- `Seen` holds in all transactions after a delivery at a desk that satisfies `KeepsTo`.
 delivers_seen : RowsGrow → RefusalsChangeNothing → (role : Role) (p : DeskParty) (partner_sent : List Sending)
     → KeepsTo role p partner_sent
     → (to : Role) (of : Qualifiers) (n : ℕ) (found : Option Apdu) → sent_message (sent_for of partner_sent) n ≡ found

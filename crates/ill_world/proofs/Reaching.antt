@@ -31,7 +31,7 @@ use Rattle.ill_world.proofs.Outcomes.{responders_own, requesters_own}
 use Rattle.ill_world.proofs.Projections.{may_act}
 use Rattle.ill_world.proofs.Desks.{keeps_to}
 
--- If a held side gives a plain outcome, and a fault its own outcome, `Reaches` holds.
+-- If `seen` gives a plain outcome for each entry, and `fault_seen` for each fault, `Reaches` holds of its outcome.
 reach : (seen : Result DeskEntry DeskFault → DeskOutcome) → ((held : DeskEntry) → IsPlain (seen (Ok held)))
     → ((fault : DeskFault) → seen (Err fault) ≡ fault_seen fault)
     → (may_begin has_room : Bool) (idle : DeskEntry) (found : Option DeskEntry)

@@ -158,7 +158,7 @@ pub record Rounds (w new : Parties) : Type 0 where
   pub responder : new.responder.live ≡ takes_all w.responder.live (issued_of w.requester.live)
   pub requester : new.requester.live ≡ takes_all w.requester.live (issued_of new.responder.live)
 
--- A round does so if each party has issued at most 255 messages when it saves.
+-- If each party has issued at most 255 messages when it saves, `Rounds` holds of a round.
 pub round_passes : (w : Parties)
     → let between = run_of w (half_of who.Requester w) in length (issued_of w.requester.live) ≤ 255
     → length w.requester.sent ≡ 255 → length (issued_of between.responder.live) ≤ 255
@@ -177,7 +177,8 @@ round_passes w few places few_more places_more =
 
 -- ---- the events of a half, as a list that grows
 
--- After the two events of message n are added, the events of one message fewer are left.
+-- A loop appends the Send and the Deliver of message n to `before`. If `before` lacked the events of `size` messages,
+-- the list now lacks those of `left`.
 pub passes_grow : (of partner : Role) (n number size left : ℕ) (before sent delivered all : List Event)
     → partner ≡ other of → number ≡ n → size ≡ suc left → sent ≡ before ++ events.Send of number ∷ []
     → delivered ≡ sent ++ events.Deliver partner number ∷ [] → before ++ sends_and_delivers of n size ≡ all
@@ -194,7 +195,7 @@ passes_grow of partner n number size left before sent delivered all is_other is_
     subst (λ k. before ++ sends_and_delivers of n k ≡ all) is_size is_all in
     ap (λ l. l ++ rest) two ∙ append_assoc before (events.Send of n ∷ events.Deliver (other of) n ∷ []) rest ∙ whole
 
--- For a count of 0 there are no events to add.
+-- If `count` is 0, `before` lacks no events.
 pub passes_none : (before : List Event) (of : Role) (n count : ℕ) → count ≡ 0 → before ≡ before ++ sends_and_delivers of n count
 unfolding sends_and_delivers
 passes_none before of n zero none = sym (append-nil before)
@@ -202,6 +203,7 @@ passes_none before of n (suc count) none = absurd (omega (arith, none))
 
 -- ---- events that are performed
 
+-- `happening` gives the outcome of an event, and the world after it.
 module _ {W E O M : Type 0} (happening : W → E → O × W) where
   -- If memory ran out, and a prefix of the events has led to this world, `Performs` holds of the events.
   pub performs_prefix : (events first : List E) (old new : W) (result : Result (Unit {0}) M) → IsErr result

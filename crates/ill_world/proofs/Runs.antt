@@ -7,6 +7,7 @@ use Rattle.ill_values.specs.TxnId.{Qualifiers}
 use Rattle.ill_world.specs.World.{Parties, happens, run_by, run_of}
 use Rattle.ill_world.specs.Invariant.{Invariant}
 
+-- `happening` gives the outcome of an event, and the world after it.
 module _ {W E O : Type 0} (happening : W → E → O × W) where
   -- If the first event leads to `new`, the run of all is the run of the others from `new`.
   run_next : (w new : W) (events : List E) (event : E) (outcome : O) → happening w event ≡ (outcome, new)

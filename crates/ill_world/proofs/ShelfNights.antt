@@ -86,6 +86,7 @@ module _ (group : List ℕ) where
   wanted_of wants [] of = tt
   wanted_of wants (side ∷ more) of = go (wants side) (wanted_of wants more of.1)
     where
+      -- If `side` is selected, it is of the group.
       go : (wanted : Bool) → AllOf (filter wants more) → AllOf (cond wanted (side ∷ filter wants more) (filter wants more))
       go true rest = (of.0, rest)
       go false rest = rest
@@ -100,10 +101,12 @@ module _ (group : List ℕ) where
         (lacks txn apart)).1),
   )
     where
+      -- If `h` is of another group, the desk lacks its transaction, which then differs from itself.
       here : ((txn_held h).group ≡ group → ⊥) → is_same_txn (txn_held h) (txn_held h) ≡ false
       here apart = (or_parts (is_same_txn (txn_held h) (txn_held h)) (is_one_of (txn_held h) (map txn_held more))
           (lacks (txn_held h) apart)).0
 
+      -- If `h` is of another group, `here` contradicts `same_self`.
       go : (same : Bool) → bytes_eq (txn_held h).group group ≡ same → (txn_held h).group ≡ group
       go true same = (bytes_eq-Decides (txn_held h).group group).0 same
       go false same = absurd (true≢false
@@ -148,5 +151,6 @@ module _ (group : List ℕ) where
       (half_at (λ side. wants_sending (is_asked_by w side) side) who.Responder (desks_run w asking)
       (subst LackOthers next (lack (all ++ said_in group asking)))))
     where
+      -- After any events the desks of the group lack each transaction of another group.
       lack : (all : List ShelfEvent) → LackOthers (desks_run first_desks (events_at group all))
       lack all txn apart = (lack_elsewhere grows after first txn group all apart).1

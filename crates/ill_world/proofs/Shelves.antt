@@ -55,7 +55,7 @@ group_in_order group (e ∷ before) after =
 
 -- ---- runs
 
--- An event changes the desks of a group if its home is this group.
+-- If the home `at` of an event is `group`, the run of `group` begins with the event. Otherwise it goes on without it.
 one_on : (w : Shelves) (group at : List ℕ) (event : DeskEvent) (more : List DeskEvent) (same : Bool) → bytes_eq group at ≡ same
     → desks_run (if same then (desks_happen (w at) event).1 else w group) more
     ≡ desks_run (w group) (if same then event ∷ more else more)
@@ -142,6 +142,7 @@ lack_at grows txn w event stands names lack who.Responder =
 other_txn : (txn of : Qualifiers) (group : List ℕ) → (txn.group ≡ group → ⊥) → of.group ≡ group → IsOther txn of
 other_txn txn of group apart is = go (is_same_txn txn of) refl
   where
+    -- If `txn` were `of`, its group would be `group`.
     go : (same : Bool) → is_same_txn txn of ≡ same → same ≡ false
     go true same = absurd (apart (ap (λ (t : Qualifiers). t.group) (same_is txn of same) ∙ is))
     go false same = refl
@@ -164,6 +165,7 @@ unfolding run_by
 kept_at P group keeps w [] holds = holds
 kept_at P group keeps w (e ∷ more) holds = go (λ v. kept_at P group keeps v more) (bytes_eq group (home e)) refl
   where
+    -- An event of the group keeps `P`. Another one is not in the run.
     go : ((v : DeskParties) → P v → P (desks_run v (events_at group more))) → (same : Bool) → bytes_eq group (home e) ≡ same
         → P (desks_run w (if same then e.event ∷ events_at group more else events_at group more))
     go further true same = further (desks_happen w e.event).1 (keeps w e (sym ((bytes_eq-Decides group (home e)).0 same)) holds)
@@ -189,6 +191,7 @@ lack_elsewhere grows after first txn group all apart =
 none_held : (txn : Qualifiers) (p : DeskParty) → Lacks txn p → found_by txn_held txn p.live.held ≡ None
 none_held txn p lacks = go (found_by txn_held txn p.live.held) (has_found txn_held txn p.live.held ∙ lacks.0)
   where
+    -- If an entry were found, the desk would not lack `txn`.
     go : (found : Option DeskEntry) → is_some found ≡ false → found ≡ None
     go (Some held) is = absurd (true≢false is)
     go None is = refl

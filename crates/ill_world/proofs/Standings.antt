@@ -49,6 +49,7 @@ pub cancel_is_there : (state : State) (there : Bool)
     → implies (is_among (CancelPending ∷ []) state) there ≡ true
 cancel_is_there state there = go (place_of CancelPending == place_of state) (place_of Cancelled == place_of state) there
   where
+    -- `waits` tells if the state is CANCEL-PENDING, and `done` if it is CANCELLED.
     go : (waits done there : Bool) → implies (waits || (done || false)) there ≡ true → implies (waits || false) there ≡ true
     go true done there rule = rule
     go false done there rule = refl

@@ -1,4 +1,4 @@
--- Proves that the library that has the turn can act, if it has a number left.
+-- The library that has the turn can act, if it has a number left.
 use Rattle.std.proofs.Common.{◌≡◌, ℕ, ◌+◌, ◌<◌, Bool, true, false, not, if◌then◌else◌, List, [], length, None, Result, Ok, Err}
 use Rattle.std.proofs.Common.{refl, sym, ap, subst}
 use Rattle.std.specs.Prelude.{IsOk}
@@ -71,7 +71,7 @@ can_end x false is few = (
       (next_number x.issued))) (sym is) (wish_done (in_state x states.Recall) _ few),
 )
 
--- A requester in `state` that has the turn, and a number left, can act.
+-- A requester in `state` that has the turn, and a number left, can act. Each state that has the turn has a wish.
 asks_in : (x : RequesterRecord) (state : State)
     → requester_turn_in state (is_declined (in_state x state)) x.checked_in ≡ Mine → length x.issued < 255
     → CanAsk (in_state x state)
@@ -84,6 +84,7 @@ asks_in x states.NotReceivedOverdue turn few = (wishes.Receive, wish_done (in_st
 asks_in x states.Recall turn few = can_end x (is_received_by x) refl few
 asks_in x states.Returned turn few = no_turn x.checked_in turn
   where
+    -- A requester in RETURNED does not have the turn.
     no_turn : {X : Type 0} (checked_in : Bool) → returned_turn checked_in ≡ Mine → X
     no_turn true is = absurd cc
     no_turn false is = absurd cc
@@ -112,7 +113,7 @@ deed_done y t few =
 abbrev pub CanLend : ResponderRecord → Type 0
 CanLend y = (deed : Deed) × ((today : Date) → IsOk (responder.acts y deed today))
 
--- A responder in `state` that has the turn, and a number left, can act.
+-- A responder in `state` that has the turn, and a number left, can act. Each state that has the turn has a deed.
 lends_in : (y : ResponderRecord) (state : State) → responder_turn_in state ≡ Mine → length y.issued < 255
     → CanLend (record y { state = state })
 lends_in y states.InProcess turn few =

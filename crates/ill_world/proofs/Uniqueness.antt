@@ -1,4 +1,5 @@
--- A number has one answer at most, and a list one end at most. So no two messages of the list share it.
+-- If the answered numbers are distinct, no two messages of a list answer one number. If at most one message ends the
+-- request, its number is the last that is found.
 use Rattle.std.proofs.Common.{rules, arith, ◌≡◌, ℕ, zero, suc, ◌+◌, ◌≤◌, Bool, true, false, not, ◌||◌, ◌==◌, cond, List, [], ◌∷◌}
 use Rattle.std.proofs.Common.{Option, Some, None, if◌then◌else◌, refl, sym, ap, ◌∙◌, subst}
 use Rattle.std.specs.Prelude.{slice_get}
@@ -105,7 +106,7 @@ answers_once answered apdus distinct (suc m) (suc n) k a b at_m at_n is_a is_b =
 
 -- ---- the end
 
--- If the count of ends is 0, no number of an end is found.
+-- If no APDU ends the request, neither the first one nor the rest gives the number of an end.
 none_go : (ends : Bool) (n : ℕ) (rest : List ℕ) (count : ℕ) → (cond ends 1 0) + count ≡ 0 → (count ≡ 0 → rest ≡ [])
     → cons_option (if ends then Some n else None) rest ≡ []
 none_go true n rest count none more = absurd (omega (arith, none))

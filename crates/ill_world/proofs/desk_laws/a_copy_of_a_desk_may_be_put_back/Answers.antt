@@ -9,6 +9,7 @@ use Rattle.ill_world.proofs.desk_laws.a_copy_of_a_desk_may_be_put_back.Goals as 
 pub returns-clause-each : goal.returns-clause-each
 returns-clause-each c = λ txn w who copy. shows_copy txn who copy w
 
+-- The invariant holds in `txn` after the copy is put back. It has the three parts of safety.
 pub returns-clause-safe : goal.returns-clause-safe
 returns-clause-safe c =
     λ txn w more who stands has.

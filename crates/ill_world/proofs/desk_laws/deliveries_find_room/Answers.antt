@@ -8,6 +8,7 @@ use Rattle.ill_world.proofs.desk_laws.deliveries_find_room.Goals as goal
 pub returns-clause-room : goal.returns-clause-room
 returns-clause-room c = finds_room c.desks_reach_what_they_hold.ensures
 
+-- A run keeps `DesksInvariant`, so that `finds_room` holds after it.
 pub returns-clause-run : goal.returns-clause-run
 returns-clause-run c =
     λ events who txn n.

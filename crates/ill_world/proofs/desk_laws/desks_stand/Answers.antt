@@ -10,6 +10,7 @@ use Rattle.ill_world.proofs.desk_laws.desks_stand.Goals as goal
 pub returns-clause-first : goal.returns-clause-first
 returns-clause-first c = desks_first first_counts c.world_stands.ensures.first
 
+-- `count_at` gives `DesksCount` after the event, and `desks_after` the other parts.
 pub returns-clause-after : goal.returns-clause-after
 returns-clause-after c =
     λ w event stands.

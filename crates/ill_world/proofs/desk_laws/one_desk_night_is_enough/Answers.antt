@@ -11,12 +11,14 @@ pub returns-clause-each : goal.returns-clause-each
 returns-clause-each c = night_alike c.desk_events_are_events.ensures c.desks_reach_what_they_hold.ensures
     c.desks_stand.ensures.after
 
+-- In `txn` the night is one of two parties, after which they are in step or at rest.
 pub returns-clause-in_step : goal.returns-clause-in_step
 returns-clause-in_step c =
     λ txn w stands can.
     subst AreInStepOrAtRest (sym (returns-clause-each c txn w stands))
     (c.one_night_is_enough.ensures.stands txn (project txn w) (stands.each txn) can)
 
+-- A run keeps `DesksInvariant`, so that the clause `in_step` holds after it.
 pub returns-clause-run : goal.returns-clause-run
 returns-clause-run c =
     λ txn events can.

@@ -1,4 +1,5 @@
--- Answers the contract of `heard` (`src/desk_party.rt`).
+-- Proves the contract of `heard` (`src/desk_party.rt`). The outcome of noise is that of the decoded APDU, by
+-- `heard_as`.
 use Rattle.std.proofs.Common.{rules}
 use Rattle.ill_der.specs.ShortForm.{apdu_at}
 use Rattle.ill_world.proofs.DeskParties.{heard_as}

@@ -1,4 +1,5 @@
--- Answers the contract of `insert_new` (`src/desk_sent.rt`).
+-- Proves the clause `done` of `insert_new` (`src/desk_sent.rt`). The map lacks the key, and so gets one entry more at
+-- its end.
 use Rattle.std.proofs.Common.{◌∙◌}
 use Rattle.indexmap.proofs.CallerLemmas.{insert_entry-new}
 use Rattle.ill_core.specs.Issued.{is_same_txn}

@@ -1,4 +1,5 @@
--- Answers the contract of `simulate_desks` (`src/desk_simulation.rt`).
+-- Proves the clause `simulates` of `simulate_desks` (`src/desk_simulation.rt`) if memory runs out before line 1. Then
+-- no byte is read or written, by `not_begun`.
 use Rattle.std.proofs.Common.{None}
 use Rattle.ill_world.specs.Desks.{first_desks}
 use Rattle.ill_script.specs.Play.{before_first}

@@ -10,6 +10,7 @@ use Rattle.ill_world.proofs.laws.a_copy_with_all_that_was_sent_may_be_put_back.G
 pub returns-clause-stands : goal.returns-clause-stands
 returns-clause-stands c = λ txn. back_stands txn (c.world_stands.ensures.after txn)
 
+-- The invariant holds after the copy is put back, and further events keep it. It has the three parts of safety.
 pub returns-clause-run : goal.returns-clause-run
 returns-clause-run c =
     λ txn events more further who has n.

@@ -12,6 +12,7 @@ returns-clause-stands c =
     (c.requester_is_over_last.ensures txn w stands)
     (c.one_round_is_enough.ensures.stands txn w stands can)
 
+-- A run keeps the invariant, so that the clause `stands` holds after it.
 pub returns-clause-run : goal.returns-clause-run
 returns-clause-run c =
     λ txn events can.

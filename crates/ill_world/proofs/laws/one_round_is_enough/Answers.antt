@@ -5,6 +5,7 @@ use Rattle.ill_world.proofs.OneRound.{TransitionsHear, one_round}
 use Rattle.ill_world.proofs.Runs.{run_stands}
 use Rattle.ill_world.proofs.laws.one_round_is_enough.Goals as goal
 
+-- The laws of the tables make up `TransitionsHear`, from which `one_round` follows.
 pub returns-clause-stands : goal.returns-clause-stands
 returns-clause-stands c =
     let rows : TransitionsHear = record {
@@ -21,6 +22,7 @@ returns-clause-stands c =
     } in
     λ txn w stands can. one_round rows txn (c.world_stands.ensures.after txn) w stands can
 
+-- A run keeps the invariant, so that the clause `stands` holds after it.
 pub returns-clause-run : goal.returns-clause-run
 returns-clause-run c =
     λ txn events can.

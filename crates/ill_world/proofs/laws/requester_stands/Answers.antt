@@ -1,8 +1,9 @@
--- Proves the clauses `acts` and `takes` of `requester_stands` (`src/laws.rt`). Each part of `RequesterStands` is a law
--- of the tables in `ill_core`.
+-- Proves the clauses `acts` and `takes` of `requester_stands` (`src/laws.rt`). Each part of `RequesterInvariant` is
+-- kept by a law of the tables in `ill_core`.
 use Rattle.std.proofs.Common.{◌≤◌, ◌∙◌, inl, inr, length, subst, sym}
 use Rattle.ill_world.proofs.laws.requester_stands.Goals as goal
 
+-- A wish adds no claim and no notice, so that the old messages are evidence still.
 pub returns-clause-acts : goal.returns-clause-acts
 returns-clause-acts c =
     λ txn x new wish sent done stands. record {
@@ -16,6 +17,7 @@ returns-clause-acts c =
       few = c.requester_issues.ensures.few x new wish done;
     }
 
+-- A new claim has `a` as its evidence, and `a` attests a new notice.
 pub returns-clause-takes : goal.returns-clause-takes
 returns-clause-takes c =
     λ txn x a sent was stands. record {

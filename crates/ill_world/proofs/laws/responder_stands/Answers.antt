@@ -1,10 +1,11 @@
--- Proves the clauses `acts` and `takes` of `responder_stands` (`src/laws.rt`). Each part of `ResponderStands` is a law
--- of the tables in `ill_core`.
+-- Proves the clauses `acts` and `takes` of `responder_stands` (`src/laws.rt`). Each part of `ResponderInvariant` is
+-- kept by a law of the tables in `ill_core`.
 use Rattle.std.proofs.Common.{◌∙◌, inl, inr}
 use Rattle.ill_core.specs.ResponderEvidence.{MayCancel, MayRenew}
 use Rattle.ill_world.proofs.Standings.{cancel_is_there, question_is_there}
 use Rattle.ill_world.proofs.laws.responder_stands.Goals as goal
 
+-- A deed adds no claim and no question, so that the old messages are evidence still.
 pub returns-clause-acts : goal.returns-clause-acts
 returns-clause-acts c =
     λ txn y new deed today sent done stands. record {
@@ -33,6 +34,7 @@ returns-clause-acts c =
       few = c.responder_issues.ensures.few y new deed today done;
     }
 
+-- A new claim has `a` as its evidence, and a new question is `a`.
 pub returns-clause-takes : goal.returns-clause-takes
 returns-clause-takes c =
     λ txn y a sent was stands. record {

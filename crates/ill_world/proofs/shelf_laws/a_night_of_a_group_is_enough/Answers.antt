@@ -16,6 +16,7 @@ returns-clause-home c =
     (sym (c.shelf_runs_are_desk_runs.ensures.first group events))
     (night_at group c.rows_grow.ensures c.desks_stand.ensures.after c.desks_stand.ensures.first events)
 
+-- The desks of the group are two desks after its events, and the night happens to them alone.
 pub returns-clause-run : goal.returns-clause-run
 returns-clause-run c =
     λ txn events can.

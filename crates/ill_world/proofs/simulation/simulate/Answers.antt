@@ -1,4 +1,5 @@
--- Answers the contract of `simulate` (`src/simulation.rt`).
+-- Proves the clause `simulates` of `simulate` (`src/simulation.rt`) if memory runs out before line 1. Then no byte is
+-- read or written, by `not_begun`.
 use Rattle.ill_world.specs.World.{first_world}
 use Rattle.ill_script.specs.Play.{before_first}
 use Rattle.ill_world.specs.Simulation.{two_sides}

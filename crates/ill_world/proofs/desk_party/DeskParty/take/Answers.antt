@@ -6,6 +6,7 @@ use Rattle.ill_saved.specs.ManySides.{many_sides}
 use Rattle.ill_world.proofs.DeskParties.{takes_one, takes_role, take_faults}
 use Rattle.ill_world.proofs.desk_party.DeskParty.take.Goals as goal
 
+-- The desk keeps its role, whatever it answers to the message.
 pub invariant_of-self : goal.invariant_of-self
 invariant_of-self c =
     let desk = c.self.inside.desk in
@@ -14,6 +15,7 @@ invariant_of-self c =
     let role = takes_role desk.live c.take_bytes.new.self.live c.args.message.now c.take_bytes.result takes in
     search (rules, role)
 
+-- The desk takes the message as the desk of the model does.
 pub returns : goal.returns
 returns c =
     let desk = c.self.inside.desk in
@@ -22,6 +24,7 @@ returns c =
     let role = takes_role desk.live c.take_bytes.new.self.live c.args.message.now c.take_bytes.result takes in
     search (rules, takes, role)
 
+-- A fault of a message that is exactly one APDU satisfies `CanBeSeen`.
 pub seen-requires : goal.seen-requires
 seen-requires c =
     let desk = c.self.inside.desk in

@@ -9,6 +9,7 @@ use Rattle.ill_world.specs.Desks.{sent_for}
 use Rattle.ill_world.proofs.DeskMaps.{sent_there, nothing_there}
 use Rattle.ill_world.proofs.desk_sent.DeskSent.get.Goals as goal
 
+-- The map has an entry for `txn`, and the model has its messages.
 pub returns-in-Some : goal.returns-in-Some
 returns-in-Some c =
     let entries = c.self.inside.map.entries in
@@ -18,6 +19,7 @@ returns-in-Some c =
     (sym (ap (sent_for c.args.txn.now) (sym c.self.view_is) ∙ sent_there c.args.txn.now entries
     ∙ ap (found_or nothing_sent) there))
 
+-- The map has no entry for `txn`, and the model has no message there.
 pub returns-in-None : goal.returns-in-None
 returns-in-None c =
     let entries = c.self.inside.map.entries in

@@ -9,6 +9,7 @@ use Rattle.ill_world.specs.DeskRefinement.{sendings_of, BecomesAmong}
 use Rattle.ill_world.proofs.DeskMaps.{becomes_put, becomes_none, first_put}
 use Rattle.ill_world.proofs.desk_sent.DeskSent.put.Goals as goal
 
+-- `message` has joined the entry of `txn`.
 pub returns-in-None-clause-put : goal.returns-in-None-clause-put
 returns-in-None-clause-put c =
     let txn = c.args.txn.now in
@@ -22,6 +23,7 @@ returns-in-None-clause-put c =
     c.put_among.ensures)
     ∙ ap (λ all. with_sent_for txn all n a) c.self.view_is
 
+-- `message` came back, since `txn` has no entry. A new entry has this message alone.
 pub returns-in_ok-copy-in-Some-clause-put : goal.returns-in_ok-copy-in-Some-clause-put
 returns-in_ok-copy-in-Some-clause-put c =
     let txn = c.args.txn.now in

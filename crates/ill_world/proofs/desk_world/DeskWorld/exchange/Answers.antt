@@ -9,6 +9,7 @@ use Rattle.ill_world.specs.DeskRound.{desk_half_of, desk_round_of}
 use Rattle.ill_world.proofs.Rounds.{performs_prefix, performs_both, performed, prefix_further}
 use Rattle.ill_world.proofs.desk_world.DeskWorld.exchange.Goals as goal
 
+-- If memory runs out in the first half, a prefix of the events of the round has happened.
 pub returns-in_err-pass_on-clause-performs : goal.returns-in_err-pass_on-clause-performs
 returns-in_err-pass_on-clause-performs c =
     let w = c.args.self.now in
@@ -18,6 +19,7 @@ returns-in_err-pass_on-clause-performs c =
     performs_prefix desks_happen (first ++ second) done.0 w c.pass_on.new.self c.from_residual.result c.from_residual.ensures.0
     (prefix_further done.0 first second done.1) done.2
 
+-- The first half has happened. The second one, or a prefix of it, goes on from there.
 pub returns-clause-performs : goal.returns-clause-performs
 returns-clause-performs c =
     let w = c.args.self.now in
@@ -28,6 +30,7 @@ returns-clause-performs c =
     performs_both desks_happen first (desk_half_of Responder (desks_run w first)) w between c.pass_on-2.new.self
     c.pass_on-2.result c.in_ok-pass_on.ensures second
 
+-- After a whole round both sides of each transaction are in step, if the responder could answer before.
 pub returns-clause-in_step : goal.returns-clause-in_step
 returns-clause-in_step c =
     let old = c.args.self.now in

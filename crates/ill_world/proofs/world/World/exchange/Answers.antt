@@ -7,6 +7,7 @@ use Rattle.ill_world.specs.Round.{half_of, round_of, Performs, CanAnswer, AreInS
 use Rattle.ill_world.proofs.Rounds.{performs_prefix, performs_both, performed, prefix_further}
 use Rattle.ill_world.proofs.world.World.exchange.Goals as goal
 
+-- If memory runs out in the first half, a prefix of the events of the round has happened.
 pub returns-in_err-pass_on-clause-performs : goal.returns-in_err-pass_on-clause-performs
 returns-in_err-pass_on-clause-performs c =
     let w = c.args.self.now in
@@ -16,6 +17,7 @@ returns-in_err-pass_on-clause-performs c =
     performs_prefix happens (first ++ second) done.0 w c.pass_on.new.self c.from_residual.result c.from_residual.ensures.0
     (prefix_further done.0 first second done.1) done.2
 
+-- The first half has happened. The second one, or a prefix of it, goes on from there.
 pub returns-clause-performs : goal.returns-clause-performs
 returns-clause-performs c =
     let w = c.args.self.now in
@@ -26,6 +28,7 @@ returns-clause-performs c =
     performs_both happens first (half_of Responder (run_of w first)) w between c.pass_on-2.new.self c.pass_on-2.result
     c.in_ok-pass_on.ensures second
 
+-- After a whole round both sides are in step, if the responder could answer before.
 pub returns-clause-in_step : goal.returns-clause-in_step
 returns-clause-in_step c =
     let old = c.args.self.now in

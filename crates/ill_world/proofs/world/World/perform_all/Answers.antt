@@ -7,16 +7,19 @@ use Rattle.ill_world.proofs.Rounds.{performs_prefix}
 use Rattle.ill_world.proofs.Runs.{run_taken}
 use Rattle.ill_world.proofs.world.World.perform_all.Goals as goal
 
+-- Before the first event the world is unchanged.
 pub loop-event-init : goal.loop-event-init
 unfolding run_by
 loop-event-init c = refl
 
+-- The step leads to the world after one event more.
 pub loop-event-preserved : goal.loop-event-preserved
 loop-event-preserved c =
     let here = ap (λ w. happens w c.event-item.result) (sym c.loop-event.invariant) ∙ c.in_ok-step.ensures.gives in
     sym (run_taken happens c.args.self.now c.step.new.self c.args.events.now c.loop-event.event-index c.event-item.result
     c.in_ok-step.field-0 (omega (arith, c.loop-event-test.true)) c.event-item.is here)
 
+-- If memory runs out in a step, the events before it have happened.
 pub returns-in_err-step : goal.returns-in_err-step
 returns-in_err-step c =
     let events = c.args.events.now in

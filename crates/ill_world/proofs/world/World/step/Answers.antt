@@ -8,6 +8,7 @@ use Rattle.ill_world.specs.PartyRefinement.{GivesOutcome}
 use Rattle.ill_world.proofs.Worlds.{world_gives, still_stands, dates_of}
 use Rattle.ill_world.proofs.world.World.step.Goals as goal
 
+-- After an event at the requester the invariant holds, by the law `world_stands`.
 pub invariant_of-self : goal.invariant_of-self
 invariant_of-self c =
     let w : Parties = record { requester = c.self.inside.requester; responder = c.self.inside.responder } in
@@ -20,6 +21,7 @@ invariant_of-self c =
           (c.world_stands.ensures.after c.self.invariant.0) gives c.self.invariant.1,
     )
 
+-- An event at the requester gives the outcome and the world of the model.
 pub returns-in-Requester-clause-gives : goal.returns-in-Requester-clause-gives
 returns-in-Requester-clause-gives c =
     let w : Parties = record { requester = c.self.inside.requester; responder = c.self.inside.responder } in
@@ -29,6 +31,7 @@ returns-in-Requester-clause-gives c =
     c.perform.ensures in
     subst (λ v. GivesOutcome (happens v event) v c.perform.result new) c.self.view_is gives
 
+-- An event at the requester satisfies `KeepsDates`, by the law `due_dates_stay`.
 pub returns-in-Requester-clause-dates : goal.returns-in-Requester-clause-dates
 returns-in-Requester-clause-dates c =
     let w : Parties = record { requester = c.self.inside.requester; responder = c.self.inside.responder } in
@@ -39,12 +42,14 @@ returns-in-Requester-clause-dates c =
     subst (λ v. KeepsDates v event new) c.self.view_is
     (dates_of w new event c.perform.result (c.due_dates_stay.ensures c.self.invariant.0 w event c.self.invariant.1) gives)
 
+-- An event at the requester satisfies `Arrives`, by the law `one_arrival_is_enough`.
 pub returns-in-Requester-clause-arrives : goal.returns-in-Requester-clause-arrives
 returns-in-Requester-clause-arrives c =
     let w : Parties = record { requester = c.self.inside.requester; responder = c.self.inside.responder } in
     subst (λ v. Arrives v c.args.event.now) c.self.view_is
     (c.one_arrival_is_enough.ensures c.self.invariant.0 w c.args.event.now c.self.invariant.1)
 
+-- After an event at the responder the invariant holds, by the law `world_stands`.
 pub invariant_of-self-in-Responder : goal.invariant_of-self-in-Responder
 invariant_of-self-in-Responder c =
     let w : Parties = record { requester = c.self.inside.requester; responder = c.self.inside.responder } in
@@ -57,6 +62,7 @@ invariant_of-self-in-Responder c =
           (c.world_stands.ensures.after c.self.invariant.0) gives c.self.invariant.1,
     )
 
+-- An event at the responder gives the outcome and the world of the model.
 pub returns-in-Responder-clause-gives : goal.returns-in-Responder-clause-gives
 returns-in-Responder-clause-gives c =
     let w : Parties = record { requester = c.self.inside.requester; responder = c.self.inside.responder } in
@@ -66,6 +72,7 @@ returns-in-Responder-clause-gives c =
     (sym c.who.ensures ∙ c.in-Responder.is) c.perform-in-Responder.ensures in
     subst (λ v. GivesOutcome (happens v event) v c.perform-in-Responder.result new) c.self.view_is gives
 
+-- An event at the responder satisfies `KeepsDates`, by the law `due_dates_stay`.
 pub returns-in-Responder-clause-dates : goal.returns-in-Responder-clause-dates
 returns-in-Responder-clause-dates c =
     let w : Parties = record { requester = c.self.inside.requester; responder = c.self.inside.responder } in
@@ -77,6 +84,7 @@ returns-in-Responder-clause-dates c =
     (dates_of w new event c.perform-in-Responder.result
     (c.due_dates_stay.ensures c.self.invariant.0 w event c.self.invariant.1) gives)
 
+-- An event at the responder satisfies `Arrives`, by the law `one_arrival_is_enough`.
 pub returns-in-Responder-clause-arrives : goal.returns-in-Responder-clause-arrives
 returns-in-Responder-clause-arrives c =
     let w : Parties = record { requester = c.self.inside.requester; responder = c.self.inside.responder } in

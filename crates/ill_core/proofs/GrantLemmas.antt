@@ -26,6 +26,7 @@ less p q rest = if p == q then rest else nat_lt p q
 less_is : (p q : ℕ) (rest : Bool) → less p q rest ≡ true → Less p q (rest ≡ true)
 less_is p q rest h = go (p == q) refl h
   where
+    -- The test `p == q` is `same`. It decides which case of `Less` holds.
     go : (same : Bool) → (p == q) ≡ same → (if same then rest else nat_lt p q) ≡ true → Less p q (rest ≡ true)
     go true e h = inr (eqb-true p q e, h)
     go false e h = inl (ltb-true p q h)
@@ -61,7 +62,7 @@ is_before_by a b (inr (year, inl lt)) = is_less a.year b.year _ (inr (year, is_l
 is_before_by a b (inr (year, inr (month, day))) =
     is_less a.year b.year _ (inr (year, is_less a.month b.month _ (inr (month, lt-ltb a.day b.day day))))
 
--- If `Less` holds of `p` and `q`, and of `q` and `r`, it holds of `p` and `r`.
+-- If `A` and `B` together imply `C`, `Less p q A` and `Less q r B` imply `Less p r C`.
 less_on : (p q r : ℕ) (A B C : Type 0) → (A → B → C) → Less p q A → Less q r B → Less p r C
 less_on p q r A B C on (inl lt) (inl lt') = inl (omega (arith, lt, lt'))
 less_on p q r A B C on (inl lt) (inr both) = inl (omega (arith, lt, both.0))
@@ -110,10 +111,11 @@ not_before_earlier : (d c e : Date) → is_before d c ≡ true → is_before e c
 not_before_earlier d c e earlier not_before =
     false_from_ne_true (is_before e d) (λ h. let no : true ≡ false = sym (before_on e d c h earlier) ∙ not_before in search rules)
 
--- If `Less` holds of `p` and `r`, it holds of `p` and `q`, or of `q` and `r`.
+-- If `A` implies `B` or `C`, `Less p r A` implies `Less p q B` or `Less q r C`.
 less_either : (p q r : ℕ) (A B C : Type 0) → (A → B ⊎ C) → Less p r A → (Less p q B) ⊎ (Less q r C)
 less_either p q r A B C either h = go (cases_order p q) h
   where
+    -- It compares `p` with `q`: they are equal, or one is less.
     go : (p ≡ q) ⊎ ((p < q) ⊎ (q < p)) → Less p r A → (Less p q B) ⊎ (Less q r C)
     go (inr (inl below)) less = inl (inl below)
     go (inr (inr above)) (inl lt) = inr (inl (omega (arith, above, lt)))
@@ -125,6 +127,7 @@ less_either p q r A B C either h = go (cases_order p q) h
 day_either : (p q r : ℕ) → p < r → (p < q) ⊎ (q < r)
 day_either p q r lt = go (cases_order p q)
   where
+    -- It compares `p` with `q`: they are equal, or one is less.
     go : (p ≡ q) ⊎ ((p < q) ⊎ (q < p)) → (p < q) ⊎ (q < r)
     go (inl same) = inr (omega (arith, same, lt))
     go (inr (inl below)) = inl below
@@ -136,6 +139,7 @@ before_later a b c not_before before =
     go (less_either a.year b.year c.year _ _ _ (less_either a.month b.month c.month _ _ _ (day_either a.day b.day c.day))
     (before_is a c before))
   where
+    -- By `less_either`, `a` is before `b`, which is excluded, or `b` is before `c`.
     go : Before a b ⊎ Before b c → is_before b c ≡ true
     go (inl first) = let both : true ≡ false = sym (is_before_by a b first) ∙ not_before in search rules
     go (inr second) = is_before_by b c second
@@ -152,14 +156,14 @@ rise_above d (c ∷ dates) rises =
     let later = rise_above c dates parts.1 in
     (later.0, later.1, not_before_earlier d c later.0 parts.0 later.2)
 
--- If dates rise, the dates after the first one rise.
+-- If `dates`, with the date `o` first if there is one, rise after `last`, `dates` rise after some `next`.
 rise_rest : (last : Option Date) (o : Option Date) (dates : List Date) → rise_from last (cons_option o dates) ≡ true
     → (next : Option Date) × (rise_from next dates ≡ true)
 unfolding rise_from
 rise_rest last None dates rises = (last, rises)
 rise_rest last (Some d) dates rises = (Some d, (and_parts _ _ rises).1)
 
--- If dates rise, the last one is not before the first one.
+-- If `dates` with `o` first rise after `last`, and `o` is `d`, the last one is not before `d`.
 rise_here : (last : Option Date) (o : Option Date) (dates : List Date) (d : Date) (p : Option Date) → o ≡ Some d
     → rise_from last (cons_option o dates) ≡ true
     → (e : Date) × (last_or p (cons_option o dates) ≡ Some e) × (is_before e d ≡ false)
@@ -170,14 +174,15 @@ rise_here last (Some c) dates d p is rises =
     subst (λ x. (e : Date) × (last_or (Some c) dates ≡ Some e) × (is_before e x ≡ false)) same
     (rise_above c dates (and_parts _ _ rises).1)
 
--- If the last of `dates` is not before `d`, it still is not after one more date is put first.
+-- If `dates` have a last one that is not before `d`, `dates` with `o` first have one, too. `p` stands for the last if
+-- there are no dates.
 last_skips : (o : Option Date) (dates : List Date) (d : Date) (p : Option Date)
     → ((p : Option Date) → (e : Date) × (last_or p dates ≡ Some e) × (is_before e d ≡ false))
     → (e : Date) × (last_or p (cons_option o dates) ≡ Some e) × (is_before e d ≡ false)
 last_skips None dates d p last = last p
 last_skips (Some c) dates d p last = last (Some c)
 
--- If the granted dates rise, none of them is after the last one.
+-- If the granted dates rise, the date `d` of the APDU at index `i` is not after the last one.
 last_is_latest : (last : Option Date) (apdus : List Apdu) (i : ℕ) (a : Apdu) (d : Date) (p : Option Date)
     → rise_from last (filter_map granted_day apdus) ≡ true → slice_get apdus i ≡ Some a
     → granted_day a ≡ Some d → (e : Date) × (last_or p (filter_map granted_day apdus) ≡ Some e) × (is_before e d ≡ false)

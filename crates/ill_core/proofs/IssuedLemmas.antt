@@ -34,7 +34,8 @@ pub numbered_none : (txn : Qualifiers) (number : ℕ) → are_numbered txn numbe
 unfolding are_numbered
 numbered_none txn number = refl
 
--- `are_numbered` of the list from index `i` on is its test of the APDU there and of the rest.
+-- `are_numbered` of the list from index `i` on is `judged` and its test of the rest. `judged` is its test of the APDU
+-- `a` there.
 pub numbered_at : (txn : Qualifiers) (apdus : List Apdu) (i : ℕ) (a : Apdu) (judged : Bool) → i < length apdus
     → a ≡ get_or apdus i a
     → judged ≡ (is_same_txn a.txn txn && nat_eq a.number (i + 1))
@@ -111,7 +112,7 @@ numbered_issue txn apdus a number numbered next same is =
       omega (arith, n.1, length-append apdus (a ∷ [])),
     )
 
--- With one more APDU, `says` holds in the list if, and only if, it did before or holds of it.
+-- `says` holds in `apdus` with `a` at the end if, and only if, it holds in `apdus` or of `a`.
 pub has_more : (says : Body → Bool) (apdus : List Apdu) (a : Apdu)
     → has_message_with says (apdus ++ a ∷ []) ≡ (has_message_with says apdus || says a.body)
 has_more says apdus a =
@@ -176,7 +177,8 @@ number_found : (number a_number m : ℕ) (is_one : Bool) (o : Option ℕ) → a_
 number_found number a_number m true o is within found = search rules
 number_found number a_number m false o is within found = omega (arith, within m found)
 
--- In a numbered list the number of the last Renew is below the next number.
+-- In a list numbered from `number` on, the number of the last Renew is below the next number. If the list has no Renew,
+-- `o` stands for it, and is below `number`.
 renew_below : (txn : Qualifiers) (number : ℕ) (apdus : List Apdu) (o : Option ℕ) (n : ℕ) → ((m : ℕ) → o ≡ Some m → m < number)
     → are_numbered txn number apdus ≡ true → last_or o (filter_map number_of_renew apdus) ≡ Some n → n < number + length apdus
 renew_below txn number [] o n within numbered found = omega (arith, within n found)
@@ -217,7 +219,7 @@ not_longer old new a same longer =
 
 -- ---- Cancels
 
--- If message n is old or new, so is message n + 1 after an APDU is put first.
+-- If message `n + 1` is old or the new one, so is message `n + 2` after an APDU is put first.
 one_further : (says : Bool) (old : Bool) (n size : ℕ) → (old ≡ true) ⊎ ((suc n ≡ size + 1) × (says ≡ true))
     → (old ≡ true) ⊎ ((suc (suc n) ≡ suc size + 1) × (says ≡ true))
 one_further says old n size (inl is) = inl is
@@ -243,7 +245,7 @@ pub last_cancel_more : (apdus : List Apdu) (a : Apdu) → is_cancel a.body ≡ t
     → last_of number_of_cancel (apdus ++ a ∷ []) ≡ Some a.number
 last_cancel_more apdus a is = last_of_more number_of_cancel apdus a a.number (ap (λ b. if b then Some a.number else None) is)
 
--- A Cancel that is not the last one was issued before the last one.
+-- If the last Cancel has number `size`, and `c` is not its number, Cancel `c` is old (`old`).
 pub older_cancel : (c size : ℕ) (last : Option ℕ) (old : Bool) → last ≡ Some size → is_equal_number c last ≡ false
     → (old ≡ true) ⊎ ((c ≡ size) × (true ≡ true)) → old ≡ true
 older_cancel c size last old is_last other (inl is) = is

@@ -48,7 +48,7 @@ still_once x new k same holds once =
           ∙ held_still x new k holds once here (undeclined no);
     }
 
--- An APDU that answers no conditions and leads out of CONDITIONAL preserves `AnswersOnce`.
+-- An APDU that answers no conditions, and leads to a state other than CONDITIONAL, preserves `AnswersOnce`.
 pub silent_once : (x : RequesterRecord) (body : Body) (state : State) (held : Option ℕ) → replied_number body ≡ None
     → accepts body ≡ None → declines body ≡ false
     → is_among (Conditional ∷ []) state ≡ false → AnswersOnce x

@@ -28,7 +28,7 @@ use Rattle.ill_core.proofs.RequesterMoves.{reminds_renewing, renews, refuses_ren
 
 -- ---- a message that comes again
 
--- If `has_heard` is true after each transition that may be the first to fit, it is true after the answer.
+-- `has_heard` is true after a choice by `fits`, if it is after `here` when `fits` is true, else after `others`.
 transition : (number : ℕ) (body : Body) (fits : Bool) (here others : Result Taking Refusal × RequesterRecord)
     → (fits ≡ true → has_heard here.1 number body ≡ true) → (fits ≡ false → has_heard others.1 number body ≡ true)
     → has_heard (if fits then here else others).1 number body ≡ true
@@ -57,8 +57,8 @@ message_heard x a types.Recall theirs = search rules
 message_heard x a types.CheckedIn theirs = search rules
 message_heard x a other theirs = refl
 
--- A responder's message of the transaction is admitted. So the record after the answer would not change if it came
--- again.
+-- If `is_same` is true and `is_own` is false, the message is not refused. So, if `has_heard` is true after `answer`, it
+-- is true after the answer that may be a refusal.
 admitted_heard : (x : RequesterRecord) (answer : Result Taking Refusal × RequesterRecord) (number : ℕ) (body : Body)
     (is_same is_own : Bool)
     → is_same ≡ true → is_own ≡ false

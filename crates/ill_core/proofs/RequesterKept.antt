@@ -57,7 +57,7 @@ kept x body state held h fits =
       };
     }
 
--- In CONDITIONAL, if none were declined, the state after a reply fits.
+-- In CONDITIONAL, if no conditions were declined, the state after a reply satisfies `FitsWith`.
 reply_fits : (txn : Qualifiers) (held : Option ℕ) (checked_in : Bool) (due : Option Date) (issued : List Apdu) (is_yes : Bool)
     → RequesterRules (requester_of txn Conditional held checked_in due issued) → has_message_with declines issued ≡ false
     → (let x : RequesterRecord = requester_of txn Conditional held checked_in due issued in
@@ -65,19 +65,20 @@ reply_fits : (txn : Qualifiers) (held : Option ℕ) (checked_in : Bool) (due : O
 reply_fits txn held checked_in due issued true h undeclined = search rules
 reply_fits txn held checked_in due issued false h undeclined = search rules
 
--- In RECALL, if no Received was issued, RECALL fits after a Received.
+-- In RECALL, if no Received was issued, the state RECALL after a Received satisfies `FitsWith`.
 receive_fits : (txn : Qualifiers) (held : Option ℕ) (checked_in : Bool) (due : Option Date) (issued : List Apdu)
     → RequesterRules (requester_of txn Recall held checked_in due issued) → has_message_with is_received issued ≡ false
     → FitsWith Recall held (requester_of txn Recall held checked_in due issued) types.Received
 receive_fits txn held checked_in due issued h unreceived = search rules
 
--- In RECALL, if a Received was issued, RETURNED fits after a Returned.
+-- In RECALL, if a Received was issued, the state RETURNED after a Returned satisfies `FitsWith`.
 return_fits : (txn : Qualifiers) (held : Option ℕ) (checked_in : Bool) (due : Option Date) (issued : List Apdu)
     → RequesterRules (requester_of txn Recall held checked_in due issued) → has_message_with is_received issued ≡ true
     → FitsWith Returned held (requester_of txn Recall held checked_in due issued) types.Returned
 return_fits txn held checked_in due issued h received = search rules
 
--- The state after the transition of each wish fits.
+-- If the record satisfies the rules, and `row` is the transition of `wish`, `row` satisfies `FitsWith`. Three cases
+-- depend on what was issued; each has its lemma above.
 pub fits : (txn : Qualifiers) (state : State) (held : Option ℕ) (checked_in : Bool) (due : Option Date) (issued : List Apdu)
     (wish : Wish) (row : Transition)
     → RequesterRules (requester_of txn state held checked_in due issued)

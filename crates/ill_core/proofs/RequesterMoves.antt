@@ -23,7 +23,8 @@ use Rattle.ill_core.specs.Requester.{RequesterRecord, later, accepted_number, la
 use Rattle.ill_core.specs.RequesterDeliveries.{take_message, takes, take_end, take_cancel_reply}
 use Rattle.ill_core.specs.RequesterNotices.{is_awaiting_answer, undecided, lent}
 
--- A message with `number` and this body changes record `x` to this record by a row, or changes nothing.
+-- A message with `number` and this body changes record `x` to this record by a row, or changes nothing. Each case has
+-- the conditions of its row, the message, and the record after it.
 pub data Leads (x : RequesterRecord) (number : ℕ) : Body → RequesterRecord → Type 0 where
   nowhere : (body : Body) → Leads x number body x
   holds_conditions : is_among (Pending ∷ []) x.state ≡ true
@@ -50,7 +51,7 @@ pub data Leads (x : RequesterRecord) (number : ℕ) : Body → RequesterRecord �
   recalls : is_among lent x.state ≡ true → Leads x number types.Recall (record x { state = Recall })
   checks_in : is_among (Returned ∷ []) x.state ≡ true → Leads x number types.CheckedIn (record x { checked_in = true })
 
--- If each transition that may be the first to fit satisfies `Leads`, so does the answer.
+-- A choice by the test `fits` satisfies `Leads`, if `here` does when `fits` is true, and else `others`.
 transition : (x : RequesterRecord) (number : ℕ) (body : Body) (fits : Bool)
     (here others : Result Taking Refusal × RequesterRecord)
     → (fits ≡ true → Leads x number body here.1) → (fits ≡ false → Leads x number body others.1)
@@ -63,7 +64,7 @@ end_leads x number body is =
     transition x number _ (is_among (NotSupplied ∷ []) x.state) _ _ (λ _. nowhere body) (λ _.
     transition x number _ (is_among undecided x.state) _ _ (ends body is) (λ _. nowhere body))
 
--- A Cancel-Reply leads to its decision if a Cancel waits, and else changes nothing.
+-- If the decision of a Cancel-Reply satisfies `Leads` in CANCEL-PENDING, its answer satisfies `Leads` in each state.
 cancel_reply_leads : (x : RequesterRecord) (number cancel : ℕ) (is_yes : Bool)
     → (is_among (CancelPending ∷ []) x.state ≡ true
     → Leads x number (types.CancelReply cancel is_yes) (record x { state = (if is_yes then Cancelled else Pending) }))
@@ -81,7 +82,7 @@ due_now : (x : RequesterRecord) (due : Date) → is_among later x.state ≡ true
     → is_among later x.state && not (is_due_on due x.due) ≡ false → is_due_on due x.due ≡ true
 due_now x due is_later stale_not = search rules
 
--- An admitted APDU satisfies `Leads`.
+-- The record after an admitted APDU satisfies `Leads`. Each case follows the tests of `take_message`, one by one.
 message_leads : (x : RequesterRecord) (a : Apdu) (body : Body) → Leads x a.number body (take_message x a body).1
 message_leads x a (types.IllAnswer results.Conditional) =
     transition x a.number _ (is_at_most a.number (accepted_number x)) _ _ (λ _. nowhere _) (λ _.
@@ -124,14 +125,15 @@ message_leads x a types.CheckedIn =
     transition x a.number _ (is_among (Returned ∷ []) x.state) _ _ (λ _. nowhere _) (λ _. nowhere _))
 message_leads x a other = nowhere _
 
--- If an admitted APDU satisfies `Leads`, so does one that may be refused. A refusal changes nothing.
+-- If the record after `answer` satisfies `Leads`, so does the record after an answer that may be a refusal. A refusal
+-- changes nothing.
 admitted : (x : RequesterRecord) (number : ℕ) (body : Body) (refused : Option Refusal)
     (answer : Result Taking Refusal × RequesterRecord)
     → Leads x number body answer.1 → Leads x number body (unless_refused refused x answer).1
 admitted x number body None answer leads = leads
 admitted x number body (Some refusal) answer leads = nowhere body
 
--- Each APDU satisfies `Leads`.
+-- The record after each APDU satisfies `Leads`.
 pub delivery_leads : (x : RequesterRecord) (a : Apdu) → Leads x a.number a.body (takes x a).1
 delivery_leads x a = admitted x a.number a.body (first_refusal x.txn (is_requesters a.body) a) (take_message x a a.body)
     (message_leads x a a.body)

@@ -60,7 +60,8 @@ record ReflectsOldOrAttested (x : RequesterRecord) (number : ℕ) (body : Body) 
       → Reflects x (GrantedBefore renew due) ⊎ Attests number body (GrantedBefore renew due)
   past_due : (due : Date) → Reflects new (PastDue due) → Reflects x (PastDue due) ⊎ Attests number body (PastDue due)
 
--- The record after each row of deliveries satisfies `ReflectsOldOrAttested`.
+-- The record after each row of deliveries satisfies `ReflectsOldOrAttested`. A due date is there exactly in SHIPPED or
+-- later (`fits`), and the last Renew was issued (`within`).
 keeps : (x : RequesterRecord) (number : ℕ) (body : Body) (new : RequesterRecord) → Leads x number body new
     → is_some x.due ≡ is_among later x.state
     → ((n : ℕ) → last_renew x ≡ Some n → n ≤ length x.issued) → ReflectsOldOrAttested x number body new
@@ -107,7 +108,9 @@ takes_reflects x a notice h =
 
 -- ---- actions
 
--- The transition of a wish adds no notice that the record reflects.
+-- The transition of a wish adds no notice that the record reflects. It enters neither RECALL nor an overdue state, and
+-- holds or accepts only conditions held before. It issues a Renew exactly if it leads to a state in which this waits.
+-- It leaves RECALL, RETURNED and those states only for RECALL or RETURNED.
 record AddsNoNotice (x : RequesterRecord) (transition : Transition) : Type 0 where
   recalled : transition.next ≡ Recall → x.state ≡ Recall
   held : (c : ℕ) → transition.held ≡ Some c → x.held ≡ Some c
@@ -120,7 +123,7 @@ record AddsNoNotice (x : RequesterRecord) (transition : Transition) : Type 0 whe
   past_due : is_among (NotReceivedOverdue ∷ Overdue ∷ RenewOverdue ∷ []) transition.next ≡ true
       → is_among (NotReceivedOverdue ∷ Overdue ∷ RenewOverdue ∷ []) x.state ≡ true
 
--- Each transition of a wish satisfies `AddsNoNotice`.
+-- Each transition of a wish satisfies `AddsNoNotice`, if conditions are held exactly in CONDITIONAL.
 leaves : (x : RequesterRecord) (transition : Transition) → IsTransition x transition
     → is_some x.held ≡ is_among (Conditional ∷ []) x.state
     → AddsNoNotice x transition
@@ -173,7 +176,7 @@ waits_last x transition renew how waits =
     (subst (λ o. is_equal_number renew o ≡ true) (renew_next x transition (how.waits parts.0)) parts.1) in
     omega (arith, same)
 
--- Each notice that a record reflects after a transition was reflected before it.
+-- If a transition satisfies `AddsNoNotice`, each notice that the record reflects after it was reflected before it.
 left : (x : RequesterRecord) (transition : Transition) (notice : Notice) → AddsNoNotice x transition
     → Reflects (record_after x transition) notice
     → Reflects x notice

@@ -131,7 +131,7 @@ cancel_refused : (x : RequesterRecord) (k c : ℕ)
     → Moves x k (types.CancelReply c false) (taken (record x { state = Pending }))
 cancel_refused x k c is = search rules
 
--- If each transition that may be the first to fit satisfies `Moves`, so does the answer.
+-- A choice by the test `fits` satisfies `Moves`, if `here` does when `fits` is true, and else `others`.
 transition : (x : RequesterRecord) (k : ℕ) (body : Body) (fits : Bool) (here others : Result Taking Refusal × RequesterRecord)
     → (fits ≡ true → Moves x k body here) → (fits ≡ false → Moves x k body others)
     → Moves x k body (if fits then here else others)
@@ -165,7 +165,7 @@ renew_answer_row x k c granted decided =
     (λ is. decided (and_parts _ _ is).0) (λ _.
     transition x k _ (is_message_with is_renew x.issued c) _ _ (λ _. left x k _ _) (λ _. left x k _ _))
 
--- The answer to an admitted APDU satisfies `Moves`.
+-- The answer to an admitted APDU satisfies `Moves`. Each case follows the tests of `take_message`, one by one.
 pub message_row : (x : RequesterRecord) (a : Apdu) (body : Body) → Moves x a.number body (take_message x a body)
 message_row x a (types.IllAnswer results.Conditional) =
     transition x a.number _ (is_at_most a.number (accepted_number x)) _ _ (λ _. left x a.number _ _) (λ above.
@@ -316,7 +316,7 @@ undeclined_there : (conditional declined : Bool) → conditional && not (conditi
 undeclined_there true false h = (refl, refl)
 undeclined_there conditional declined h = search rules
 
--- The transition of each wish satisfies `Issues`.
+-- The transition of each wish satisfies `Issues`. Each case follows the tests of `transition_of`, one by one.
 wish_row : (x : RequesterRecord) (wish : Wish) (row : Transition) → transition_of x wish ≡ Ok row → Issues x row
 wish_row x (wishes.Request expiry item) row =
     at_transition (Issues x) (is_among (Idle ∷ []) x.state) _ _ row (λ is. is_this (Issues x) _ row

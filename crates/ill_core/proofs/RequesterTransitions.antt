@@ -40,7 +40,7 @@ pub data IsTransition (x : RequesterRecord) : Transition → Type 0 where
   returns_recalled : is_among (Recall ∷ []) x.state ≡ true
       → IsTransition x (record { next = Returned; body = types.Returned; held = x.held })
 
--- The transition of each wish satisfies `IsTransition`.
+-- The transition of each wish satisfies `IsTransition`. Each case follows the tests of `transition_of`, one by one.
 pub is_transition : (x : RequesterRecord) (wish : Wish) (transition : Transition) → transition_of x wish ≡ Ok transition
     → IsTransition x transition
 is_transition x (wishes.Request expiry item) transition =

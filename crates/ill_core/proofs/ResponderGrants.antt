@@ -68,6 +68,7 @@ grants_more : (apdus : List Apdu) (a : Apdu) → GrantsRise apdus → GrantsLate
 grants_more apdus a h newest i j m n b c d e at_i at_j one other below =
     go (message_more apdus a b i at_i) (message_more apdus a c j at_j)
   where
+    -- Message `i` is old or the new one, and so is message `j`.
     go : ((message apdus i ≡ Some b) × (i ≤ length apdus)) ⊎ ((i ≡ length apdus + 1) × (a ≡ b))
         → ((message apdus j ≡ Some c) × (j ≤ length apdus)) ⊎ ((j ≡ length apdus + 1) × (a ≡ c)) → is_before d e ≡ true
     go (inl old) (inl older) = h i j m n b c d e old.0 older.0 one other below

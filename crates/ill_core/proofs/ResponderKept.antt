@@ -104,7 +104,7 @@ next_kept y body state h fits grants =
       ships_first = ships_next y a h grants;
     }
 
--- Each transition satisfies `FitsNext`.
+-- If the record satisfies the rules, each transition of a deed satisfies `FitsNext`.
 transition_fits : (txn : Qualifiers) (state : State) (accepted last_cancel last_renew : Option ℕ) (received : Bool)
     (request : Option Apdu) (issued : List Apdu) (transition : Transition)
     → ResponderRules (responder_of txn state accepted last_cancel last_renew received request issued)
@@ -140,7 +140,7 @@ transition_fits txn InProcess accepted last_cancel last_renew received request i
 transition_fits txn Conditional accepted last_cancel last_renew received request issued _ h (expires is) = search rules
 transition_fits txn state accepted last_cancel last_renew received request issued _ h (expires is) = search rules
 
--- Each transition satisfies `Grants`.
+-- Each transition of a deed satisfies `Grants`.
 transition_grants : (y : ResponderRecord) (transition : Transition) → IsTransition y transition → Grants y transition.body
 transition_grants y _ (answers answer is) = no_grant refl refl
 transition_grants y _ (allows_cancel is) = no_grant refl refl
@@ -155,7 +155,7 @@ transition_grants y _ (recalls is) = no_grant refl refl
 transition_grants y _ (checks_in is) = no_grant refl refl
 transition_grants y _ (expires is) = no_grant refl refl
 
--- The record after a transition satisfies the rules.
+-- If a record satisfies the rules, so does the record after a transition of a deed.
 pub transition_kept : (y : ResponderRecord) (transition : Transition) → ResponderRules y → IsTransition y transition
     → ResponderRules (record_after y transition)
 transition_kept y transition h is =
@@ -195,13 +195,15 @@ outstanding_named txn Conditional accepted last_cancel last_renew received reque
 )
 outstanding_named txn state accepted last_cancel last_renew received request issued c h is = search rules
 
--- If the parts fit CONDITIONAL, they fit IN-PROCESS with an accepted number.
+-- If the parts fit CONDITIONAL, they fit IN-PROCESS with an accepted number. The tests `r` to `z` are those of
+-- `PartsFit`, in its order.
 parts_in_process : (state : State) (r a c n m z : Bool) → PartsFit state r a c n m z
     → is_among (Conditional ∷ []) state ≡ true → PartsFit InProcess r true c n m z
 parts_in_process Conditional r a c n m z fits is = search rules
 parts_in_process state r a c n m z fits is = search rules
 
--- If the parts fit IDLE, they fit IN-PROCESS with a request.
+-- If the parts fit IDLE, they fit IN-PROCESS with a request. The tests `r` to `z` are those of `PartsFit`, in its
+-- order.
 parts_requested : (state : State) (r a c n m z : Bool) → PartsFit state r a c n m z
     → is_among (Idle ∷ []) state ≡ true → PartsFit InProcess true a c n m z
 parts_requested Idle r a c n m z fits is = search rules
@@ -302,7 +304,7 @@ sent_back_kept : (txn : Qualifiers) (state : State) (accepted last_cancel last_r
 sent_back_kept txn Shipped accepted last_cancel last_renew received request issued h is = search rules
 sent_back_kept txn state accepted last_cancel last_renew received request issued h is = search rules
 
--- The record after the answer satisfies the rules, if the record after each transition that may be the first does.
+-- A choice by `fits` gives a record that satisfies the rules, if `here` does when `fits` is true, else `others`.
 transition : (fits : Bool) (here others : Result Taking Refusal × ResponderRecord) → (fits ≡ true → ResponderRules here.1)
     → (fits ≡ false → ResponderRules others.1)
     → ResponderRules (if fits then here else others).1
@@ -314,7 +316,7 @@ answer_kept : (y : ResponderRecord) (next : Result ℕ Refusal) → ResponderRul
 answer_kept y (Ok number) h waits = no_kept y h waits
 answer_kept y (Err refusal) h waits = h
 
--- The record after an admitted message satisfies the rules.
+-- The record after an admitted message satisfies the rules. Each case follows the tests of `take_message`, one by one.
 pub message_kept : (y : ResponderRecord) (a : Apdu) (body : Body) → ResponderRules y → is_same_txn a.txn y.txn ≡ true
     → is_ill_request a.body ≡ is_ill_request body → ResponderRules (take_message y a body).1
 message_kept y a (types.IllRequest expiry item) h same is =
@@ -354,7 +356,8 @@ admitted_same : (same is_own : Bool)
 admitted_same true is_own h = refl
 admitted_same false is_own h = search rules
 
--- If the record after an admitted APDU satisfies the rules, so does the record after one that may be refused.
+-- If `y` satisfies the rules, and the record after `answer` does without a refusal, so does that after
+-- `unless_refused`.
 unless_kept : (refused : Option Refusal) (y : ResponderRecord) (answer : Result Taking Refusal × ResponderRecord)
     → ResponderRules y → (refused ≡ None → ResponderRules answer.1)
     → ResponderRules (unless_refused refused y answer).1

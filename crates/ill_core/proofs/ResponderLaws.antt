@@ -163,23 +163,23 @@ pub takes_end : (y : ResponderRecord) (a : Apdu) → Ends y (takes y a).1
 takes_end y a = of_takes (Ends y) y a (λ how b same is. not_longer y.issued _ b how.issued same)
     (λ said how. issues_ends y _ _ how)
 
--- If the new APDU leads to the new state as an end, some new APDU does.
+-- If `y` is in a state of `ended`, or the new APDU `a` ends in the state of `new`, `EntersByEnd` holds.
 by_end : (y new : ResponderRecord) (a : Apdu) → new.issued ≡ y.issued ++ a ∷ []
     → (is_among ended y.state ≡ true) ⊎ (ends_in a.body new.state ≡ true)
     → (is_among ended y.state ≡ true) ⊎ ((b : Apdu) × (new.issued ≡ y.issued ++ b ∷ []) × (ends_in b.body new.state ≡ true))
 by_end y new a same (inl old) = inl old
 by_end y new a same (inr is) = inr (a, same, is)
 
--- A transition that satisfies `Issues` enters the state after an end only with the APDU that ends the request.
+-- A transition that satisfies `Issues` enters the state after an end only with the APDU that leads there.
 issues_enters : (y : ResponderRecord) (body : Body) (next : State) → Issues y body next → EntersByEnd y (issues_to y body next)
 issues_enters y body next how is = by_end y (issues_to y body next) (next_apdu y.txn y.issued body) refl (how.enters is)
 
--- A deed enters the state after an end only with the APDU that ends the request.
+-- A deed enters the state after an end only with the APDU that leads there.
 pub acts_enter : (y new : ResponderRecord) (deed : Deed) (today : Date) → acts y deed today ≡ Ok new → EntersByEnd y new
 acts_enter y new deed today = of_acts (EntersByEnd y) y new deed today
     (λ transition there. issues_enters y transition.body transition.next)
 
--- A message enters the state after an end only with the APDU that ends the request.
+-- A message enters the state after an end only with the APDU that leads there.
 pub takes_enter : (y : ResponderRecord) (a : Apdu) → EntersByEnd y (takes y a).1
 takes_enter y a = of_takes (EntersByEnd y) y a (λ how is. inl (how.ended ∙ is)) (λ said how. issues_enters y _ _ how)
 
@@ -294,7 +294,8 @@ pub known : (o : Option ℕ) (n : ℕ) (waiting : Bool) → implies waiting (is_
     → n ≡ unwrap_or o 0 → o ≡ Some n
 known o n waiting there is same = search rules
 
--- A transition with an answer or without one preserves `AnsweredOnce`.
+-- A transition that answers question `o`, or none, preserves `AnsweredOnce`, if the last question has a number while it
+-- waits.
 answer_issued : (question : Question) (y : ResponderRecord) (body : Body) (next : State) (o : Option ℕ)
     → answered_number question body ≡ o → Issues y body next
     → implies (is_question_open question y.state) (is_some (last_asked question y)) ≡ true → AnswersOnce question y

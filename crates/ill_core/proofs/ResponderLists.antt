@@ -80,7 +80,8 @@ grant_rises : (last found : Option Date) (dates : List Date)
 grant_rises last None dates = refl
 grant_rises last (Some d) dates = rise_first last d dates
 
--- The dates from index `i` on rise if, and only if, the first is after `last`, and the rest rise.
+-- The dates granted from index `i` on rise if, and only if, `follows` is true and the others rise after `next`.
+-- `follows` is the test that `found`, the date of the APDU there, is after `last`. `next` is `found`, or else `last`.
 pub rise_at : (last found next : Option Date) (follows : Bool) (apdus : List Apdu) (i : ℕ) (a : Apdu)
     → i < length apdus → a ≡ get_or apdus i a
     → found ≡ granted_day a → follows ≡ is_after_last last found → next ≡ option_or found last
@@ -200,7 +201,8 @@ no_grants (b ∷ apdus) first none =
     ap (λ o. cons_option o (filter_map granted_day apdus)) (grants_none b.body counted.0 (not_true _ parts.0))
     ∙ no_grants apdus parts.1 counted.1
 
--- If the number of Shipped is at least 1, the first APDU is a Shipped, or the others have one.
+-- If the number of Shipped is at least 1, `A` or `B` holds. `A` follows if the first APDU is a Shipped, and `B` if the
+-- others have one.
 one_there : (shipped : Bool) (others : ℕ) {A B : Type 0} → 1 ≤ cond shipped 1 0 + others → (shipped ≡ true → A)
     → (1 ≤ others → B) → A ⊎ B
 one_there true others there here rest = inl (here refl)
@@ -214,7 +216,7 @@ due_there (b ∷ apdus) there =
     (one_there (is_shipped b.body) (count_by (λ c. is_shipped c.body) apdus) (subst (λ n. 1 ≤ n) (count_first b apdus) there)
     (grants_some b.body) (due_there apdus))
 
--- If a request belongs to `txn`, it does so when IDLE drops it.
+-- If `request` belongs to `txn` or is absent, the same holds after IDLE drops it.
 unless_idle : (txn : Qualifiers) (is_idle : Bool) (request : Option Apdu) → is_request_of txn request ≡ true
     → is_request_of txn (if is_idle then None else request) ≡ true
 unless_idle txn true request is = refl

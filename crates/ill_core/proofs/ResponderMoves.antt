@@ -25,7 +25,8 @@ use Rattle.ill_core.specs.ResponderActions.{issues_to}
 use Rattle.ill_core.specs.ResponderDeliveries.{takes, take_message, answers_no}
 use Rattle.ill_core.specs.ResponderNotices.{has_heard, reopens, undecided, lent}
 
--- A message with `number` and this body changes record `y` to this record, or does not change it.
+-- A message with `number` and this body changes record `y` to this record, or does not change it. Each case has the
+-- conditions of its row, the message, and the record after it.
 pub data Change (y : ResponderRecord) (number : ℕ) : Body → ResponderRecord → Type 0 where
   leaves : (body : Body) → Change y number body y
   requests : (expiry : Option Date) (item : List ℕ) (a : Apdu) → is_among (Idle ∷ []) y.state ≡ true
@@ -43,7 +44,7 @@ pub data Change (y : ResponderRecord) (number : ℕ) : Body → ResponderRecord 
       → Change y number (types.Renew wished) (record y { state = RenewOverdue; last_renew = Some number })
   returns : is_among lent y.state ≡ true → Change y number types.Returned (record y { state = Returned })
 
--- If each transition that may be the first to fit satisfies `Change`, so does the answer.
+-- A choice by the test `fits` satisfies `Change`, if `here` does when `fits` is true, and else `others`.
 transition : (y : ResponderRecord) (number : ℕ) (body : Body) (fits : Bool)
     (here others : Result Taking Refusal × ResponderRecord)
     → (fits ≡ true → Change y number body here.1) → (fits ≡ false → Change y number body others.1)
@@ -56,7 +57,8 @@ waits_conditional : (c : ℕ) (state : State) (size : Option ℕ)
     → is_among (Conditional ∷ []) state ≡ true
 waits_conditional c state size is = search rules
 
--- A Conditional-Reply no is answered, or changes nothing if no number is left.
+-- In a state of `undecided`, the record after a Conditional-Reply no satisfies `Change`. If no number is left, this
+-- record is `y`.
 no_changes : (y : ResponderRecord) (number c : ℕ) (left : Bool) → nat_lt (length y.issued) 255 ≡ left
     → is_among undecided y.state ≡ true
     → Change y number (types.ConditionalReply c false)
@@ -64,7 +66,7 @@ no_changes : (y : ResponderRecord) (number c : ℕ) (left : Bool) → nat_lt (le
 no_changes y number c true few waiting = declines c waiting few
 no_changes y number c false few waiting = leaves _
 
--- An admitted message satisfies `Change`.
+-- The record after an admitted message satisfies `Change`. Each case follows the tests of `take_message`, one by one.
 message_changes : (y : ResponderRecord) (a : Apdu) (body : Body) → Change y a.number body (take_message y a body).1
 message_changes y a (types.IllRequest expiry item) =
     transition y _ _ (is_among (Idle ∷ []) y.state) _ _ (requests expiry item a) (λ _. leaves _)
@@ -91,14 +93,15 @@ message_changes y a types.Returned =
     transition y _ _ (is_among (Returned ∷ CheckedIn ∷ []) y.state) _ _ (λ _. leaves _) (λ _. leaves _))
 message_changes y a other = leaves _
 
--- If an admitted message satisfies `Change`, so does one that may be refused. A refusal changes nothing.
+-- If the record after `answer` satisfies `Change`, so does the record after an answer that may be a refusal. A refusal
+-- changes nothing.
 unless_changes : (y : ResponderRecord) (number : ℕ) (body : Body) (refused : Option Refusal)
     (answer : Result Taking Refusal × ResponderRecord)
     → Change y number body answer.1 → Change y number body (unless_refused refused y answer).1
 unless_changes y number body None answer change = change
 unless_changes y number body (Some refusal) answer change = leaves body
 
--- Each message satisfies `Change`.
+-- The record after each message satisfies `Change`.
 pub takes_changes : (y : ResponderRecord) (a : Apdu) → Change y a.number a.body (takes y a).1
 takes_changes y a = unless_changes y a.number a.body (first_refusal y.txn (not (is_requesters a.body)) a)
     (take_message y a a.body) (message_changes y a a.body)
@@ -133,7 +136,7 @@ takes_few y a = change_few y (takes y a).1 a.number a.body (takes_changes y a)
 data IsWithoutEffect (number : ℕ) (body : Body) (answer : Result Taking Refusal × ResponderRecord) : Type 0 where
   hears : has_heard answer.1 number body ≡ true → IsWithoutEffect number body answer
 
--- If each transition that may be the first to fit satisfies `IsWithoutEffect`, so does the answer.
+-- A choice by the test `fits` satisfies `IsWithoutEffect`, if `here` does when `fits` is true, and else `others`.
 heard_transition : (number : ℕ) (body : Body) (fits : Bool) (here others : Result Taking Refusal × ResponderRecord)
     → (fits ≡ true → IsWithoutEffect number body here) → (fits ≡ false → IsWithoutEffect number body others)
     → IsWithoutEffect number body (if fits then here else others)
@@ -155,7 +158,8 @@ renew_heard : (state : State) (above : Bool) → is_among (Shipped ∷ []) state
     → is_among (Overdue ∷ []) state ≡ false → not (is_among (Shipped ∷ Overdue ∷ []) state) || above ≡ true
 renew_heard state above one other = search rules
 
--- The answer to an admitted message satisfies `IsWithoutEffect`.
+-- The answer to an admitted message satisfies `IsWithoutEffect`. Each case follows the tests of `take_message`, one by
+-- one.
 message_heard : (y : ResponderRecord) (a : Apdu) (body : Body) → IsWithoutEffect a.number body (take_message y a body)
 message_heard y a (types.IllRequest expiry item) =
     heard_transition _ _ (is_among (Idle ∷ []) y.state) _ _ (λ _. hears refl) (λ begun. hears (not_from_false _ begun))
@@ -228,7 +232,7 @@ lent_shipped state is = search rules
 lent_overdue : (state : State) → is_among (Overdue ∷ []) state ≡ true → is_among lent state ≡ true
 lent_overdue state is = search rules
 
--- An ILL-Request reopens only a Conditional-Reply no and a Cancel.
+-- After IDLE takes an ILL-Request, only a Conditional-Reply no and a Cancel, which it reopens, may change the record.
 requests_stays : (y : ResponderRecord) (a : Apdu) (expiry : Option Date) (item : List ℕ) (number : ℕ) (body : Body)
     → reopens (types.IllRequest expiry item) body ≡ false
     → has_heard (record y { state = InProcess; request = Some a }) number body ≡ true
@@ -237,7 +241,7 @@ requests_stays y a expiry item number (types.ConditionalReply c true) none = ref
 requests_stays y a expiry item number types.Cancel none = search rules
 requests_stays y a expiry item number body none = refl
 
--- A Conditional-Reply yes reopens nothing.
+-- If a message would not change `y`, it would not change it after a Conditional-Reply yes.
 accepts_stays : (y : ResponderRecord) (c number : ℕ) (body : Body) → is_among undecided y.state ≡ true
     → has_heard y number body ≡ true
     → has_heard (record y { state = InProcess; accepted = Some c }) number body ≡ true
@@ -246,21 +250,21 @@ accepts_stays y c number (types.ConditionalReply n true) waiting h = refl
 accepts_stays y c number types.Cancel waiting h = search rules
 accepts_stays y c number body waiting h = refl
 
--- A Conditional-Reply no that is answered reopens nothing.
+-- After a Conditional-Reply no is answered, no message would change the record.
 declines_stays : (y : ResponderRecord) (number : ℕ) (body : Body)
     → has_heard (issues_to y (types.IllAnswer results.Unfilled) NotSupplied) number body ≡ true
 declines_stays y number (types.ConditionalReply n true) = refl
 declines_stays y number (types.ConditionalReply n false) = refl
 declines_stays y number body = refl
 
--- A Cancel reopens nothing.
+-- After a Cancel is taken, no message would change the record.
 cancels_stays : (y : ResponderRecord) (last : Option ℕ) (number : ℕ) (body : Body)
     → has_heard (record y { state = CancelPending; last_cancel = last }) number body ≡ true
 cancels_stays y last number (types.ConditionalReply n true) = refl
 cancels_stays y last number (types.ConditionalReply n false) = refl
 cancels_stays y last number body = refl
 
--- A Received reopens nothing.
+-- If a message would not change `y`, it would not change it after a Received.
 arrives_stays : (y : ResponderRecord) (number : ℕ) (body : Body) → has_heard y number body ≡ true
     → has_heard (record y { received = true }) number body ≡ true
 arrives_stays y number (types.ConditionalReply n true) h = h
@@ -268,7 +272,7 @@ arrives_stays y number (types.ConditionalReply n false) h = h
 arrives_stays y number types.Received h = or_right (not (is_among later y.state)) _ refl
 arrives_stays y number body h = h
 
--- A Renew reopens nothing.
+-- If a message would not change `y`, it would not change it after a Renew, which leads to `next`.
 renews_stays : (y : ResponderRecord) (next : State) (last : Option ℕ) (number : ℕ) (body : Body)
     → is_among lent y.state ≡ true → is_among (RenewPending ∷ RenewOverdue ∷ []) next ≡ true
     → has_heard y number body ≡ true → has_heard (record y { state = next; last_renew = last }) number body ≡ true
@@ -284,7 +288,7 @@ renews_stays y RenewOverdue last number types.Returned out there h = search (rul
 renews_stays y RenewOverdue last number body out there h = refl
 renews_stays y next last number body out there h = search rules
 
--- A Returned reopens nothing.
+-- If a message would not change `y`, it would not change it after a Returned.
 returns_stays : (y : ResponderRecord) (number : ℕ) (body : Body) → is_among lent y.state ≡ true
     → has_heard y number body ≡ true → has_heard (record y { state = Returned }) number body ≡ true
 returns_stays y number (types.ConditionalReply n true) out h = refl
@@ -292,7 +296,7 @@ returns_stays y number (types.ConditionalReply n false) out h = refl
 returns_stays y number types.Received out h = search (rules, later_lent y.state out)
 returns_stays y number body out h = refl
 
--- A change reopens only what its message reopens.
+-- If a message would not change `y`, it would not change `new`, unless `by`, which leads there, reopens it.
 change_stays : (y new : ResponderRecord) (first : ℕ) (by : Body) (number : ℕ) (body : Body) → Change y first by new
     → reopens by body ≡ false → has_heard y number body ≡ true
     → has_heard new number body ≡ true

@@ -116,6 +116,7 @@ order_more : (apdus : List Apdu) (a : Apdu) → GrantsBeforeOverdue apdus
 order_more apdus a h newest m n c b e due day at_m at_n grants is same =
     go (message_more apdus a b m at_m) (message_more apdus a e n at_n)
   where
+    -- Message `m` is old or the new one, and so is message `n`.
     go : ((message apdus m ≡ Some b) × (m ≤ length apdus)) ⊎ ((m ≡ length apdus + 1) × (a ≡ b))
         → ((message apdus n ≡ Some e) × (n ≤ length apdus)) ⊎ ((n ≡ length apdus + 1) × (a ≡ e)) → m < n
     go (inl old) (inl older) = h m n c b e due day old.0 older.0 grants is same
@@ -131,6 +132,7 @@ overdue_more : (P : Date → Type 0) (apdus : List Apdu) (a : Apdu) → AllOverd
     → ((day : Date) → a.body ≡ types.Overdue day → P day) → AllOverdues P (apdus ++ a ∷ [])
 overdue_more P apdus a old newest n b day at is = go (message_more apdus a b n at)
   where
+    -- Message `n` is old or the new one.
     go : ((message apdus n ≡ Some b) × (n ≤ length apdus)) ⊎ ((n ≡ length apdus + 1) × (a ≡ b)) → P day
     go (inl older) = old n b day older.0 is
     go (inr new) = newest day (ap (λ (x : Apdu). x.body) new.1 ∙ is)
@@ -163,7 +165,8 @@ data Notice (y : ResponderRecord) : Body → State → Type 0 where
       → IsAfterOverdues y.issued due → is_among overdue next ≡ false → Notice y body next
   warns : (next : State) (due : Date) → due_of y ≡ Some due → is_among reminded next ≡ true → Notice y (types.Overdue due) next
 
--- An APDU that neither grants a date nor is an Overdue preserves `OverduesAreInPlace`.
+-- An APDU that neither grants a date nor is an Overdue preserves `OverduesAreInPlace`. Its transition does
+-- not enter `overdue` or leave `reminded`.
 neither_place : (y : ResponderRecord) (body : Body) (next : State) → grant_in body ≡ None
     → ((due : Date) → is_overdue_of due body ≡ false)
     → (is_among overdue next ≡ true → is_among overdue y.state ≡ true)
@@ -181,7 +184,7 @@ neither_place y body next none other leads stays h order =
       order_more y.issued a order (λ due is. none_there (grant_in body) due none is),
     )
 
--- An APDU that grants a date after each Overdue preserves `OverduesAreInPlace`.
+-- An APDU that grants a date after each Overdue, and leads to no state of `overdue`, preserves `OverduesAreInPlace`.
 grants_place : (y : ResponderRecord) (body : Body) (next : State) (due : Date) → grant_in body ≡ Some due
     → ((day : Date) → is_overdue_of day body ≡ false)
     → IsAfterOverdues y.issued due → is_among overdue next ≡ false → OverdueFits y → GrantsBeforeOverdue y.issued
@@ -201,7 +204,7 @@ grants_place y body next due granted other later_day leaves_off h order =
           subst (IsAfterOverdues y.issued) (day_same (grant_in body) due d granted is) later_day),
     )
 
--- An Overdue for the due date preserves `OverduesAreInPlace`.
+-- An Overdue for the due date that leads to a state of `reminded` preserves `OverduesAreInPlace`.
 warns_place : (y : ResponderRecord) (next : State) (due : Date) → due_of y ≡ Some due → is_among reminded next ≡ true
     → OverdueFits y → GrantsBeforeOverdue y.issued → OverduesAreInPlace (issues_to y (types.Overdue due) next)
 warns_place y next due there leads h order =
@@ -298,7 +301,7 @@ acts_overdue y new deed today done kept h order =
 
 -- ---- messages
 
--- A change that issues nothing preserves `OverduesAreInPlace`, if its states agree with an Overdue.
+-- A change that issues nothing preserves `OverduesAreInPlace`, if it does not enter `overdue` or leave `reminded`.
 moves_overdue : (y new : ResponderRecord) → new.issued ≡ y.issued
     → (is_among overdue new.state ≡ true → is_among overdue y.state ≡ true)
     → (is_among reminded y.state ≡ true → is_among reminded new.state ≡ true) → OverdueFits y

@@ -49,11 +49,12 @@ one_of false false either = search rules
 in_more : (ns : List ℕ) (m number : ℕ) → is_in number (ns ++ m ∷ []) ≡ true → (is_in number ns ≡ true) ⊎ (m ≡ number)
 in_more ns m number is = go (one_of _ _ (sym (list_any-append (λ n. n == number) ns (m ∷ [])) ∙ is))
   where
+    -- The test `m == number` becomes an equality.
     go : (is_in number ns ≡ true) ⊎ ((m == number) ≡ true) → (is_in number ns ≡ true) ⊎ (m ≡ number)
     go (inl old) = inl old
     go (inr new) = inr (eqb-true m number new)
 
--- If a question was answered before, or is the last one, it was asked before.
+-- If question `number` was answered (`before`), or is `m`, the last one, it is the last one or was answered.
 last_or_before : (last : Option ℕ) (m number : ℕ) (before : Bool) → last ≡ Some m → (before ≡ true) ⊎ (m ≡ number)
     → (last ≡ Some number) ⊎ (before ≡ true)
 last_or_before last m number before is (inl old) = inr old
@@ -66,7 +67,8 @@ none_answered : (question : Question) (y : ResponderRecord) (body : Body) (next 
 none_answered question y body next number none =
     ap (is_in number) (found_none (λ a. answered_number question a.body) y.issued (next_apdu y.txn y.issued body) none)
 
--- If a question is answered after a transition, it was asked before it.
+-- If a question is answered after a transition, it was asked before it. The last question has a number while it waits,
+-- and `o` is the number that the transition answers.
 answered_asked : (question : Question) (y : ResponderRecord) (body : Body) (next : State) (number : ℕ) (o : Option ℕ)
     → answered_number question body ≡ o → Issues y body next
     → implies (is_question_open question y.state) (is_some (last_asked question y)) ≡ true
@@ -80,7 +82,7 @@ answered_asked question y body next number (Some m) some how there is =
     (known (last_asked question y) m (is_question_open question y.state) there row.0 row.2)
     (in_more (answers_to question y.issued) m number (sym (ap (is_in number) more) ∙ is))
 
--- If a question is asked after a transition, it was asked before it.
+-- If `WasAsked` holds of a question after a transition, it held before. The last question has a number while it waits.
 issues_asked : (question : Question) (y : ResponderRecord) (body : Body) (next : State) (number : ℕ) → Issues y body next
     → implies (is_question_open question y.state) (is_some (last_asked question y)) ≡ true
     → WasAsked question (issues_to y body next) number → WasAsked question y number
@@ -88,7 +90,7 @@ issues_asked question y body next number how there (inl last) = inl (sym (last_s
 issues_asked question y body next number how there (inr is) =
     answered_asked question y body next number (answered_number question body) refl how there is
 
--- A deed adds no question.
+-- A deed adds no question, if the last question has a number while it waits.
 pub acts_asked : (question : Question) (y new : ResponderRecord) (deed : Deed) (today : Date) (number : ℕ)
     → acts y deed today ≡ Ok new
     → implies (is_question_open question y.state) (is_some (last_asked question y)) ≡ true → WasAsked question new number

@@ -42,6 +42,7 @@ ships_before_more : (apdus : List Apdu) (a : Apdu) → ShipsBeforeRecall apdus
 ships_before_more apdus a h none m n b c at_m at_n shipped recall =
     go (message_more apdus a b m at_m) (message_more apdus a c n at_n)
   where
+    -- Message `m` is old or the new one, and so is message `n`.
     go : ((message apdus m ≡ Some b) × (m ≤ length apdus)) ⊎ ((m ≡ length apdus + 1) × (a ≡ b))
         → ((message apdus n ≡ Some c) × (n ≤ length apdus)) ⊎ ((n ≡ length apdus + 1) × (a ≡ c)) → m < n
     go (inl old) (inl older) = h m n b c old.0 older.0 shipped recall
@@ -93,6 +94,7 @@ issues_recall y body next fits h order =
       ships_before_more y.issued a order none,
     )
   where
+    -- The Recall is an old message or the new one.
     either_way : (has_message_with is_recall y.issued ≡ true) ⊎ (is_recall body ≡ true) → is_among recalled next ≡ true
     either_way (inl old) = fits.stays (h.after old)
     either_way (inr new) = fits.after new
@@ -104,7 +106,7 @@ acts_recall y new deed today done =
     of_acts (λ r. RecallFits y → ShipsBeforeRecall y.issued → HasRecallPlace r) y new deed today
     (λ transition is how. issues_recall y transition.body transition.next (transition_recall y transition is)) done
 
--- A change that issues nothing preserves `HasRecallPlace`, if its states agree with a Recall.
+-- A change that issues nothing preserves `HasRecallPlace`, if it does not enter RECALL or leave `recalled`.
 moves_recall : (y new : ResponderRecord) → new.issued ≡ y.issued
     → (is_among (Recall ∷ []) new.state ≡ true → is_among (Recall ∷ []) y.state ≡ true)
     → (is_among recalled y.state ≡ true → is_among recalled new.state ≡ true) → RecallFits y

@@ -186,7 +186,7 @@ left_row : (y : ResponderRecord) (number : ℕ) (body : Body) (answer : Result T
     → DeliveryRow y number body (answer, y)
 left_row y number body answer = moves (inr refl) (left y number body)
 
--- If each transition that may be the first to fit satisfies `DeliveryRow`, so does the answer.
+-- A choice by the test `fits` satisfies `DeliveryRow`, if `here` does when `fits` is true, and else `others`.
 transition : (y : ResponderRecord) (number : ℕ) (body : Body) (fits : Bool)
     (here others : Result Taking Refusal × ResponderRecord)
     → (fits ≡ true → DeliveryRow y number body here) → (fits ≡ false → DeliveryRow y number body others)
@@ -201,7 +201,7 @@ answers_row y number c (Ok n) waiting =
     replies_no refl refl (issues_no y.txn y.state y.accepted y.last_cancel y.last_renew y.received y.request y.issued waiting)
 answers_row y number c (Err refusal) waiting = left_row y number _ _
 
--- The answer to an admitted APDU satisfies `DeliveryRow`.
+-- The answer to an admitted APDU satisfies `DeliveryRow`. Each case follows the tests of `take_message`, one by one.
 message_row : (y : ResponderRecord) (a : Apdu) (body : Body) → DeliveryRow y a.number body (take_message y a body)
 message_row y a (types.IllRequest expiry item) =
     transition y _ _ (is_among (Idle ∷ []) y.state) _ _

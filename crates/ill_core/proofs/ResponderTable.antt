@@ -213,8 +213,7 @@ transition_by state None allowed body = Err (refusals.NotNow state)
 transition_by state (Some row) (Err refusal) body = Err refusal
 transition_by state (Some row) (Ok done) body = leads_to (next_state row.3 state) body
 
--- A row gives `if_allowed` of `transition` and its refusal. When allowed it gives the first, and when forbidden the
--- second.
+-- If `found` gives `transition` when the date allows it, and `forbids` when not, it gives `if_allowed` of the two.
 dated : (state : State) (found : Option (Row ResponderKind)) (is_allowed : Bool) (forbids : Refusal)
     (transition : Result Transition Refusal) (body : Body)
     → transition_by state found (Ok tt) body ≡ transition → transition_by state found (Err forbids) body ≡ Err forbids

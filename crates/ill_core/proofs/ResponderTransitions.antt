@@ -57,7 +57,7 @@ other_renewing : (y : ResponderRecord) → is_among (RenewOverdue ∷ []) y.stat
     → is_among (RenewPending ∷ RenewOverdue ∷ []) y.state ≡ true
 other_renewing y is = search rules
 
--- The transition of each deed satisfies `IsTransition`.
+-- The transition of each deed satisfies `IsTransition`. Each case follows the tests of `transition_of`, one by one.
 pub is_transition : (y : ResponderRecord) (deed : Deed) (today : Date) (transition : Transition)
     → transition_of y deed today ≡ Ok transition → IsTransition y transition
 is_transition y (deeds.Answer answer) today transition =

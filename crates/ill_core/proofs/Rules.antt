@@ -31,7 +31,7 @@ not_from : (a : Bool) → a ≡ false → not a ≡ true
 not_from true h = search rules
 not_from false h = refl
 
--- A record that satisfies `IsRequester` satisfies each rule.
+-- A record that satisfies `IsRequester` satisfies each rule. The test is split at each `&&`.
 pub requester_rules : (x : RequesterRecord) → IsRequester x → RequesterRules x
 unfolding requester.is_consistent
 requester_rules x h =
@@ -69,7 +69,7 @@ requester_rules x h =
       };
     }
 
--- A record that satisfies each rule satisfies `IsRequester`.
+-- A record that satisfies each rule satisfies `IsRequester`. The rules are joined by `&&`, in the order of the test.
 pub is_requester : (x : RequesterRecord) → RequesterRules x → IsRequester x
 unfolding requester.is_consistent
 is_requester x h =
@@ -82,7 +82,7 @@ is_requester x h =
     and_from _ _ (alike_from _ _ i.idle) (and_from _ _ (and_from _ _ i.received i.not_received) (
     and_from _ _ i.cancel (and_from _ _ i.renew (and_from _ _ (alike_from _ _ i.returned) i.declined))))))))
 
--- A record that satisfies `IsResponder` satisfies each rule.
+-- A record that satisfies `IsResponder` satisfies each rule. The test is split at each `&&`.
 pub responder_rules : (y : ResponderRecord) → IsResponder y → ResponderRules y
 unfolding responder.is_consistent
 responder_rules y h =
@@ -122,7 +122,7 @@ responder_rules y h =
       ships_first = rising.1;
     }
 
--- A record that satisfies each rule satisfies `IsResponder`.
+-- A record that satisfies each rule satisfies `IsResponder`. The rules are joined by `&&`, in the order of the test.
 pub is_responder : (y : ResponderRecord) → ResponderRules y → IsResponder y
 unfolding responder.is_consistent
 is_responder y h =

@@ -20,8 +20,8 @@ pub record PartsFit (state : State) (is_held is_due is_marked : Bool) : Type 0 w
   pub due : is_due ≡ is_among later state
   pub checked_in : implies is_marked (is_among (Returned ∷ []) state) ≡ true
 
--- The list fits the state. `none` says that the list is empty. Each of the other tests says that it has an APDU of one
--- kind.
+-- The list fits the state. `none` says that the list is empty, and `has_no` that it has a Conditional-Reply no. Each
+-- other test says that the list has an APDU of the type in its name.
 pub record IssuedFit (state : State) (none has_received has_cancel has_renew has_returned has_no : Bool)
     : Type 0 where
   pub idle : none ≡ is_among (Idle ∷ []) state

@@ -32,6 +32,7 @@ pub enum Sought {
     EndNumber,
 }
 
+/// The value of a list is its transaction and its APDUs. These are numbered from 1 on, and are at most 255.
 impl Model for Issued {
     ghost Value = { IssuedList };
 
@@ -70,7 +71,7 @@ impl Issued {
         }
     }
 
-    /// Returns the list of `apdus`. Each belongs to `txn`, and the n-th has number n.
+    /// Returns the list of `apdus`, which are at most 255. Each belongs to `txn`, and the n-th has number n.
     pub fn of_numbered(txn: TxnId, apdus: Vec<Apdu>) -> Issued
         requires numbered { are_numbered txn 1 apdus.items ≡ true }
         requires few { length apdus.items ≤ 255 }

@@ -61,6 +61,7 @@ impl Refusal {
     }
 }
 
+/// Turns an allocation that was refused into `OutOfMemory`.
 impl From<AllocError> for Refusal {
     ghost from_gives = { λ _ refusal. refusal ≡ OutOfMemory };
 
@@ -69,6 +70,7 @@ impl From<AllocError> for Refusal {
     }
 }
 
+/// Turns an allocation that was refused, with the value that was to be stored, into `OutOfMemory`.
 impl<T: Drop> From<AllocFailed<T>> for Refusal {
     ghost from_gives = { λ _ refusal. refusal ≡ OutOfMemory };
 

@@ -78,6 +78,7 @@ impl Wish {
     }
 }
 
+/// The value of a requester is its record, which satisfies the rules of a requester.
 impl Model for Requester {
     ghost Value = { RequesterRecord };
 

@@ -83,6 +83,7 @@ impl Deed {
     }
 }
 
+/// The value of a responder is its record, which satisfies the rules of a responder.
 impl Model for Responder {
     ghost Value = { ResponderRecord };
 

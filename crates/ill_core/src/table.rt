@@ -96,6 +96,7 @@ fn place_of(state: State) -> u16
 /// The mask without guards or changes.
 pub const NONE: u16 = 0;
 
+// The masks of one state each. The bit of a state is its index in `State`.
 pub const IDLE: u16 = 1 << State::Idle as u16;
 
 pub const PENDING: u16 = 1 << State::Pending as u16;

@@ -29,7 +29,7 @@ const IS_HERE: u16 = 1 << 1; // A Received was issued.
 
 const NOT_HERE: u16 = 1 << 2; // No Received was issued.
 
-// Sets of states.
+// Sets of states. In `KEPT` the requester has the item, and no Recall was taken.
 const KEPT: u16 = RECEIVED | RENEW_PENDING | OVERDUE | RENEW_OVERDUE;
 
 /// Lists the rows of wishes, ordered by kind. Within a kind, the first row that fits decides.

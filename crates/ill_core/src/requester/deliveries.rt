@@ -45,19 +45,23 @@ const WAS_RENEW: u16 = 1 << 7; // Message c of the requester is a Renew.
 
 const UNMARKED: u16 = 1 << 8; // The checked-in mark is not set.
 
+// The guards of a renewal: c is the last Renew, and d is after the due date.
 const RENEWS: u16 = LAST_RENEW | LATER;
 
-// Sets of states.
+// Sets of states. In `OPEN` the request is neither shipped nor ended.
 const OPEN: u16 = PENDING | CONDITIONAL | CANCEL_PENDING;
 
 const WAITING: u16 = CANCEL_PENDING; // The requester waits for the answer to a Cancel.
 
+// A Renew waits for its Renew-Answer.
 const RENEWING: u16 = RENEW_PENDING | RENEW_OVERDUE;
 
+// The item was shipped, and is neither recalled nor returned.
 const LENT: u16 = SHIPPED | RECEIVED | OVERDUE | NOT_RECEIVED_OVERDUE | RENEWING;
 
 const SHIPPED_OR_LATER: u16 = LENT | RECALL | RETURNED;
 
+// The responder has reported that the item is overdue.
 const REMINDED: u16 = NOT_RECEIVED_OVERDUE | OVERDUE | RENEW_OVERDUE;
 
 /// Lists the rows of deliveries, ordered by kind. Within a kind, the first row that fits decides.
@@ -135,7 +139,8 @@ fn rows_of(kind: Kind) -> &'static [Row<Kind>]
     &ROWS[BEGINNINGS[place]..BEGINNINGS[place + 1]]
 }
 
-/// A message, with the record to which it is delivered.
+/// A message, with the record to which it is delivered. `number` is the number that it answers, or else its own. `date`
+/// is the due date in it.
 #[derive(Drop)]
 struct Arrival<'a> {
     requester: &'a Requester,
@@ -143,6 +148,7 @@ struct Arrival<'a> {
     date: Option<Day>,
 }
 
+/// Tests the guards that the rows of deliveries ask for.
 impl Guards for Arrival<'_> {
     ghost guards = { λ a. delivery_guards a.requester.now a.number a.date };
 

@@ -20,9 +20,10 @@ use crate::table::{
 };
 use ill_values::{Body, Day};
 
-// Sets of states.
+// Sets of states. In `OPEN` the request is open, and no Cancel waits for its answer.
 const OPEN: u16 = IN_PROCESS | CONDITIONAL;
 
+// A Renew waits for its Renew-Answer.
 const RENEWING: u16 = RENEW_PENDING | RENEW_OVERDUE;
 
 /// Lists the rows of deeds, ordered by kind. Within a kind, the first row that fits decides.
@@ -82,6 +83,7 @@ fn kind_of(deed: &Deed) -> Kind
 /// The empty set of guards: no row of deeds asks for one.
 struct NoGuards;
 
+/// Tests no guard, so the answer is always true.
 impl Guards for NoGuards {
     ghost guards = { λ _. [] };
 

@@ -38,11 +38,13 @@ const PAST_RENEW: u16 = 1 << 4; // n is at most the last Renew.
 
 const UNMARKED: u16 = 1 << 5; // The received mark is not set.
 
-// Sets of states.
+// Sets of states. In `OPEN` the request is open, and no Cancel waits for its answer.
 const OPEN: u16 = IN_PROCESS | CONDITIONAL;
 
+// The item was shipped, and no Returned was taken.
 const LENT: u16 = SHIPPED | RENEW_PENDING | OVERDUE | RENEW_OVERDUE | RECALL;
 
+// A Returned was taken.
 const BACK: u16 = RETURNED | CHECKED_IN;
 
 const SHIPPED_OR_LATER: u16 = LENT | BACK;
@@ -122,7 +124,8 @@ fn rows_of(kind: Kind) -> &'static [Row<Kind>]
     &ROWS[BEGINNINGS[place]..BEGINNINGS[place + 1]]
 }
 
-/// Issues the answer to a no, or keeps the request, if `changes` says so. If it is refused, nothing changes.
+/// Issues an ILL-Answer unfilled if `changes` has `ENDS`, or keeps `apdu` as the request if it has `KEEPS`. If this is
+/// refused, nothing changes.
 fn grow(
     request: &mut Option<Apdu>,
     issued: &mut Issued,
@@ -150,13 +153,14 @@ fn grow(
     Ok(())
 }
 
-/// A message, with the record to which it is delivered.
+/// A message, with the record to which it is delivered. `number` is the number that it answers, or else its own.
 #[derive(Drop)]
 struct Arrival<'a> {
     responder: &'a Responder,
     number: Number,
 }
 
+/// Tests the guards that the rows of deliveries ask for.
 impl Guards for Arrival<'_> {
     ghost guards = { λ a. delivery_guards a.responder.now a.number };
 

@@ -9,6 +9,7 @@ use Rattle.ill_core.specs.RequesterTables.{wish_row, wish_body}
 use Rattle.ill_core.proofs.RequesterTable.{acts_this, transition_there, wished_kept, wished_is, act_used, act_memory}
 use Rattle.ill_core.proofs.requester.Requester.act.Goals as goal
 
+-- If a row fits and no number is left, the answer is the refusal of the number.
 pub returns-in_err-number : goal.returns-in_err-number
 returns-in_err-number c =
     let x = c.args.self.now in
@@ -19,9 +20,11 @@ returns-in_err-number c =
     let answer : c.from_residual.result ≡ Err c.in_err-number.field-0.0 = search rules in
     subst (λ r. Acts x wish r x) (sym answer) (act_used x wish row _ fits refused)
 
+-- If a row fits, the wish has a transition.
 pub body_of-requires : goal.body_of-requires
 body_of-requires c = record { done = transition_there c.args.self.now c.args.wish.now c.in-Some.row.now (search rules) }
 
+-- If `body_of` is out of memory, so is `act`, and the record does not change.
 pub returns-in_err-body : goal.returns-in_err-body
 returns-in_err-body c =
     let x = c.args.self.now in
@@ -33,6 +36,7 @@ returns-in_err-body c =
     let answer : c.from_residual-in_err-body.result ≡ Err c.in_err-body.field-0.0 = search rules in
     subst (λ r. Acts x wish r x) (sym answer) (act_memory x wish row _ _ fits next memory)
 
+-- If `issue` is out of memory, so is `act`, and the record does not change.
 pub returns-in_err-issue : goal.returns-in_err-issue
 returns-in_err-issue c =
     let x = c.args.self.now in
@@ -45,6 +49,7 @@ returns-in_err-issue c =
     let same : c.issue.new.self ≡ c.self.inside.issued = search rules in
     search (rules, act_memory x wish row _ _ fits next memory)
 
+-- The record after the row and the new APDU satisfies the rules of a requester.
 pub invariant_of-self-2 : goal.invariant_of-self-2
 invariant_of-self-2 c =
     let r = c.self.inside in
@@ -59,6 +64,7 @@ invariant_of-self-2 c =
     e.due issued in
     subst IsRequester (sym same) (wished_kept x c.args.wish.now row _ _ c.self.invariant fits next)
 
+-- The record after the row and the new APDU is the record of `acts`.
 pub returns : goal.returns
 returns c =
     let r = c.self.inside in

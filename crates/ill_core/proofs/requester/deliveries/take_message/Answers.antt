@@ -6,6 +6,7 @@ use Rattle.ill_core.specs.RequesterTables.{delivery_row}
 use Rattle.ill_core.proofs.RequesterTable.{takes_this, takes_none, takes_kept, after_is}
 use Rattle.ill_core.proofs.requester.deliveries.take_message.Goals as goal
 
+-- The record after the row satisfies the rules of a requester.
 pub invariant_of-requester : goal.invariant_of-requester
 invariant_of-requester c =
     let r = c.requester.inside in
@@ -18,6 +19,7 @@ invariant_of-requester c =
     let same = after_is x row _ _ _ _ _ _ e.state e.held e.checked_in e.due in
     subst IsRequester (sym same) (search (rules, takes_kept x a row c.requester.invariant fits))
 
+-- If a row fits, its answer and the record after it are those of `take_message`.
 pub returns-in-Some : goal.returns-in-Some
 returns-in-Some c =
     let r = c.requester.inside in
@@ -30,5 +32,6 @@ returns-in-Some c =
     let same = after_is x row _ _ _ _ _ _ e.state e.held e.checked_in e.due in
     search (rules, takes_this x a row fits, same)
 
+-- If no row fits, `take_message` answers a conflict.
 pub returns-in-None : goal.returns-in-None
 returns-in-None c = search (rules, takes_none)

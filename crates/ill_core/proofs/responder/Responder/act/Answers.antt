@@ -9,6 +9,7 @@ use Rattle.ill_core.proofs.ResponderTable.{acts_this, acts_forbidden, acts_numbe
 use Rattle.ill_core.proofs.Rules.{responder_rules}
 use Rattle.ill_core.proofs.responder.Responder.act.Goals as goal
 
+-- If a row fits and the date forbids the deed, the answer is the refusal of the date.
 pub returns-in_err-check_date : goal.returns-in_err-check_date
 returns-in_err-check_date c =
     let y = c.args.self.now in
@@ -16,6 +17,7 @@ returns-in_err-check_date c =
     let has : deed_row y.state c.args.deed.now ≡ Some row = search rules in
     search (rules, acts_forbidden y c.args.deed.now c.args.today row c.in_err-check_date.field-0.0 has)
 
+-- If row and date allow the deed and no number is left, the answer is the refusal of the number.
 pub returns-in_err-number : goal.returns-in_err-number
 returns-in_err-number c =
     let y = c.args.self.now in
@@ -24,6 +26,7 @@ returns-in_err-number c =
     let date : check_date y c.args.deed.now c.args.today ≡ Ok tt = search rules in
     search (rules, acts_numberless y c.args.deed.now c.args.today row c.in_err-number.field-0.0 has date)
 
+-- If `issue` is out of memory, so is `act`, and the record does not change.
 pub returns-in_err-issue : goal.returns-in_err-issue
 returns-in_err-issue c =
     let y = c.args.self.now in
@@ -33,6 +36,7 @@ returns-in_err-issue c =
     let next : next_number y.issued ≡ Ok c.in_ok-number.number = search rules in
     search (rules, acts_wanting y c.args.deed.now c.args.today row c.in_ok-number.number has date next)
 
+-- If a row fits, the record has the number or the date that the APDU of the deed needs.
 pub body_of-body-requires : goal.body_of-body-requires
 body_of-body-requires c =
     let r = c.self.inside in
@@ -40,6 +44,7 @@ body_of-body-requires c =
     r.standing.last_renew r.standing.received r.request r.issued.apdus in
     search (rules, responder_rules y c.self.invariant)
 
+-- The record after the row and the new APDU satisfies the rules of a responder.
 pub invariant_of-self-2 : goal.invariant_of-self-2
 invariant_of-self-2 c =
     let r = c.self.inside in
@@ -60,6 +65,7 @@ invariant_of-self-2 c =
     acts_this y deed c.args.today row number has date next in
     subst IsResponder (sym parts) (deed_kept y (after_deed y row number body) deed c.args.today c.self.invariant done)
 
+-- The record after the row and the new APDU is the record of `acts`.
 pub returns : goal.returns
 returns c =
     let r = c.self.inside in

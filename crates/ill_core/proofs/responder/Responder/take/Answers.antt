@@ -1,4 +1,5 @@
--- Proves the contract of `Responder::take` (`src/responder.rt`).
+-- Proves the contract of `Responder::take` (`src/responder.rt`). It holds because an APDU that `admit` lets pass is
+-- answered as `take_message` says.
 use Rattle.std.proofs.Common.{rules}
 use Rattle.ill_core.proofs.ResponderKept.{takes_admitted, admits_none}
 use Rattle.ill_core.proofs.responder.Responder.take.Goals as goal

@@ -1,4 +1,5 @@
--- Proves the contract of `ArrivalGuards::hold` (`src/responder/deliveries.rt`).
+-- Proves the contract of `ArrivalGuards::hold` (`src/responder/deliveries.rt`). It holds because `hold` joins the tests
+-- of the two lists of guards.
 use Rattle.ill_core.specs.ResponderTables.{reply_guards, past_guards}
 use Rattle.ill_core.proofs.TableLemmas.{both_met}
 use Rattle.ill_core.proofs.responder.deliveries.ArrivalGuards.hold.Goals as goal

@@ -1,4 +1,5 @@
--- States how a load and a save change a disk, call by call.
+-- Proves how a load and a save change a disk, call by call. The contracts of `load`, `save` and `place`
+-- (`src/lasting.rt`) follow from it.
 use Rattle.std.proofs.Common.{◌≡◌, inl, inr, ⊎_elim, refl, sym, ◌∙◌, ap, subst, arith, ℕ, zero, suc, ◌<◌, List, [], ◌∷◌}
 use Rattle.std.proofs.Common.{length}
 use Rattle.std.proofs.Common.{Option, Some, None, Result, Ok, Err, OnOk, IsErr, option_map, true}
@@ -17,20 +18,20 @@ use Rattle.ill_store.specs.DiskStore.{DiskPlaces, DiskSaves, after_placing}
 use Rattle.ill_store.specs.Store.{LoadLasts, SaveLasts}
 use Rattle.ill_store.specs.declared.store.StoreFault.{StoreFault}
 
--- A property of a disk with a change and without it holds after the call, done or failed.
+-- If `P` holds of `old` and of `change old`, it holds of the disk after the call, done or failed.
 pub either_way : {E : Type 0} (P : Disk → Type 0) (change : Disk → Disk) (old new : Disk) (result : Result (Unit {0}) E) →
     Changes change old result new → P old → P (change old) → P new
 either_way P change old new (Ok done) is without_it with_it = subst P (sym is) with_it
 either_way P change old new (Err fault) is without_it with_it =
     ⊎_elim (λ same. subst P (sym same) without_it) (λ changed. subst P (sym changed) with_it) is
 
--- A property of a disk with a change holds after the call that is done.
+-- If `P` holds of `change old`, it holds of the disk after a call that is done.
 pub done_gives : {E : Type 0} (P : Disk → Type 0) (change : Disk → Disk) (old new : Disk) (result : Result (Unit {0}) E) →
     Changes change old result new → P (change old) → OnOk result (P new)
 done_gives P change old new (Ok done) is with_it = subst P (sym is) with_it
 done_gives P change old new (Err fault) is with_it = tt
 
--- A file that was made has bytes.
+-- If `k` is the index of a file in `files`, `bytes_of` gives the bytes of this file.
 made_has_bytes : (files : List File) (k : ℕ) → k < length files → bytes_of files (Some k) ≡ None → ⊥
 made_has_bytes [] k lt none = omega (arith, lt)
 made_has_bytes (f ∷ files) zero lt none = none-some f.bytes (sym none)
@@ -39,6 +40,7 @@ made_has_bytes (f ∷ files) (suc k) lt none = made_has_bytes files k (omega (ar
 -- A crash after a flush of names leaves no record, if a read gave none.
 pub none_lasts : (path : List ℕ) (d : Disk) → IsWhole d → content path d ≡ None → Lasts path (after_flush_names d) None
 none_lasts path d whole none found left = go (found_at path d.names) refl where
+  -- `at` is the file that `path` names. If there were one, a read would have given its bytes.
   go : (at : Option ℕ) → found_at path d.names ≡ at → found ≡ None
   go None is = sym left.2 ∙ ap (λ (n : List Name). bytes_of left.0.files (found_at path n)) (names_left d left.0 left.1)
       ∙ ap (bytes_of left.0.files) is
@@ -79,7 +81,7 @@ remove_leaves aside path d differ found left = ⊎_elim
 
 -- ---- a load
 
--- A record that is kept is so after its file was flushed, or was not.
+-- If a path has its old record, it has this after a flush of its file, done or failed.
 pub flush_keeps : {E : Type 0} (path : List ℕ) (old read flushed : Disk) (result : Result (Unit {0}) E) →
     IsOld path old read → Changes (after_flush path) read result flushed → IsOld path old flushed
 flush_keeps path old read flushed result kept changes =
@@ -109,12 +111,12 @@ no_load_lasts path old read last same whole none names =
 
 -- ---- a load that ends at a call
 
--- The record is kept at each moment so far.
+-- On an honest disk, at each moment from `old` to `new`, a read and each crash give the old record.
 pub record HasKept (path : List ℕ) (old new : DiskState) : Type 0 where
   pub moments : old.is_honest ≡ true → Throughout (IsOld path old.now) old new
   pub honest : new.is_honest ≡ old.is_honest
 
--- A read keeps the record.
+-- A read satisfies `HasKept`, done or failed.
 pub read_has_kept : {X E : Type 0} {bytes_of : X → List ℕ} {path : List ℕ} {old read : DiskState}
     {answer : Result (Option X) E} → Answers (Reads bytes_of path) old answer read → HasKept path old read
 read_has_kept {path = path} {old = old} reads = record {
@@ -125,7 +127,7 @@ read_has_kept {path = path} {old = old} reads = record {
   honest = reads.honest;
 }
 
--- A flush of the file of the record keeps it.
+-- If `HasKept` holds, it holds after a flush of the file of the record, done or failed.
 pub flush_has_kept : {E : Type 0} {path : List ℕ} {old read flushed : DiskState} {answer : Result (Unit {0}) E} →
     HasKept path old read → Answers (Changes (after_flush path)) read answer flushed → HasKept path old flushed
 flush_has_kept {path = path} {old = old} {read = read} {flushed = flushed} {answer = answer} so_far flushes = record {
@@ -134,7 +136,7 @@ flush_has_kept {path = path} {old = old} {read = read} {flushed = flushed} {answ
   honest = flushes.honest ∙ so_far.honest;
 }
 
--- A flush of the names keeps the record.
+-- If `HasKept` holds, it holds after a flush of the names, done or failed.
 pub names_have_kept : {E : Type 0} {path : List ℕ} {old flushed last : DiskState} {answer : Result (Unit {0}) E} →
     HasKept path old flushed → Answers (Changes after_flush_names) flushed answer last → HasKept path old last
 names_have_kept {path = path} {old = old} {flushed = flushed} {last = last} {answer = answer} so_far flushes = record {
@@ -143,7 +145,7 @@ names_have_kept {path = path} {old = old} {flushed = flushed} {last = last} {ans
   honest = flushes.honest ∙ so_far.honest;
 }
 
--- A load that fails after the record was kept keeps it.
+-- If `HasKept` holds up to the end of a load that answers `Err`, the load satisfies `DiskLoads`.
 pub load_fails : {X E : Type 0} {bytes_of : X → List ℕ} {path : List ℕ} {old last : DiskState}
     {answer : Result (Option X) E} → IsErr answer → HasKept path old last → DiskLoads bytes_of path old answer last
 load_fails {answer = Ok found} is so_far = absurd (true≢false (sym is))
@@ -154,7 +156,7 @@ load_fails {answer = Err fault} is so_far = record {
   honest = so_far.honest;
 }
 
--- A load of no record is done after the names were flushed.
+-- If a read gives no record, and the names are flushed, the load that answers `None` satisfies `DiskLoads`.
 pub no_record_loads : {X E : Type 0} {bytes_of : X → List ℕ} {path : List ℕ} {old read last : DiskState}
     {found : Option X} {done : Unit {0}} → found ≡ None → Answers {E = E} (Reads bytes_of path) old (Ok found) read →
     Answers {E = E} (Changes after_flush_names) read (Ok done) last → DiskLoads {E = E} bytes_of path old (Ok None) last
@@ -169,7 +171,7 @@ no_record_loads {bytes_of = bytes_of} {path = path} {old = old} {read = read} {l
       honest = so_far.honest;
     }
 
--- A load of a record is done after its file and the names were flushed.
+-- If a read gives `saved`, and its file and the names are flushed, the load that answers `saved` satisfies `DiskLoads`.
 pub record_loads : {X E : Type 0} {bytes_of : X → List ℕ} {path : List ℕ} {old read flushed last : DiskState}
     {found : Option X} {saved : X} {one two : Unit {0}} → found ≡ Some saved →
     Answers {E = E} (Reads bytes_of path) old (Ok found) read →
@@ -188,6 +190,8 @@ record_loads {bytes_of = bytes_of} {path = path} {old = old} {read = read} {flus
 
 -- ---- a save, after an older new file was removed
 
+-- The disk `d` is whole, and has the old record. A read gives what a read of the disk `first` gave. A crash leaves what
+-- a crash of `first` might have left.
 module _ (aside path bytes : List ℕ) (first d : Disk) (whole : IsWhole d) (differ : aside ≡ path → ⊥)
     (reads : content path d ≡ content path first) (lefts : LeavesOld path first d) where
   -- A read of the disk gives the old record or the new one, and so does each crash.
@@ -211,7 +215,8 @@ module _ (aside path bytes : List ℕ) (first d : Disk) (whole : IsWhole d) (dif
   way_left x on_way found left = ⊎_elim (λ old. inl (lefts found old)) inr
       (save_moments aside path bytes d whole differ x on_way found left)
 
-  -- A read of each disk on the way gives the old record or the new one.
+  -- A read of each disk on the way gives the old record or the new one. The cases are `d`, and the disk after each
+  -- call: making, flush and rename of the new file, flush of the names.
   way_read : (x : Disk) → In (on_the_way aside path bytes d) x → ReadsOldOr path bytes first x
   way_read x (inl is) = inl (ap (content path) is ∙ reads)
   way_read x (inr (inl is)) = inl (ap (content path) is ∙ create_elsewhere aside path bytes d whole differ ∙ reads)
@@ -287,7 +292,7 @@ save_is_seen aside path bytes d placed last result whole differ is names =
 
 -- ---- the calls of a placing
 
--- The disk has the old record or the new one at each moment so far.
+-- On an honest disk, at each moment from `old` to `new`, a read and each crash give the old record or `bytes`.
 pub record HasSaved (path bytes : List ℕ) (old new : DiskState) : Type 0 where
   pub moments : old.is_honest ≡ true → Throughout (IsOldOrNew path bytes old.now) old new
   pub honest : new.is_honest ≡ old.is_honest
@@ -303,7 +308,7 @@ module _ {E : Type 0} {aside path bytes : List ℕ} {old made : DiskState} {maki
     honest = creates.honest;
   }
 
-  -- A placing that fails to make the new file keeps the record.
+  -- A placing that ends here, because the making of the new file failed, satisfies `DiskPlaces`.
   pub making_fails : {answer : Result (Unit {0}) E} → IsErr answer → DiskPlaces aside path bytes old answer made
   making_fails {answer = Ok done} is = absurd (true≢false (sym is))
   making_fails {answer = Err fault} is = record {
@@ -327,7 +332,7 @@ module _ {E : Type 0} {aside path bytes : List ℕ} {old made flushed : DiskStat
         honest = flushes.honest ∙ creates.honest;
       }
 
-  -- A placing that fails to flush the new file keeps the record.
+  -- A placing that ends here, because the flush of the new file failed, satisfies `DiskPlaces`.
   pub flushing_fails : {answer : Result (Unit {0}) E} → IsErr answer → DiskPlaces aside path bytes old answer flushed
   flushing_fails {answer = Ok done} is = absurd (true≢false (sym is))
   flushing_fails {answer = Err fault} is = record {
@@ -343,15 +348,15 @@ module _ {E : Type 0} {aside path bytes : List ℕ} {old made flushed renamed : 
     (creates : Answers {E = E} (Creates aside bytes) old (Ok one) made)
     (flushes : Answers {E = E} (Changes (after_flush aside)) made (Ok two) flushed)
     (renames : Answers (Changes (after_rename aside path)) flushed renaming renamed) where
-  -- The disk was honest when the new file was flushed.
+  -- If the disk `old` is honest, so is the disk after the new file was flushed.
   still_honest : old.is_honest ≡ true → flushed.is_honest ≡ true
   still_honest h = flushes.honest ∙ creates.honest ∙ h
 
-  -- The disk is the one after the new file was flushed.
+  -- If the disk `old` is honest, the flush of the new file changed the disk `made` as it says.
   flushed_is : old.is_honest ≡ true → flushed.now ≡ after_flush aside made.now
   flushed_is h = flushes.done (creates.honest ∙ h)
 
-  -- A placing ends after the new file was renamed, or was not.
+  -- A placing that ends with the answer of the rename, done or failed, satisfies `DiskPlaces`.
   pub placing_ends : DiskPlaces aside path bytes old renaming renamed
   placing_ends =
       let before : HasSaved path bytes old flushed = so_flushed differ creates flushes in record {
@@ -367,7 +372,7 @@ module _ {E : Type 0} {aside path bytes : List ℕ} {old made flushed renamed : 
 
 -- ---- the calls of a save
 
--- A look-up keeps the record.
+-- A look-up satisfies `HasKept`, done or failed.
 pub look_up_has_kept : {E : Type 0} {path : List ℕ} {old looked : DiskState} {answer : Result (Unit {0}) E} →
     Answers (Changes unchanged) old answer looked → HasKept path old looked
 look_up_has_kept {path = path} {old = old} {looked = looked} {answer = answer} looks = record {
@@ -376,7 +381,7 @@ look_up_has_kept {path = path} {old = old} {looked = looked} {answer = answer} l
   honest = looks.honest;
 }
 
--- A removal of another path keeps the record.
+-- If `HasKept` holds, it holds after a removal at another path `aside`, done or failed.
 pub remove_has_kept : {E : Type 0} {aside path : List ℕ} {old looked cleared : DiskState} {answer : Result (Unit {0}) E} →
     (aside ≡ path → ⊥) → HasKept path old looked → Answers (Changes (after_remove aside)) looked answer cleared →
     HasKept path old cleared
@@ -390,11 +395,11 @@ remove_has_kept {aside = aside} {path = path} {old = old} {looked = looked} {cle
       honest = removes.honest ∙ so_far.honest;
     }
 
--- A disk with the old record has the old record or the new one.
+-- If the disk `d` satisfies `IsOld`, it satisfies `IsOldOrNew`.
 old_is_fine : (path bytes : List ℕ) (old d : Disk) → IsOld path old d → IsOldOrNew path bytes old d
 old_is_fine path bytes old d kept = (inl kept.0, λ found left. inl (kept.1 found left))
 
--- A disk with the record of a disk with the old record, or with the new one, has the old record or the new one.
+-- If `d` satisfies `IsOld`, and `x` has the record of `d` or the new one, `x` satisfies `IsOldOrNew`.
 fine_again : (path bytes : List ℕ) (old d : Disk) → IsOld path old d → (x : Disk) → IsOldOrNew path bytes d x →
     IsOldOrNew path bytes old x
 fine_again path bytes old d kept x fine = (
@@ -402,7 +407,7 @@ fine_again path bytes old d kept x fine = (
   λ found left. ⊎_elim (λ was. inl (kept.1 found was)) inr (fine.1 found left),
 )
 
--- A disk with the old record or the new one is so after another path was removed.
+-- If the disk `d` satisfies `IsOldOrNew`, so does the disk after another path `aside` is removed.
 fine_without : (aside path bytes : List ℕ) (old d : Disk) → (aside ≡ path → ⊥) → IsOldOrNew path bytes old d →
     IsOldOrNew path bytes old (after_remove aside d)
 fine_without aside path bytes old d differ fine = (
@@ -411,7 +416,7 @@ fine_without aside path bytes old d differ fine = (
   λ found left. fine.1 found (remove_leaves aside path d differ found left),
 )
 
--- A save that fails while the record is kept keeps it.
+-- If `HasKept` holds up to the end of a save that answers `Err`, the save satisfies `DiskSaves`.
 pub early_save_fails : {E : Type 0} {path bytes : List ℕ} {old last : DiskState} {answer : Result (Unit {0}) E} →
     IsErr answer → HasKept path old last → DiskSaves path bytes old answer last
 early_save_fails {answer = Ok done} is so_far = absurd (true≢false (sym is))
@@ -425,7 +430,7 @@ early_save_fails {path = path} {bytes = bytes} {old = old} {answer = Err fault} 
 -- The old record was kept until a new one was placed, or was not.
 module _ {E : Type 0} {aside path bytes : List ℕ} {old cleared placed : DiskState} {placing : Result (Unit {0}) E}
     (so_far : HasKept path old cleared) (places : DiskPlaces aside path bytes cleared placing placed) where
-  -- The disk was honest when it was cleared.
+  -- If the disk `old` is honest, so is the disk after `aside` was removed.
   was_honest : old.is_honest ≡ true → cleared.is_honest ≡ true
   was_honest h = so_far.honest ∙ h
 
@@ -437,7 +442,8 @@ module _ {E : Type 0} {aside path bytes : List ℕ} {old cleared placed : DiskSt
     honest = places.honest ∙ so_far.honest;
   }
 
--- A save that cannot place the new record, and then removes what stands aside, leaves the old record or the new one.
+-- A save whose placing failed, and which then removes what stands at `aside`, satisfies `DiskSaves`. The removal may
+-- fail.
 pub save_fails : {D E : Type 0} {aside path bytes : List ℕ} {old cleared placed last : DiskState} {fault : E}
     {removal : Result (Unit {0}) D} → (aside ≡ path → ⊥) → HasKept path old cleared →
     DiskPlaces {E = E} aside path bytes cleared (Err fault) placed →
@@ -454,7 +460,7 @@ save_fails {aside = aside} {path = path} {bytes = bytes} {old = old} {placed = p
       honest = removes.honest ∙ before.honest;
     }
 
--- A save ends after the new record was placed, and the names were flushed, or were not.
+-- A save that has placed the new record, and answers as the flush of the names, satisfies `DiskSaves`.
 pub save_ends : {E : Type 0} {aside path bytes : List ℕ} {old cleared placed last : DiskState}
     {ending : Result (Unit {0}) E} {one : Unit {0}} → (aside ≡ path → ⊥) → HasKept path old cleared →
     DiskPlaces {E = E} aside path bytes cleared (Ok one) placed →
@@ -475,7 +481,7 @@ save_ends {aside = aside} {path = path} {bytes = bytes} {old = old} {cleared = c
 
 -- ---- a store that answers as its disk did
 
--- A load that was done is one at an equal path, of equal disks, with any type of faults.
+-- If paths and disks are equal, a load done at one is done at the other, with any type of faults.
 pub done_load_at : {X E F : Type 0} {bytes_of : X → List ℕ} {p q : List ℕ} {a b d e : DiskState} {found : Option X} →
     p ≡ q → a ≡ b → d ≡ e → DiskLoads {E = E} bytes_of p a (Ok found) d → DiskLoads {E = F} bytes_of q b (Ok found) e
 done_load_at {F = F} {bytes_of = bytes_of} {p = p} {a = a} {b = b} {e = e} {found = found} path old new loads =
@@ -488,7 +494,7 @@ done_load_at {F = F} {bytes_of = bytes_of} {p = p} {a = a} {b = b} {e = e} {foun
       honest = loads.honest;
     })))
 
--- A load that failed is one at an equal path, of equal disks, with any fault.
+-- If paths and disks are equal, a load that failed at one failed at the other, with any fault.
 pub failed_load_at : {X E F : Type 0} {bytes_of : X → List ℕ} {p q : List ℕ} {a b d e : DiskState} {fault : E}
     {other : F} → p ≡ q → a ≡ b → d ≡ e → DiskLoads bytes_of p a (Err fault) d → DiskLoads bytes_of q b (Err other) e
 failed_load_at {bytes_of = bytes_of} {p = p} {a = a} {b = b} {e = e} {other = other} path old new loads =
@@ -514,7 +520,7 @@ done_save_at {F = F} {p = p} {bytes = bytes} {a = a} {b = b} {e = e} {done = don
       honest = saves.honest;
     })))
 
--- A save that failed is one at an equal path, of equal disks, with any fault.
+-- If paths and disks are equal, a save that failed at one failed at the other, with any fault.
 pub failed_save_at : {E F : Type 0} {p q bytes : List ℕ} {a b d e : DiskState} {fault : E} {other : F} → p ≡ q →
     a ≡ b → d ≡ e → DiskSaves p bytes a (Err fault) d → DiskSaves q bytes b (Err other) e
 failed_save_at {p = p} {bytes = bytes} {a = a} {b = b} {e = e} {other = other} path old new saves =
@@ -527,7 +533,7 @@ failed_save_at {p = p} {bytes = bytes} {a = a} {b = b} {e = e} {other = other} p
       honest = saves.honest;
     })))
 
--- A load that fails before its first call changes nothing.
+-- A load that fails before its first call, and leaves the disk as it was, satisfies `DiskLoads`.
 pub no_call_loads : {X E : Type 0} {bytes_of : X → List ℕ} {path : List ℕ} {old new : DiskState} {fault : E} → new ≡ old →
     DiskLoads bytes_of path old (Err fault) new
 no_call_loads {bytes_of = bytes_of} {path = path} {old = old} {fault = fault} same =
@@ -538,7 +544,7 @@ no_call_loads {bytes_of = bytes_of} {path = path} {old = old} {fault = fault} sa
       honest = refl;
     })
 
--- A save that fails before its first call changes nothing.
+-- A save that fails before its first call, and leaves the disk as it was, satisfies `DiskSaves`.
 pub no_call_saves : {E : Type 0} {path bytes : List ℕ} {old new : DiskState} {fault : E} → new ≡ old →
     DiskSaves path bytes old (Err fault) new
 no_call_saves {path = path} {bytes = bytes} {old = old} {fault = fault} same =
@@ -551,7 +557,8 @@ no_call_saves {path = path} {bytes = bytes} {old = old} {fault = fault} same =
 
 -- ---- what a loss of power leaves in a store
 
--- After a load a loss of power leaves the record that was read, or what it might have left before.
+-- After a load on an honest disk, a loss of power leaves the record that was read. If the load failed, it leaves what
+-- it might have left before.
 pub load_leaves : {X : Type 0} {bytes_of : X → List ℕ} {p q : List ℕ} {old new : DiskState}
     {answer : Result (Option X) StoreFault} → q ≡ p → DiskLoads bytes_of p old answer new → old.is_honest ≡ true →
     LoadLasts (content p old.now) (Leaves old.now p) answer (Leaves new.now q)
@@ -560,7 +567,8 @@ load_leaves {new = new} {answer = Ok found} same loads h = λ left leaves.
 load_leaves {new = new} {answer = Err fault} same loads h = λ left leaves.
     (loads.moments h).last.1 left (subst (λ (r : List ℕ). Leaves new.now r left) same leaves)
 
--- After a save a loss of power leaves the new record, or, if the save failed, what it might have left before.
+-- After a save on an honest disk, a loss of power leaves the new record. If the save failed, it leaves this or what it
+-- might have left before.
 pub save_leaves : {p q bytes : List ℕ} {old new : DiskState} {answer : Result (Unit {0}) StoreFault} → q ≡ p →
     DiskSaves p bytes old answer new → old.is_honest ≡ true →
     SaveLasts bytes (Leaves old.now p) answer (Leaves new.now q)

@@ -1,4 +1,4 @@
--- Lemmas on what loads and saves leave at each moment.
+-- Proves the laws of loads and saves: what reads and crashes give at each moment of a call.
 use Rattle.std.proofs.Common.{◌≡◌, ◌⊎◌, inl, inr, ⊎_elim, refl, sym, ◌∙◌, subst, ℕ, true, List, Option, Some, None, Result, Ok}
 use Rattle.std.proofs.Common.{IfOk, OnOk, option_map}
 use Rattle.ill_disk.specs.Disk.{Disk, Crash, content}
@@ -10,12 +10,12 @@ use Rattle.ill_store.specs.BadStore as bad
 use Rattle.ill_store.specs.Store.{LoadLasts, SaveLasts}
 use Rattle.ill_store.specs.declared.store.StoreFault.{StoreFault}
 
--- A record as a load reads it is itself.
+-- If the bytes of a record are taken as they are, `option_map` does not change the record.
 as_read : (found : Option (List ℕ)) → option_map (λ (b : List ℕ). b) found ≡ found
 as_read None = refl
 as_read (Some bytes) = refl
 
--- A load that is done gives what a read would give.
+-- If a load of the honest disk `later` is done, it gives what a read of `path` there would give.
 read_is : {E : Type 0} (path : List ℕ) (later last : DiskState) (again : Result (Option (List ℕ)) E)
     (read : Option (List ℕ)) → later.is_honest ≡ true → DiskLoads (λ b. b) path later again last → again ≡ Ok read →
     read ≡ content path later.now
@@ -23,18 +23,19 @@ read_is {E = E} path later last again read h loads is = sym (as_read read)
     ∙ subst (λ (r : Result (Option (List ℕ)) E). IfOk r (λ f. option_map (λ (b : List ℕ). b) f ≡ content path later.now)) is
     (loads.loaded h)
 
--- Each moment of a load leaves what might have been left before.
+-- On an honest disk, a read and each crash at a moment `d` of a load give the old record.
 load_moment : {E : Type 0} (path : List ℕ) (old new : DiskState) (answer : Result (Option (List ℕ)) E) (d : Disk) →
     old.is_honest ≡ true → DiskLoads (λ b. b) path old answer new → IsMoment old new d → IsOld path old.now d
 load_moment path old new answer d h loads moment = each_moment (IsOld path old.now) old new d (loads.moments h) moment
 
--- Each moment of a save leaves what might have been left before, or the new record.
+-- On an honest disk, a read and each crash at a moment `d` of a save give the old record or `bytes`.
 save_moment : {E : Type 0} (path bytes : List ℕ) (old new : DiskState) (answer : Result (Unit {0}) E) (d : Disk) →
     old.is_honest ≡ true → DiskSaves path bytes old answer new → IsMoment old new d → IsOldOrNew path bytes old.now d
 save_moment path bytes old new answer d h saves moment =
     each_moment (IsOldOrNew path bytes old.now) old new d (saves.moments h) moment
 
--- After a load that was cut the next load gives the record that lasted before.
+-- A crash comes at a moment of a load, before which the record `lasted` lasts. Then the next load that is done gives
+-- `lasted`.
 pub cut_load : {E : Type 0} (path : List ℕ) (old new later last : DiskState) (moment : Disk)
     (lasted read : Option (List ℕ)) (answer again : Result (Option (List ℕ)) E) → old.is_honest ≡ true →
     Lasts path old.now lasted → DiskLoads (λ b. b) path old answer new → IsMoment old new moment →
@@ -44,7 +45,8 @@ cut_load path old new later last moment lasted read answer again h lasts loads a
     lasts read ((load_moment path old new answer moment h loads at).1 read
     (later.now, crash, sym (read_is path later last again read g loads_again is)))
 
--- After a save that was cut the next load gives the record that lasted before, or the new one.
+-- A crash comes at a moment of a save of `bytes`, before which the record `lasted` lasts. Then the next load that is
+-- done gives `lasted` or `bytes`.
 pub cut_save : {E : Type 0} (path bytes : List ℕ) (old new later last : DiskState) (moment : Disk)
     (lasted read : Option (List ℕ)) (answer : Result (Unit {0}) E) (again : Result (Option (List ℕ)) E) →
     old.is_honest ≡ true → Lasts path old.now lasted → DiskSaves path bytes old answer new → IsMoment old new moment →
@@ -55,7 +57,7 @@ cut_save path bytes old new later last moment lasted read answer again h lasts s
     ((save_moment path bytes old new answer moment h saves at).1 read
     (later.now, crash, sym (read_is path later last again read g loads_again is)))
 
--- No load is bad.
+-- A load that satisfies `DiskLoads` is no `IsBadLoad`. Each case contradicts one clause.
 pub none_bad_load : {E : Type 0} (path : List ℕ) (old new : DiskState) (answer : Result (Option (List ℕ)) E) →
     DiskLoads (λ b. b) path old answer new → IsBadLoad path old answer new → ⊥
 none_bad_load path old new answer loads (bad.other_record found h is differ) =
@@ -69,7 +71,7 @@ none_bad_load path old new answer loads (bad.other_meanwhile d h moment differ) 
     differ (load_moment path old new answer d h loads moment).0
 none_bad_load path old new answer loads (bad.turned differ) = differ loads.honest
 
--- No save is bad.
+-- A save that satisfies `DiskSaves` is no `IsBadSave`. Each case contradicts one clause.
 pub none_bad_save : {E : Type 0} (path bytes : List ℕ) (old new : DiskState) (answer : Result (Unit {0}) E) →
     DiskSaves path bytes old answer new → IsBadSave path bytes old answer new → ⊥
 none_bad_save {E = E} path bytes old new answer saves (bad.not_saved done h is differ) =
@@ -82,7 +84,7 @@ none_bad_save path bytes old new answer saves (bad.third_read d h moment not_old
     ⊎_elim not_old not_new (save_moment path bytes old new answer d h saves moment).0
 none_bad_save path bytes old new answer saves (bad.turned differ) = differ saves.honest
 
--- No load loses the record that a loss of power leaves.
+-- If a load satisfies `LoadLasts`, a loss of power after it leaves no record that `LosesLoaded` names.
 pub none_loses_loaded : {X : Type 0} (landed : Option (List ℕ)) (before : Option (List ℕ) → Type 0)
     (answer : Result X StoreFault) (after : Option (List ℕ) → Type 0) → LoadLasts landed before answer after →
     LosesLoaded landed before answer after → ⊥
@@ -91,7 +93,7 @@ none_loses_loaded {X = X} landed before answer after lasts (bad.not_the_landed f
 none_loses_loaded {X = X} landed before answer after lasts (bad.none_of_before fault left is leaves differ) =
     differ (subst (λ (r : Result X StoreFault). LoadLasts landed before r after) is lasts left leaves)
 
--- No save loses the record that a loss of power leaves.
+-- If a save satisfies `SaveLasts`, a loss of power after it leaves no record that `LosesSaved` names.
 pub none_loses_saved : (bytes : List ℕ) (before : Option (List ℕ) → Type 0) (answer : Result (Unit {0}) StoreFault)
     (after : Option (List ℕ) → Type 0) → SaveLasts bytes before answer after → LosesSaved bytes before answer after → ⊥
 none_loses_saved bytes before answer after lasts (bad.not_the_saved done left is leaves differ) =

@@ -5,7 +5,9 @@ use Rattle.ill_disk.specs.Disk.{Disk, Leaves, content}
 use Rattle.ill_disk.specs.Calls.{DiskState, IsMoment}
 use Rattle.ill_store.specs.declared.store.StoreFault.{StoreFault}
 
--- A load at this path cannot answer so, and leave the disk in the state `new`.
+-- A load at this path cannot answer so, and leave the disk in the state `new`. It gives another record than a read
+-- would, or a crash loses the record, later or meanwhile. Or a read meanwhile gives another record, or the honesty
+-- changes.
 pub data IsBadLoad {E : Type 0} (path : List ℕ) (old : DiskState) (answer : Result (Option (List ℕ)) E) (new : DiskState)
     : Type 0 where
   other_record : (found : Option (List ℕ)) → old.is_honest ≡ true → answer ≡ Ok found →
@@ -18,7 +20,8 @@ pub data IsBadLoad {E : Type 0} (path : List ℕ) (old : DiskState) (answer : Re
       (content path d ≡ content path old.now → ⊥) → IsBadLoad path old answer new
   turned : (new.is_honest ≡ old.is_honest → ⊥) → IsBadLoad path old answer new
 
--- A save of these bytes at this path cannot answer so, and leave the disk in the state `new`.
+-- A save of these bytes at this path cannot answer so, and leave the disk in the state `new`. A read does not give the
+-- bytes, or a later crash loses them. Or a crash or a read meanwhile gives a third record, or the honesty changes.
 pub data IsBadSave {E : Type 0} (path bytes : List ℕ) (old : DiskState) (answer : Result (Unit {0}) E) (new : DiskState)
     : Type 0 where
   not_saved : (done : Unit {0}) → old.is_honest ≡ true → answer ≡ Ok done → (content path new.now ≡ Some bytes → ⊥) →
@@ -33,7 +36,8 @@ pub data IsBadSave {E : Type 0} (path bytes : List ℕ) (old : DiskState) (answe
 
 -- ---- what a loss of power leaves
 
--- A loss of power cannot leave such a record after a load of this answer.
+-- A loss of power cannot leave such a record after a load with this answer. After `Ok` it is not the landed one, and
+-- after `Err` it is none that might have been left before.
 pub data LosesLoaded {X : Type 0} (landed : Option (List ℕ)) (before : Option (List ℕ) → Type 0)
     (answer : Result X StoreFault) (after : Option (List ℕ) → Type 0) : Type 0 where
   not_the_landed : (found : X) (left : Option (List ℕ)) → answer ≡ Ok found → after left → (left ≡ landed → ⊥) →
@@ -41,7 +45,8 @@ pub data LosesLoaded {X : Type 0} (landed : Option (List ℕ)) (before : Option 
   none_of_before : (fault : StoreFault) (left : Option (List ℕ)) → answer ≡ Err fault → after left → (before left → ⊥) →
       LosesLoaded landed before answer after
 
--- A loss of power cannot leave such a record after a save of `bytes` with this answer.
+-- A loss of power cannot leave such a record after a save of `bytes` with this answer. After `Ok` it is not `bytes`.
+-- After `Err` it is neither `bytes` nor one that might have been left before.
 pub data LosesSaved (bytes : List ℕ) (before : Option (List ℕ) → Type 0) (answer : Result (Unit {0}) StoreFault)
     (after : Option (List ℕ) → Type 0) : Type 0 where
   not_the_saved : (done : Unit {0}) (left : Option (List ℕ)) → answer ≡ Ok done → after left → (left ≡ Some bytes → ⊥) →

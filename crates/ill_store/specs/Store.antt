@@ -64,7 +64,7 @@ FailsCounted answer old new = Unit {0}
 abbrev pub CountsFailure : {X : Type 0} → Result X StoreFault → ℕ → ℕ → Type 0
 CountsFailure answer old new = (old ≤ new) × FailsCounted answer old new
 
--- If memory ran out, the call takes memory: `takes_memory` is true.
+-- If the call answers `OutOfMemory`, it may take memory: the first argument is true.
 abbrev pub RunsOutOnlyIf : {X : Type 0} → Bool → Result X StoreFault → Type 0
 RunsOutOnlyIf true answer = Unit {0}
 RunsOutOnlyIf false (Err OutOfMemory) = ⊥
@@ -87,7 +87,8 @@ pub record StoreState : Type 0 where
   pub plan : Option NextCall
 
 -- The store answers a load, and is in the state `new` after it. Its path stays.
--- An honest store gives the landed bytes, does not change them, and follows its plan.
+-- An honest store gives the landed bytes, does not change them, and follows its plan. Each store counts a failure,
+-- keeps its honesty, and spends its plan.
 pub record StoreLoads {X : Type 0} (bytes_of : X → List ℕ) (old : StoreState) (answer : Result (Option X) StoreFault)
     (new : StoreState) : Type 0 where
   pub path : new.path ≡ old.path
@@ -99,7 +100,8 @@ pub record StoreLoads {X : Type 0} (bytes_of : X → List ℕ) (old : StoreState
   pub plan : new.plan ≡ plan_after_call old.plan
 
 -- The store answers a save of `bytes`, and is in the state `new` after it. Its path stays.
--- In an honest store the bytes land as it answers, and it follows its plan.
+-- In an honest store the bytes land as it answers, and it follows its plan. Each store counts a failure, keeps its
+-- honesty, and spends its plan.
 pub record StoreSaves (bytes : List ℕ) (old : StoreState) (answer : Result (Unit {0}) StoreFault) (new : StoreState)
     : Type 0 where
   pub path : new.path ≡ old.path

@@ -26,6 +26,8 @@ pub struct DiskStore<D: Disk> {
     failures: u64,
 }
 
+/// The value of a store is its disk, its path, its limit and its count of failures. The path `aside` is that of the
+/// record with `.new` at its end.
 impl<D: Disk> Model for DiskStore<D> {
     ghost Value = { DiskStoreOf D };
 
@@ -79,7 +81,7 @@ impl<D: Disk> DiskStore<D> {
         &self.disk
     }
 
-    /// Returns true if the path of the record is that of a file beside a record.
+    /// Returns true if the path of the record ends with `.new` or `.lck`, as that of a file beside a record.
     fn is_reserved(&self) -> bool {
         regular_file::is_reserved(&self.path)
     }

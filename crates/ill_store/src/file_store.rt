@@ -24,6 +24,7 @@ pub struct FileStore<'a, R: Files> {
     store: DiskStore<HostDisk<'a, R>>,
 }
 
+/// The value of a store in a file is its path, its limit and its count of failures. The content is no part of it.
 impl<'a, R: Files> Model for FileStore<'a, R> {
     ghost Value = { FileStoreState };
 

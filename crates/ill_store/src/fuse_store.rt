@@ -17,6 +17,7 @@ pub struct FuseStore<S: Store> {
     failures: u64,
 }
 
+/// The value of a fuse is its inner store, the number of calls left, and its own count of failures.
 impl<S: Store> Model for FuseStore<S> {
     ghost Value = { FuseOf S };
 

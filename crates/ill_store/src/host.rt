@@ -7,7 +7,7 @@ use std::alloc::Global;
 use std::test::Fail;
 use std::{env, fs};
 
-/// Returns the path of a file in the system's folder for temporary files.
+/// Returns the path of the file `name` in `folder`.
 fn path_in(alloc: Global, folder: &str, name: &str) -> Result<String, Fail> {
     Ok(format!(in alloc; "{folder}/{name}")?)
 }

@@ -18,6 +18,7 @@ pub struct MemoryStore {
     next: NextCall,
 }
 
+/// The value of a store in memory is its landed bytes, its count of failures, and its plan.
 impl Model for MemoryStore {
     ghost Value = { MemoryStoreState };
 

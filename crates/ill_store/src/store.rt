@@ -21,6 +21,7 @@ pub enum StoreFault {
     OutOfMemory,
 }
 
+/// Turns an allocation that was refused into `OutOfMemory`.
 impl From<AllocError> for StoreFault {
     ghost from_gives = { λ _ fault. fault ≡ OutOfMemory };
 
@@ -29,6 +30,7 @@ impl From<AllocError> for StoreFault {
     }
 }
 
+/// Turns an allocation that was refused, with the value that was to be stored, into `OutOfMemory`.
 impl<T: Drop> From<AllocFailed<T>> for StoreFault {
     ghost from_gives = { λ _ fault. fault ≡ OutOfMemory };
 

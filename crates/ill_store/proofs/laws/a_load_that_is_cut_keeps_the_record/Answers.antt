@@ -1,3 +1,4 @@
+-- Proves the contract of `a_load_that_is_cut_keeps_the_record` (`src/laws.rt`).
 use Rattle.ill_store.proofs.Moments.{cut_load}
 use Rattle.ill_store.proofs.laws.a_load_that_is_cut_keeps_the_record.Goals as goal
 

@@ -1,3 +1,4 @@
+-- Proves the contract of `a_save_that_is_cut_leaves_one_record_whole` (`src/laws.rt`).
 use Rattle.ill_store.proofs.Moments.{cut_save}
 use Rattle.ill_store.proofs.laws.a_save_that_is_cut_leaves_one_record_whole.Goals as goal
 

@@ -1,3 +1,4 @@
+-- Proves the contract of `no_load_is_bad` (`src/laws.rt`).
 use Rattle.ill_store.proofs.Moments.{none_bad_load}
 use Rattle.ill_store.proofs.laws.no_load_is_bad.Goals as goal
 

@@ -1,3 +1,4 @@
+-- Proves the contract of `no_save_is_bad` (`src/laws.rt`).
 use Rattle.ill_store.proofs.Moments.{none_bad_save}
 use Rattle.ill_store.proofs.laws.no_save_is_bad.Goals as goal
 

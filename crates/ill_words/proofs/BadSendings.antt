@@ -1,4 +1,4 @@
--- The definitions of the end of a loan, and of the sides that send, exclude the wrong answers.
+-- Proves that `is_over` and `wants_sending` give none of the wrong answers of `BadSending`.
 use Rattle.std.proofs.Common.{rules, ◌≡◌, Bool, true, false, not, [], ◌∷◌, refl, sym, ap, ◌∙◌}
 use Rattle.std.proofs.lemmas.Bool.{true≢false, or_from, or_right}
 use Rattle.ill_core.specs.declared.state.State.{State}
@@ -67,14 +67,14 @@ unsettled_is_open : (side : Side)
 unsettled_is_open (sides.Requester x) is = unsettled_requester x.state (is_declined x) x.checked_in is
 unsettled_is_open (sides.Responder y) is = unsettled_responder y.state is
 
--- A requester has no verbs if it is nobody's turn.
+-- If it is nobody's turn by a requester's record in the state `s`, the requester has no verbs.
 over_requester : (s : State) (declined checked_in received : Bool)
     → is_nobodys (requester_turn_in s declined checked_in) ≡ true → requester_verbs_in s declined received ≡ []
 over_requester states.Conditional true checked_in received over = refl
 over_requester states.Conditional false checked_in received over = search rules
 over_requester s declined checked_in received over = search rules
 
--- A responder has no verbs if it is nobody's turn.
+-- If it is nobody's turn by a responder's record in the state `s`, the responder has no verbs.
 over_responder : (s : State) → is_nobodys (responder_turn_in s) ≡ true → responder_verbs_in s ≡ []
 over_responder s over = search rules
 
@@ -83,7 +83,8 @@ no_verbs : (side : Side) → is_over side ≡ true → verbs_of side ≡ []
 no_verbs (sides.Requester x) over = over_requester x.state (is_declined x) x.checked_in (is_received_by x) over
 no_verbs (sides.Responder y) over = over_responder y.state over
 
--- The answer of `is_over` is right.
+-- If `says` is a wrong answer on the end of `side`, `is_over` does not give it. In RETURNED the mark of the record
+-- decides (`marked`, `unmarked`).
 pub not_misjudged : (side : Side) (says : Bool) → MisjudgesEnd side says → says ≡ is_over side → ⊥
 not_misjudged side says (ended _ is) e = true≢false (sym (ended_is_over side is) ∙ sym e)
 not_misjudged side says (marked x at has_mark) e =
@@ -95,7 +96,7 @@ not_misjudged side says (unmarked x at no_mark) e =
 not_misjudged side says (unsettled _ is) e = true≢false (e ∙ unsettled_is_open side is)
 not_misjudged side says (may_act _ acts) e = acts (no_verbs side (sym e))
 
--- The answer of `wants_sending` is right.
+-- If `says` is a wrong answer on the sending of `side`, `wants_sending` does not give it.
 pub not_missent : (was_asked : Bool) (side : Side) (says : Bool) → MisjudgesSending was_asked side says
     → says ≡ wants_sending was_asked side → ⊥
 not_missent was_asked side says (over_requester_sends x over) e = true≢false (e ∙ ap not over)

@@ -30,6 +30,7 @@ ordered_mapped f lt [] = refl
 ordered_mapped f lt (item ∷ items) =
     placed_mapped f lt item (ordered (λ a b. lt (f a) (f b)) items) ∙ ap (placed lt (f item)) (ordered_mapped f lt items)
 
+-- In this module, `lt` is a strict weak order: it tells if an item comes before another.
 module _ {X : Type 0} (lt : X → X → Bool) (o : IsStrictWeakOrder lt) where
   -- No item of a list comes before an earlier one in the order `lt`.
   abbrev IsInOrder : List X → Type 0
@@ -157,7 +158,8 @@ module _ {X : Type 0} (lt : X → X → Bool) (o : IsStrictWeakOrder lt) where
   after_first x ys zs true same = cc
   after_first x ys zs false same = same
 
-  -- Two lists in order are equal if, for each item `w`, their items that tie with `w` are equal.
+  -- Two lists in order are equal if, for each item `w`, their items that tie with `w` are equal. Neither of the heads
+  -- `y` and `z` comes before the other, so they tie. So both head the items that tie with `y`, and are equal.
   equal_if_ties_equal : (ys zs : List X) → IsInOrder ys → IsInOrder zs → ((w : X) → filter (ties lt w) ys ≡ filter (ties lt w) zs)
       → ys ≡ zs
   equal_if_ties_equal [] [] y_order z_order same = refl

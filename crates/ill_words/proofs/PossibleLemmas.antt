@@ -22,7 +22,7 @@ use Rattle.ill_record.specs.declared.side.Side.{Side}
 use Rattle.ill_record.specs.declared.side.Side.TheVariants as sides
 use Rattle.ill_words.specs.Possible.{is_allowed, possible_on}
 
--- No date forbids one of a requester's actions.
+-- On the day `today`, or without a day, no date forbids an action of a requester in `state`.
 requester_by_state : (today : Option Date) (side : Side) (state : State) (declined received : Bool)
     → filter (is_allowed today side) (requester_verbs_in state declined received) ≡ requester_verbs_in state declined received
 requester_by_state today side states.Conditional true received = refl
@@ -48,25 +48,26 @@ requester_by_state today side states.CheckedIn declined received = refl
 pub all_of_requester : (today : Option Date) (x : RequesterRecord) → possible_on today (sides.Requester x) ≡ requester_verbs x
 all_of_requester today x = requester_by_state today (sides.Requester x) x.state (is_declined x) (is_received_by x)
 
--- A verb that a date decides is listed at the beginning if the date allows it.
+-- If the date `allows` it, the list begins with `verb`; `others` lack it. So the list has `verb` if and only if the
+-- transition is not refused.
 first_by_date : (verb : Verb) (others : List Verb) (refusal : Refusal) (next : State) (body : Body) (allows : Bool)
     → is_verb_among (verb ∷ others) verb ≡ true → is_verb_among others verb ≡ false
     → is_verb_among (cond allows (verb ∷ others) others) verb ≡ is_ok (if_allowed allows refusal (leads_to next body))
 first_by_date verb others refusal next body true first no_other = first
 first_by_date verb others refusal next body false first no_other = no_other
 
--- An Expire that a date decides is no Overdue.
+-- A list that has only an Expire, or nothing if the date does not allow it, has no Overdue.
 no_overdue : (allows : Bool) → is_verb_among (cond allows (verbs.Expire ∷ []) []) verbs.Overdue ≡ false
 no_overdue true = refl
 no_overdue false = refl
 
--- An Overdue that a date decides is no Expire.
+-- If `others` have no Expire, the list has none, with an Overdue before them or without it.
 no_expire : (others : List Verb) (allows : Bool) → is_verb_among others verbs.Expire ≡ false
     → is_verb_among (cond allows (verbs.Overdue ∷ others) others) verbs.Expire ≡ false
 no_expire others true none = none
 no_expire others false none = none
 
--- A responder in `state` may say that the item is overdue if the state and the date allow it.
+-- In `state`, an Overdue is possible on `today` if and only if the responder's table does not refuse it.
 overdue_by_state : (today : Date) (y : ResponderRecord) (state : State)
     → is_verb_among (filter (is_allowed (Some today) (sides.Responder y)) (responder_verbs_in state)) verbs.Overdue
     ≡ is_ok (if is_among (states.Shipped ∷ []) state then overdue_transition_to y today states.Overdue
@@ -94,7 +95,7 @@ pub overdue_possible : (today : Date) (y : ResponderRecord)
     → is_verb_among (possible_on (Some today) (sides.Responder y)) verbs.Overdue ≡ is_ok (transition_of y deeds.Overdue today)
 overdue_possible today y = overdue_by_state today y y.state
 
--- A responder in `state` may let the request expire if the state and the date allow it.
+-- In `state`, an Expire is possible on `today` if and only if the responder's table does not refuse it.
 expire_by_state : (today : Date) (y : ResponderRecord) (state : State)
     → is_verb_among (filter (is_allowed (Some today) (sides.Responder y)) (responder_verbs_in state)) verbs.Expire
     ≡ is_ok (if is_among (states.InProcess ∷ states.Conditional ∷ []) state

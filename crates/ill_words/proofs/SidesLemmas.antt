@@ -20,7 +20,7 @@ list_split_at [] (suc place) = refl
 list_split_at (item ∷ items) zero = refl
 list_split_at (item ∷ items) (suc place) = list_split_at items place
 
--- If the entry `found` at `place` has `side`, and `released` of its messages are released, `found` consists of both.
+-- If the entry `found` at `place` has `side`, and `released` counts its released messages, `found` consists of both.
 entry_of_parts : (live : DeskContents) (place : ℕ) (side : Side) (released : ℕ) (found : Option DeskEntry)
     → are_apart (sides_held live).sides ≡ true → slice_get live.held place ≡ found
     → option_map (λ (held : DeskEntry). held.side) found ≡ Some side
@@ -33,7 +33,7 @@ entry_of_parts live place side released (Some held) apart at e counted =
     ap (λ s. Some (record { side = s; released = held.released })) is ∙ ap (λ n. Some (record { side = side; released = n })) many
 entry_of_parts live place side released None apart at e counted = absurd (true≢false (sym (ap is_some e)))
 
--- The entry at `place` consists of the side at `place` and the number `released` of its released messages.
+-- If `side` is at `place`, and `released` counts its released messages, the entry at `place` consists of both.
 pub held_there : (live : DeskContents) (place : ℕ) (side : Side) (released : ℕ)
     → are_apart (sides_held live).sides ≡ true → slice_get (sides_held live).sides place ≡ Some side
     → released ≡ (held_for (txn_of side) live).released

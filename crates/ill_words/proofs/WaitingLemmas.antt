@@ -34,7 +34,7 @@ sooner_chain (Some a) None c first second = cc
 sooner_chain (Some a) (Some b) None first second = cc
 sooner_chain (Some a) (Some b) (Some c) first second = before_chain a b c first second
 
--- The order of loans by their deadlines is a strict weak order.
+-- `is_more_urgent` is a strict weak order of loans, by the two lemmas on deadlines.
 urgency_order : IsStrictWeakOrder (λ (side other : Bor Side). is_more_urgent side.now other.now)
 urgency_order = record {
   one_way = λ side other. sooner_one_way (deadline_of side.now) (deadline_of other.now);
@@ -53,7 +53,7 @@ by_keys_is cmp same None (Some b) = refl
 by_keys_is cmp same (Some a) None = refl
 by_keys_is cmp same (Some a) (Some b) = same a b
 
--- A stable sort of loans by the keys of their deadlines gives the list `most_urgent_first`.
+-- If `cmp` compares days as `is_before` does, a stable sort of `sides` by their keys gives `most_urgent_first`.
 pub sorted_by_urgency : (cmp : Date → Date → Ordering) → ((a b : Date) → is_lt (cmp a b) ≡ is_before a b)
     → (sides sorted : List (Bor Side))
     → IsSortedBy (λ (side other : Bor Side). by_keys cmp (deadline_of side.now) (deadline_of other.now)) sorted

@@ -12,13 +12,17 @@ use Rattle.ill_words.specs.Sending.{is_over}
 
 -- The Bool is a wrong answer of `is_over` for this side.
 pub data MisjudgesEnd : Side → Bool → Type 0 where
-  -- The request has ended without an item, or the item was checked in. But the answer says that the loan is not over.
+  -- By the state of its record, the loan has ended without an item, or the item was checked in. But the answer says
+  -- that the loan is not over.
   ended : (side : Side) →
       is_among (states.Cancelled ∷ states.NotSupplied ∷ states.CheckedIn ∷ []) (state_of side) ≡ true →
       MisjudgesEnd side false
+  -- The requester returned the item, and its record says that the item is back. But the answer says that the loan is
+  -- not over.
   marked : (x : RequesterRecord) → x.state ≡ states.Returned → x.checked_in ≡ true →
       MisjudgesEnd (sides.Requester x) false
-  -- The item was sent back, and may not have arrived. But the answer says that the loan is over.
+  -- The requester returned the item, and its record does not say that the item is back. But the answer says that the
+  -- loan is over.
   unmarked : (x : RequesterRecord) → x.state ≡ states.Returned → x.checked_in ≡ false →
       MisjudgesEnd (sides.Requester x) true
   -- The loan has not begun, or waits for an answer or the item. But the answer says that it is over.
@@ -30,13 +34,13 @@ pub data MisjudgesEnd : Side → Bool → Type 0 where
 
 -- The Bool is a wrong answer of `wants_sending` for this side.
 pub data MisjudgesSending (was_asked : Bool) : Side → Bool → Type 0 where
-  -- The loan is over for the requester, and it sends.
+  -- The loan is over for the requester. But the answer says that it sends its messages.
   over_requester_sends : (x : RequesterRecord) → is_over (sides.Requester x) ≡ true →
       MisjudgesSending was_asked (sides.Requester x) true
-  -- The loan is over for the responder, and it was not asked. But it sends its messages.
+  -- The loan is over for the responder, and it was not asked. But the answer says that it sends its messages.
   unasked_sends : (y : ResponderRecord) → is_over (sides.Responder y) ≡ true → was_asked ≡ false →
       MisjudgesSending was_asked (sides.Responder y) true
-  -- The responder was asked, and sends nothing.
+  -- The responder was asked. But the answer says that it sends nothing.
   asked_is_silent : (y : ResponderRecord) → was_asked ≡ true → MisjudgesSending was_asked (sides.Responder y) false
-  -- The loan is not over for the side, and it sends nothing.
+  -- The loan is not over for the side. But the answer says that it sends nothing.
   open_is_silent : (side : Side) → is_over side ≡ false → MisjudgesSending was_asked side false

@@ -27,8 +27,8 @@ abbrev pub is_past : Option Date → Option Date → Bool
 is_past None limit = is_after_due last_day limit
 is_past (Some today) limit = is_after_due today limit
 
--- Returns true if the day `today` allows the action, or some day without one. Overdue wants a due date that is
--- past. Expire wants an expiry date of the request that is past.
+-- Returns true if the day `today` allows the action. Without a day, returns true if some day allows it. An Overdue
+-- needs a due date that is past. An Expire needs an expiry date of the request that is past.
 abbrev pub is_allowed : Option Date → Side → Verb → Bool
 is_allowed today side Overdue = is_past today (due_date_of side)
 is_allowed today side Expire = is_past today (expiry_of (request_of side))

@@ -7,7 +7,7 @@ use Rattle.ill_record.specs.declared.side.Side.TheVariants as sides
 use Rattle.ill_record.specs.SideVerbs.{turn_of}
 use Rattle.ill_record.specs.declared.role.Role.TheVariants.{Requester, Responder}
 
--- Returns true if nobody acts next.
+-- Returns true for `Over`, the turn at which nobody acts next.
 abbrev pub is_nobodys : Turn → Bool
 is_nobodys Over = true
 is_nobodys Mine = false

@@ -20,11 +20,11 @@ is_turn Theirs Theirs = true
 is_turn Over Over = true
 is_turn turn other = false
 
+-- ---- deadlines
+
 -- Returns the deadline of a loan: its due date, or else the expiry date of its request.
 abbrev pub deadline_of : Side → Option Date
 deadline_of side = option_or (due_date_of side) (expiry_of (request_of side))
-
--- ---- deadlines
 
 -- Returns true if the first deadline is before the second. Any deadline is before none.
 abbrev pub is_sooner : Option Date → Option Date → Bool
@@ -44,8 +44,8 @@ is_pressing (Some today) side =
 abbrev pub turn_on : Option Date → Side → Turn
 turn_on today side = if is_pressing today side then Mine else turn_of side
 
--- Returns true if the loan waits for this library on a day after its deadline: it has one, and this library can
--- act in it.
+-- Returns true if the loan waits for this library on a day after its deadline. It does if it has a deadline, and this
+-- library can act in it.
 abbrev pub waits_by_date : Side → Bool
 waits_by_date side = is_some (deadline_of side) && nat_lt 0 (length (verbs_of side))
 
@@ -55,13 +55,13 @@ is_more_urgent side other = is_sooner (deadline_of side) (deadline_of other)
 
 -- ---- in order
 
--- Returns the list with `item` in it, after the leading items that are before it.
+-- Returns the list with `item` in it, after the leading items that come before it by `is_before`.
 abbrev pub placed : {X : Type 0} → (X → X → Bool) → X → List X → List X
 placed is_before item [] = item ∷ []
 placed is_before item (first ∷ others) =
     if is_before first item then first ∷ placed is_before item others else item ∷ first ∷ others
 
--- Returns the items in the order of `is_before`. Items that are equal in this order keep their places.
+-- Returns the items in the order of `is_before`. Items of which neither comes before the other keep their order.
 abbrev pub ordered : {X : Type 0} → (X → X → Bool) → List X → List X
 ordered is_before [] = []
 ordered is_before (item ∷ items) = placed is_before item (ordered is_before items)

@@ -18,7 +18,7 @@ use Rattle.ill_record.specs.declared.role.Role.{Role}
 use Rattle.ill_record.specs.declared.role.Role.TheVariants.{Requester, Responder}
 
 infixl 10 ◌>>=◌
--- Returns `next` of a value, or None if there is no value.
+-- Returns `next` of the value on the left, or `None` if there is no value.
 abbrev pub ◌>>=◌ : {A B : Type 0} → Option A → (A → Option B) → Option B
 Some value >>= next = next value
 None >>= next = None
@@ -69,7 +69,7 @@ due_of (Some from) (byte ∷ digits) = if byte == 0x2B then days_after from digi
 abbrev pub optional_day_of : List ℕ → Option (Option Date)
 optional_day_of word = if bytes_eq word (codes "none") then Some None else option_map Some (day_of word)
 
--- Returns true if n can be the number of a message: 1 to 255.
+-- Returns true if `n` can be the number of a message: 1 to 255.
 abbrev pub is_number : ℕ → Bool
 is_number n = nat_le 1 n && nat_le n 255
 
@@ -88,14 +88,14 @@ abbrev pub bare_wish_of : List ℕ → Option Wish
 bare_wish_of =
     named ((codes "cancel", Cancel) ∷ (codes "receive", Receive) ∷ (codes "return", Return) ∷ [])
 
--- Returns the wish of a verb and one more word.
+-- Returns the wish of a verb and one more word, if they say one.
 abbrev pub wish_with : List ℕ → List ℕ → Option Wish
 wish_with verb word =
     if bytes_eq verb (codes "reply") then option_map Reply (yes_of word)
     else if bytes_eq verb (codes "renew") then option_map Renew (optional_day_of word)
     else None
 
--- Returns the words joined by spaces.
+-- Returns `first`, followed by each word of `more` with a space before it.
 abbrev pub spaced : List ℕ → List (List ℕ) → List ℕ
 spaced first more = first ++ flat_map (λ word. 0x20 ∷ word) more
 

@@ -1,4 +1,4 @@
-//! Noise has bytes that are no message.
+//! The bytes of noise, which may encode no message.
 
 ghost use Rattle.std.specs.Prelude.{◌≡◌, ℕ, List};
 ghost use Rattle.std.specs.Str.{bytes_eq};
@@ -7,7 +7,7 @@ ghost use Rattle.std.proofs.Common.{rules};
 
 use std::marker::Model;
 
-/// The bytes may be any that reach a side. Two values are equal if their bytes are equal.
+/// Holds bytes that reach a side. They may be any bytes. Two values are equal if their bytes are equal.
 #[derive(Debug, Drop)]
 pub struct Bytes {
     items: Vec<u8>,

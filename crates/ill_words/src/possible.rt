@@ -18,7 +18,7 @@ use ill_saved::Side;
 use ill_values::{Apdu, Body, Day, Item, OutOfMemory};
 use std::alloc::Global;
 
-/// Returns the request of a loan, if it has begun.
+/// Returns the request of a loan, if the loan has begun.
 pub fn request(side: &Side) -> Option<&Apdu>
     ensures { option_map (λ apdu. apdu.now) result ≡ request_of side.now }
 {
@@ -52,7 +52,7 @@ pub fn possible_on(alloc: Global, today: Option<Day>, side: &Side) -> Result<Vec
     )
 }
 
-/// Returns true if the day `today` allows the action `verb`, or some day without one.
+/// Returns true if the day `today` allows the action `verb`. Without a day, returns true if some day allows it.
 fn is_allowed(today: Option<Day>, side: &Side, verb: Verb) -> bool
     ensures { result ≡ is_allowed today side.now verb }
 {

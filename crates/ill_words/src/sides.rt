@@ -21,7 +21,7 @@ pub fn all_of<'a>(alloc: Global, sides: &'a Sides) -> Result<Vec<&'a Side>, OutO
     Ok(all)
 }
 
-/// Appends the side at `place`, if there is one.
+/// Appends the side at `place` of `sides` to `all`, if there is one.
 fn push_at<'a>(all: &mut Vec<&'a Side>, sides: &'a Sides, place: usize) -> Result<(), OutOfMemory>
     ensures { OnOk result (map (λ side. side.now) all.new.items
         ≡ map (λ side. side.now) all.old.items ++ option_to_list (slice_get sides.now.sides place)) }
@@ -53,7 +53,7 @@ pub fn all_held<'a, S: Store>(
     Ok(all)
 }
 
-/// Appends the side at `place` of `desk`, if there is one.
+/// Appends the side at `place` of `desk` to `all`, with the number of its released messages, if there is one.
 fn push_held_at<'a, S: Store>(
     all: &mut Vec<HeldSide<'a>>,
     desk: &'a Desk<S>,

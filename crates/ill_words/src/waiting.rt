@@ -42,8 +42,8 @@ fn is_pressing(today: Option<Day>, side: &Side) -> bool
     }
 }
 
-/// Returns true if a loan waits for this library on a day after its deadline. It has one, and this library can act in
-/// it.
+/// Returns true if a loan waits for this library on a day after its deadline. It does if it has a deadline, and this
+/// library can act in it.
 pub fn waits_by_date(side: &Side) -> bool
     ensures { result ≡ waits_by_date side.now }
 {

@@ -89,7 +89,8 @@ pub(crate) fn due(word: &[u8], from: Option<Day>) -> Option<Day>
     }
 }
 
-/// Returns the day that lies `digits` days after `from`, if there are one to five and the calendar has it.
+/// Returns the day that `digits` say, counted from `from`. They must be one to five decimal digits, and the calendar
+/// must have the day.
 fn days_after(from: Day, digits: &[u8]) -> Option<Day>
     ensures { result ≡ days_after from digits.now }
 {
@@ -132,6 +133,7 @@ fn is_numeral(word: &[u8], most: usize) -> bool
     (1..=most).contains(&word.len()) && is_digits(word)
 }
 
+/// Returns true if each byte of `word` is a decimal digit: 48 to 57.
 fn is_digits(word: &[u8]) -> bool
     ensures value { result ≡ list_all is_ascii_digit word.now }
     ensures each { OnTrue result (EachIndex word.now
@@ -140,7 +142,7 @@ fn is_digits(word: &[u8]) -> bool
     word.iter().all(|byte| byte.is_ascii_digit())
 }
 
-/// Returns the value of decimal digits.
+/// Returns the number that at most five decimal digits encode.
 fn decimal(digits: &[u8]) -> u32
     requires few { length digits.now ≤ 5 }
     requires digits { EachIndex digits.now (λ k. IsInRange 48 57 (slice_index digits.now k)) }

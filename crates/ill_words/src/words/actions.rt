@@ -39,6 +39,7 @@ pub fn wish(alloc: Global, words: &[&[u8]]) -> Result<Option<Wish>, OutOfMemory>
     }
 }
 
+/// Returns the wish that `verb` says alone, if it says one.
 fn bare_wish(verb: &[u8]) -> Option<Wish>
     ensures { result ≡ bare_wish_of verb.now }
 {
@@ -53,6 +54,7 @@ fn bare_wish(verb: &[u8]) -> Option<Wish>
     }
 }
 
+/// Returns the wish that `verb` says with one more `word`, if they say one.
 fn wish_with_word(verb: &[u8], word: &[u8]) -> Option<Wish>
     ensures { result ≡ wish_with verb.now word.now }
 {
@@ -65,7 +67,7 @@ fn wish_with_word(verb: &[u8], word: &[u8]) -> Option<Wish>
     }
 }
 
-/// Returns the request for the item that the words from `first` on name.
+/// Returns the `Request` for the item that the words from `first` on name, with the expiry date `expiry`.
 fn request(
     alloc: Global,
     expiry: &[u8],
@@ -86,7 +88,7 @@ fn request(
     }
 }
 
-/// Returns the words with a space between each and the next.
+/// Returns `first` and the words `more`, with a space between each and the next.
 fn joined(alloc: Global, first: &[u8], more: &[&[u8]]) -> Result<Vec<u8>, OutOfMemory>
     ensures { IfOk result (λ text. text.items
         ≡ spaced first.now (map (λ word. word.now) more.now)) }
@@ -125,7 +127,7 @@ pub fn deed(words: &[&[u8]], from: Option<Day>) -> Option<Deed>
     }
 }
 
-/// Returns the Renew-Answer yes of the words, if they say one.
+/// Returns a Renew-Answer yes with the due date `day`, if `verb` and `word` are `renew-answer yes`.
 #[tactic(auto, unfolding(crate::specs::Words::grant_with))]
 fn grant(verb: &[u8], word: &[u8], day: &[u8], from: Option<Day>) -> Option<Deed>
     ensures { result ≡ grant_with from verb.now word.now day.now }
@@ -137,6 +139,7 @@ fn grant(verb: &[u8], word: &[u8], day: &[u8], from: Option<Day>) -> Option<Deed
     }
 }
 
+/// Returns the deed that `verb` says alone, if it says one.
 fn bare_deed(verb: &[u8]) -> Option<Deed>
     ensures { result ≡ bare_deed_of verb.now }
 {
@@ -153,6 +156,7 @@ fn bare_deed(verb: &[u8]) -> Option<Deed>
     }
 }
 
+/// Returns the deed that `verb` says with one more `word`, if they say one. A due date may be counted from `from`.
 #[tactic(auto, unfolding(crate::specs::Words::deed_with))]
 fn deed_with_word(verb: &[u8], word: &[u8], from: Option<Day>) -> Option<Deed>
     ensures { result ≡ deed_with from verb.now word.now }

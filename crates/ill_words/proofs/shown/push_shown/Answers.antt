@@ -64,6 +64,8 @@ no_byte old middle new text byte before stays =
 some_there : (text : List ℕ) (byte : ℕ) → 0 < length (text ++ byte ∷ [])
 some_there text byte = omega (arith, length-append text (byte ∷ []))
 
+-- If memory runs out at the state, nothing was added. Below, `to_2` to `to_6` say that the first 2 to 6 parts of the
+-- text were added.
 pub returns-in_err-extend_from_slice-clause-prefix : goal.returns-in_err-extend_from_slice-clause-prefix
 returns-in_err-extend_from_slice-clause-prefix c =
     let shown = c.args.shown in
@@ -72,6 +74,7 @@ returns-in_err-extend_from_slice-clause-prefix c =
     at_err c.from_residual.result (space_all shown old _
     (adds_nothing old _ (to_space shown) stays (some_there (state_name shown.state) 32)))
 
+-- If memory runs out at the space after the state, the state was added.
 pub returns-in_err-push-clause-prefix : goal.returns-in_err-push-clause-prefix
 returns-in_err-push-clause-prefix c =
     let shown = c.args.shown in
@@ -81,6 +84,7 @@ returns-in_err-push-clause-prefix c =
     let stays : c.push.new.self.items ≡ named = search rules in
     at_err c.from_residual-in_err-push.result (space_all shown old _ (no_byte old named _ (state_name shown.state) 32 name stays))
 
+-- If memory runs out at the due date, a prefix of it was added after the first two parts.
 pub returns-in_err-push_due-clause-prefix : goal.returns-in_err-push_due-clause-prefix
 returns-in_err-push_due-clause-prefix c =
     let shown = c.args.shown in
@@ -94,6 +98,7 @@ returns-in_err-push_due-clause-prefix c =
     (due_all shown old _ (adds_second old spaced _ (to_space shown) (due_text shown.due) to_2
     c.in_err-push_due.ensures.prefix))
 
+-- If memory runs out at the space after the due date, the first three parts were added.
 pub returns-in_err-push-2-clause-prefix : goal.returns-in_err-push-2-clause-prefix
 returns-in_err-push-2-clause-prefix c =
     let shown = c.args.shown in
@@ -108,6 +113,7 @@ returns-in_err-push-2-clause-prefix c =
     let stays : c.push-2.new.self.items ≡ dated = search rules in
     at_err c.from_residual-in_err-push-2.result (gap_all shown old _ (no_byte old dated _ (to_due shown) 32 to_3 stays))
 
+-- If memory runs out at the count of released messages, its prefix was added after the first four parts.
 pub returns-in_err-push_number-clause-prefix : goal.returns-in_err-push_number-clause-prefix
 returns-in_err-push_number-clause-prefix c =
     let shown = c.args.shown in
@@ -126,6 +132,7 @@ returns-in_err-push_number-clause-prefix c =
     (released_all shown old _ (adds_second old apart _ (to_gap shown) (decimal shown.released) to_4
     c.in_err-push_number.ensures.prefix))
 
+-- If memory runs out at the slash, the first five parts were added.
 pub returns-in_err-push-3-clause-prefix : goal.returns-in_err-push-3-clause-prefix
 returns-in_err-push-3-clause-prefix c =
     let shown = c.args.shown in
@@ -145,6 +152,7 @@ returns-in_err-push-3-clause-prefix c =
     let stays : c.push-3.new.self.items ≡ counted = search rules in
     at_err c.from_residual-in_err-push-3.result (stroke_all shown old _ (no_byte old counted _ (to_released shown) 47 to_5 stays))
 
+-- If memory runs out at the last count, a prefix of it was added after the first six parts.
 pub returns-clause-prefix : goal.returns-clause-prefix
 unfolding shown_text
 returns-clause-prefix c =

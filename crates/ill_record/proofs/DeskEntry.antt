@@ -129,7 +129,7 @@ none_filed role entries empty =
     subst (λ es. AreFiled (keys_of es) (record { role = role; sides = values_of es })) (sym empty)
     (record { keys = refl; held = refl; few = omega arith })
 
--- Entries that are filed, and a side that may be put among them.
+-- Below, `entries` are filed, and `side` may be put among them (premise `none`).
 module _ (role : Role) (entries : List (Qualifiers × Side)) (side : Side)
     (filed : AreFiled (keys_of entries) (record { role = role; sides = values_of entries }))
     (none : put_refusal (record { role = role; sides = values_of entries }) side ≡ None) where
@@ -218,7 +218,7 @@ set_first : (test : Bool) (e : Qualifiers × Side) (after side : Side) (found : 
 set_first true e after side found set_on entries put_on there further = refl
 set_first false e after side found set_on entries put_on there further = ap (λ vs. e.1 ∷ vs) (further there)
 
--- Setting the side in the entry of `txn` puts this side among the sides.
+-- If the entry of `txn` is set to `after`, `put_by` puts `after` among the sides of the entries.
 values_set : (txn : Qualifiers) (after side : Side) (entries : List (Qualifiers × Side)) → txn ≡ txn_of after
     → keys_of entries ≡ map txn_of (values_of entries) → lookup (is_same_txn txn) entries ≡ Some side
     → values_of (set_value (is_same_txn txn) entries after) ≡ put_by txn_of after (values_of entries)
@@ -244,6 +244,8 @@ record Stays (old new : Side) : Type 0 where
   idle : idle_of new ≡ idle_of old
   begun : is_idle old ≡ false → is_idle new ≡ false
 
+-- Below, `entries` are filed, and the key `txn` finds `side` in them. By `stays` the side `after` has the role and the
+-- transaction of `side`.
 module _ (role : Role) (entries : List (Qualifiers × Side))
     (filed : AreFiled (keys_of entries) (record { role = role; sides = values_of entries }))
     (txn : Qualifiers) (side after : Side) (there : lookup (is_same_txn txn) entries ≡ Some side) (stays : Stays side after) where
@@ -316,11 +318,13 @@ stays_by : RowsGrow → RowsStay → (old new : Side) → IsSideTransition old n
 stays_by grows begins old new (inl row) = record { idle = (grows old new row).0; begun = begins old new row }
 stays_by grows begins old new (inr same) = record { idle = ap idle_of same; begun = λ begun. ap is_idle same ∙ begun }
 
+-- Below, `Does` relates a side, its answer to a call, and the side after it. By `rows` a transition leads from one to
+-- the other, or nothing changes.
 module _ (grows : RowsGrow) (begins : RowsStay) {A : Type 0} (Does : Side → A → Side → Type 0)
     (rows : (old new : Side) (answer : A) → Does old answer new → IsSideTransition old new ⊎ (new ≡ old))
     (role : Role) (txn : Qualifiers) (entries : List (Qualifiers × Side))
     (filed : AreFiled (keys_of entries) (record { role = role; sides = values_of entries })) where
-  -- If `Does` describes a call of the side of `txn` alone, the entries are filed after it.
+  -- If a call changes the entry of `txn` alone, as `Does` says, the entries are filed after it.
   pub filed_on : (answer : Option A) (new : List (Qualifiers × Side)) → ChangesOnlyEntryOf Does txn entries answer new
       → AreFiled (keys_of new) (record { role = role; sides = values_of new })
   filed_on None new only = subst (λ es. AreFiled (keys_of es) (record { role = role; sides = values_of es })) (sym only.1) filed

@@ -77,7 +77,8 @@ pub record IsSized {V : Type 0} (P : V → Type 0) (n : ℕ) (contents : Content
       → (bytes ≡ contents.encode v) × P v
   pub again : (v : V) → P v → (contents.read (contents.encode v) ≡ Some v) × (length (contents.encode v) ≡ n)
 
--- If a field of `n` bytes reads a value, the bytes read are its encoding.
+-- If a field of `n` bytes reads a value, the bytes read are its encoding. The contents are the first `n` bytes, and
+-- obey `IsSized`.
 sized_takes : {V : Type 0} (P : V → Type 0) (n : ℕ) (contents : Contents V) → IsSized P n contents
     → (left : Cursor) (v : V) (rest : Cursor) → IsBytes left.bytes → (sized n contents).read left ≡ Ok (v, rest)
     → Takes (sized n contents) P left.bytes v rest.bytes
@@ -115,7 +116,8 @@ sized_is P n contents is = record { takes = sized_takes P n contents is; again =
 
 -- ---- one octet
 
--- If `value_of` gives only values whose code is the octet read, a value of one octet has this octet as its encoding.
+-- If `value_of` reads only values whose code is the octet read, `bytes` read as a value are its encoding. The value
+-- satisfies `P`.
 one_takes : {V : Type 0} (P : V → Type 0) (code : V → ℕ) (value_of : ℕ → Option V)
     → ((n : ℕ) (v : V) → n < 256 → value_of n ≡ Some v → (n ≡ code v) × P v)
     → (bytes : List ℕ) (v : V) → IsBytes bytes → one_octet value_of bytes ≡ Some v → (bytes ≡ code v ∷ []) × P v
@@ -168,7 +170,7 @@ pub optional_number_is : IsField (λ o. IfSome o IsNumber) optional_number
 optional_number_is = octet_is (λ o. IfSome o IsNumber) number_octet (λ n. Some (cond (eqb n 0) None (Some n))) number_takes
     number_again
 
--- If an octet is read as a mark, it is the octet of the mark.
+-- If an octet is read as a mark, it is the octet of the mark. The octet 0 is false (`inl`), and 1 is true (`inr`).
 mark_takes : (n : ℕ) (b : Bool) → n < 256 → cond (eqb n 0) (Some false) (cond (eqb n 1) (Some true) None) ≡ Some b
     → (n ≡ cond b 1 0) × Any b
 mark_takes n b small e =
@@ -189,7 +191,8 @@ pub mark_is : IsField Any mark
 mark_is = octet_is Any (λ b. cond b 1 0) (λ n. cond (eqb n 0) (Some false) (cond (eqb n 1) (Some true) None)) mark_takes
     mark_again
 
--- If an octet is read as a role, it is the octet of the role.
+-- If an octet is read as a role, it is the octet of the role. The octet 0 is a requester (`inl`), and 1 a responder
+-- (`inr`).
 role_takes : (n : ℕ) (r : Role) → n < 256 → role_with n ≡ Some r → (n ≡ role_octet r) × Any r
 role_takes n r small e =
     elim (chosen (eqb n 0) (Some roles.Requester) (cond (eqb n 1) (Some roles.Responder) None) (Some r) e) [
@@ -241,7 +244,7 @@ state_is states = octet_is (IsAmong states) state_code (state_with states) (stat
 
 -- ---- a field followed by another
 
--- A field obeys the laws of a codec, whatever bytes follow it.
+-- If a field obeys the laws of a field, it obeys those of a codec, whatever bytes follow it.
 codec_of : {V : Type 0} (P : V → Type 0) (f : Field V) → IsField P f → IsCodec P Any f
 codec_of P f is = record {
   takes = λ left v rest fits e.
@@ -278,7 +281,8 @@ qualifier_sized n = record {
   again = λ v p. (rw p.0 refl, p.1);
 }
 
--- If a qualifier is read after its length, the bytes read are its encoding.
+-- If a qualifier is read after its length, the bytes read are its encoding. First `size` is read, and then as many
+-- bytes.
 text_takes : (left : Cursor) (v : List ℕ) (rest : Cursor) → IsBytes left.bytes → counted_text.read left ≡ Ok (v, rest)
     → Takes counted_text IsQualifier left.bytes v rest.bytes
 text_takes left v rest fits e =
@@ -290,7 +294,7 @@ text_takes left v rest fits e =
       second.1.0,
     )
 
--- A qualifier is read from its length and its bytes.
+-- A qualifier is read from its encoding: its length and its bytes.
 text_again : Below → (v : List ℕ) (at : ℕ) (more : List ℕ) → IsQualifier v → ReadsAgain counted_text v at more
 text_again below v at more p =
     let size = text_size_is.again (length v) at (v ++ more) (below.text_size v p) in
@@ -365,7 +369,8 @@ marked_is P f fs =
 
 -- ---- `n` values of a field
 
--- If `n` values are read, the bytes read are their encodings, and each value satisfies `P`.
+-- If `n` values are read, the bytes read are their encodings, and each value satisfies `P`. The value `first` is read,
+-- and then the `others`.
 all_takes : {V : Type 0} (P : V → Type 0) (f : Field V) → IsField P f
     → (n : ℕ) (left : Cursor) (vs : List V) (rest : Cursor) → IsBytes left.bytes → read_all f n left ≡ Ok (vs, rest)
     → (left.bytes ≡ encode_all f.encode vs ++ rest.bytes) × Each P vs × (length vs ≡ n)

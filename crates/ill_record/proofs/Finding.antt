@@ -22,6 +22,7 @@ same_is a b same =
 pub apart_back : (a b : Qualifiers) → is_same_txn a b ≡ false → is_same_txn b a ≡ false
 apart_back a b apart = by (is_same_txn b a) refl
   where
+    -- For either answer `same` of the test of `b` and `a`, it is false. If it were true, `b` would be `a`.
     by : (same : Bool) → is_same_txn b a ≡ same → same ≡ false
     by true same =
         let is : b ≡ a = same_is b a same in
@@ -40,7 +41,7 @@ each_found true true x new found apart = absurd (true≢false (apart refl))
 each_found true false x new found apart = refl
 each_found false b x new found apart = refl
 
--- If two items have one test, a search never finds the second.
+-- If one test decides on `x` and on `new`, a search that tries `new` first never finds `x`.
 hidden : {X : Type 0} (b : Bool) (x new : X) (found : Option X)
     → cond b (Some new) found ≡ cond b (Some new) (cond b (Some x) found)
 hidden true x new found = refl
@@ -54,6 +55,8 @@ not_true b h = search rules
 pub some_is : {X : Type 0} (x y : X) → ◌≡◌ {A = Option X} (Some x) (Some y) → x ≡ y
 some_is x y e = search rules
 
+-- Below, `key` gives the transaction of an item. In a lemma on `item` before other items, `same` is true if a search or
+-- a put stops at `item`. There `further` is the lemma for the other items.
 module _ {X : Type 0} (key : X → Qualifiers) where
   -- If `found_is` holds for the other items, it holds with `item` before them.
   first_is : (txn : Qualifiers) (item x : X) (found : Option X) (same : Bool) → is_same_txn txn (key item) ≡ same
@@ -181,6 +184,7 @@ module _ {X Y : Type 0} (of_x : X → Qualifiers) (of_y : Y → Qualifiers) (f :
       ap (λ t. cond (is_same_txn txn t) (Some (f x)) (found_by of_y txn (map f xs))) (keeps x)
       ∙ ap (λ o. cond (is_same_txn txn (of_x x)) (Some (f x)) o) (found_mapped txn xs)
       ∙ mapped_first txn x (found_by of_x txn xs) (is_same_txn txn (of_x x))
+-- Below, `f` keeps the transaction of an item (premise `keeps`).
 
   -- If `put_mapped` holds for the other items, it holds with `x` before them.
   put_first : (new x : X) (xs : List X) (same : Bool) → map f (put_by of_x new xs) ≡ put_by of_y (f new) (map f xs)

@@ -87,7 +87,7 @@ module _ {V : Type 0} (field : Field V) (values : List V) (count counter : ℕ) 
       let none : count - counter ≡ 0 = omega (arith, done) in
       sym reads ∙ (ap (λ n. after values (read_all field n left)) none ∙ all_read field values left)
 
--- If the second reading returns each fault of the first, a reader's fault that fits the first fits the second.
+-- If `then_read` has each fault of `first`, a fault that the code gives for `first` is right for `then_read`.
 pub fault_stays : {X Y V W : Type 0} (f : X → V) (g : Y → W) (fault : RecordFault) (left next : Cursor)
     (first : Result (V × Cursor) LayoutFault) (then_read : Result (W × Cursor) LayoutFault)
     → ((d : LayoutFault) → first ≡ Err d → then_read ≡ Err d) → ReadsInMemory f (Err fault) left first

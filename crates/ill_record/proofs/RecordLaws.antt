@@ -54,7 +54,8 @@ day_found : (r : Result Date DayFault) (d : Date) → result_ok r ≡ Some d →
 day_found (Ok x) d e = ap Ok (same_Some x d e)
 day_found (Err f) d e = absurd cc
 
--- If eight bytes are read as an optional due date, they are its text, and the date is valid.
+-- If eight bytes are read as an optional due date, they are its text, and the date is valid. Eight zeros are no date
+-- (`inl`), and another text is that of a date (`inr`).
 due_takes : Below → (bytes : List ℕ) (o : Option Date) → IsBytes bytes → length bytes ≡ 8 → due_from bytes ≡ Some o
     → (bytes ≡ due_octets o) × IfSome o IsDate
 due_takes below bytes o fits size e =
@@ -83,7 +84,7 @@ due_again below (Some d) p =
     let again = below.day_encoded d p in
     (rw (another_text d (bytes_eq (date_text d) no_date) again refl, again) refl, refl)
 
--- The field of a due date obeys the laws.
+-- The field of a due date obeys the laws of a field, `IsField`. The fields below do so, too.
 due_is : Below → IsField (λ o. IfSome o IsDate) due
 due_is below = sized_is (λ o. IfSome o IsDate) 8 _ (record { takes = due_takes below; again = due_again below })
 
@@ -164,7 +165,8 @@ request_is txn (Some a) of p = (p, (and_parts (is_same_txn a.txn txn) (is_ill_re
 abbrev ReadsSide : Role → Cursor → Side → Cursor → Type 0
 ReadsSide r left side rest = (role_of side ≡ r) × (left.bytes ≡ encode_fields side ++ rest.bytes) × IsInRange side
 
--- If the fields of a requester are read, they are the encoding of its side, which is in range.
+-- If the fields of a requester are read, they are the encoding of its side, which is in range. `from_held` to
+-- `from_issued` say that the fields from these on are in range.
 requester_takes : Below → (left : Cursor) (side : Side) (rest : Cursor) → IsBytes left.bytes
     → read_requester left ≡ Ok (side, rest) → ReadsSide roles.Requester left side rest
 requester_takes below left side rest fits e =
@@ -192,7 +194,8 @@ requester_takes below left side rest fits e =
       },
     )
 
--- If the fields of a responder are read, they are the encoding of its side, which is in range.
+-- If the fields of a responder are read, they are the encoding of its side, which is in range. `from_accepted` to
+-- `from_issued` say that the fields from these on are in range.
 responder_takes : Below → (left : Cursor) (side : Side) (rest : Cursor) → IsBytes left.bytes
     → read_responder left ≡ Ok (side, rest) → ReadsSide roles.Responder left side rest
 responder_takes below left side rest fits e =
@@ -235,7 +238,8 @@ ends : (left : Cursor) (x : Unit {0}) → ended left ≡ Ok x → left.bytes ≡
 ends left x e = nil_from_length left.bytes
     (eqb-true (length left.bytes) 0 (passed (eqb (length left.bytes) 0) (Ok tt) (Bad left.at) x e).0)
 
--- If all of the bytes are read as a side, they are its encoding, and it is in range.
+-- If all of the bytes are read as a side, they are its encoding, and it is in range. The start is read first, then the
+-- fields of its role, and no byte is left.
 pub side_takes : Below → (bytes : List ℕ) (side : Side) → IsBytes bytes → side_encoded bytes ≡ Ok side
     → (bytes ≡ record_encoding side) × IsInRange side
 unfolding side_encoded record_encoding
@@ -267,7 +271,7 @@ responder_state_is : (state : State) → is_among (Pending ∷ Received ∷ NotR
 responder_state_is Idle role = refl
 responder_state_is state role = search rules
 
--- A side in range is read from its fields.
+-- A consistent side in range is read from the encoding of its fields, whatever bytes `more` follow.
 fields_again : Below → (side : Side) (at : ℕ) (more : List ℕ) → IsSide side
     → (after : ℕ) × (read_fields (role_of side) (cursor_at at (encode_fields side ++ more)) ≡ Ok (side, cursor_at after more))
 fields_again below (sides.Requester x) at more is =
@@ -304,7 +308,7 @@ fields_again below (sides.Responder y) at more is =
     ) in
     (read.0, rw read.1 refl)
 
--- A side in range is read from its encoding, without the check that it is consistent.
+-- A consistent side in range is read from its encoding by `side_encoded`, which does not check that it is consistent.
 side_again : Below → (side : Side) → IsSide side → side_encoded (record_encoding side) ≡ Ok side
 unfolding side_encoded record_encoding
 side_again below side is =
@@ -323,12 +327,12 @@ record_takes below bytes side fits e =
     let is = side_takes below bytes side fits read.0 in
     (is.0, (read.1, is.1))
 
--- A side in range is read from its encoding.
+-- A consistent side in range is read from its encoding.
 pub record_again : Below → (side : Side) → IsSide side → record_at (record_encoding side) ≡ Ok side
 unfolding record_at
 record_again below side is = judged_is (side_encoded (record_encoding side)) side (side_again below side is) is.0
 
--- If each side in range is read from its encoding, two of them with equal encodings are equal.
+-- If each consistent side in range is read from its encoding, two of them with equal encodings are equal.
 pub one_side : ((side : Side) → IsSide side → record_at (record_encoding side) ≡ Ok side)
     → (s t : Side) → IsSide s → IsSide t → record_encoding s ≡ record_encoding t → s ≡ t
 one_side again s t first second e = ok_is s t (sym (again s first) ∙ ap record_at e ∙ again t second)

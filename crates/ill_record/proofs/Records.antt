@@ -14,7 +14,7 @@ use Rattle.ill_record.specs.Records.{begins_as_record, Decodes, record_encoding}
 use Rattle.ill_record.specs.Ranges.{IsSide}
 use Rattle.ill_der.proofs.Chains.{ok_is}
 
--- If a version and a role are read first, an answer that is right for the rest is right for the whole record.
+-- Let a version and a role be read first. If `result` is right for the rest `left`, it is right for the whole record.
 pub decodes_after : (bytes : List ℕ) (first left : Cursor) (found role : Role) (result : Result Side RecordFault)
     → first ≡ cursor_at 0 bytes → found ≡ role
     → start.read first ≡ Ok (((tt, (tt, (tt, tt))), found), left)
@@ -30,7 +30,8 @@ decodes_after bytes first left found role result begun is read_first decodes =
     subst (λ r. Decodes r (begins_as_record bytes) result) (sym same)
     (subst (λ b. Decodes (consistent_side (side_at role left)) b result) (sym begins) decodes)
 
--- If reading gives only sides in range whose encoding is `bytes`, decoding gives only such sides.
+-- Let each side read from `bytes` be consistent and in range, with `bytes` as its encoding. Then decoding gives such a
+-- side or a fault.
 pub decodes_encoded : (bytes : List ℕ) (begins : Bool) (result : Result Side RecordFault)
     → ((side : Side) → record_at bytes ≡ Ok side → (bytes ≡ record_encoding side) × IsSide side)
     → Decodes (record_at bytes) begins result → IfOk result (λ side. IsSide side × (bytes ≡ record_encoding side))

@@ -22,7 +22,7 @@ pub requester_state : (x : RequesterRecord) → IsRequester x → is_among (InPr
 unfolding requester.is_consistent
 requester_state x is = not-true _ (and_parts _ _ (and_parts _ _ (and_parts _ _ is).1).0).0
 
--- The first APDU of a consistent requester, and no other, is an ILL-Request.
+-- The first APDU of a consistent requester, if it has issued one, is an ILL-Request, and no other is.
 pub requester_request : (x : RequesterRecord) → IsRequester x → begins_with_request x.issued ≡ true
 unfolding requester.is_consistent
 requester_request x is =

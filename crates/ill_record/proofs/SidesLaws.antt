@@ -37,7 +37,7 @@ use Rattle.ill_record.proofs.Fields.{ReadsAgain, Takes, IsField, IsSized, Any, C
 use Rattle.ill_record.proofs.Fields.{counted_by_is, role_is}
 
 -- The laws of the record of one side. Bytes that are read as a side are its encoding.
--- A side is read from its encoding, which has at most 41,811 bytes.
+-- A consistent side in range is read from its encoding, which has at most 41,811 bytes.
 pub record OneRecord : Type 0 where
   pub encoded : (bytes : List ℕ) (side : Side) → IsBytes bytes → record_at bytes ≡ Ok side → (bytes ≡ record_encoding side)
       × IsSide side
@@ -106,7 +106,8 @@ good_at : {X : Type 0} (at : ℕ) (r : Result X LayoutFault) (x : X) → bad_at 
 good_at at (Ok found) x e = ap Ok (ok_is found x e)
 good_at at (Err fault) x e = absurd cc
 
--- If a part is read, the bytes read are its encoding, and its side is in range.
+-- If a part is read, the bytes read are its encoding, and its side is consistent and in range. First `size` is read,
+-- and then a record of this length.
 part_takes : OneRecord → (left : Cursor) (side : Side) (rest : Cursor) → IsBytes left.bytes
     → part.read left ≡ Ok (side, rest) → Takes part IsSide left.bytes side rest.bytes
 part_takes one left side rest fits e =
@@ -123,7 +124,7 @@ part_takes one left side rest fits e =
     ∙ sym (append_assoc (two_octets.encode (length (record_encoding side))) (record_encoding side) rest.bytes) in
     (parts, second.1.0)
 
--- A side in range is read from its part.
+-- A consistent side in range is read from its part: the length of its record, and the record.
 part_again : OneRecord → (side : Side) (at : ℕ) (more : List ℕ) → IsSide side → ReadsAgain part side at more
 part_again one side at more is =
     let n = length (record_encoding side) in
@@ -137,7 +138,7 @@ part_is one = record { takes = part_takes one; again = part_again one }
 
 -- ---- all sides
 
--- Each side is in range, and there are at most 1,000 sides.
+-- Each side is consistent and in range, and there are at most 1,000 sides.
 abbrev ManySides : List Side → Type 0
 ManySides = CountedBy (λ n. n ≤ most_sides) IsSide
 
@@ -166,7 +167,8 @@ same_bytes a b same = (bytes_eq-Decides a b).1 same
 seven_first : (a b c d e f g : ℕ) (rest : List ℕ) → 7 ≤ length (a ∷ b ∷ c ∷ d ∷ e ∷ f ∷ g ∷ rest)
 seven_first a b c d e f g rest = omega arith
 
--- `unsealed` of the encoding of the sides gives the octets between version and digest.
+-- `unsealed` of the encoding of the sides gives the octets between version and digest. `long` and `sealed` say that the
+-- checks of the length and of the digest pass.
 unsealed_again : (held : SidesOf) → unsealed (sides_encoding held) ≡ Ok (octets_of held)
 unfolding unsealed sides_encoding
 unsealed_again held =
@@ -238,7 +240,8 @@ sides_take one octets held fits e =
 abbrev IsSealed : List ℕ → List ℕ → Type 0
 IsSealed bytes octets = (bytes ≡ (version_2 ++ octets) ++ sha256 (version_2 ++ octets)) × IsBytes octets
 
--- If `unsealed` of `bytes` gives `octets`, `bytes` are the version, `octets`, and the digest of both.
+-- If `unsealed` of `bytes` gives `octets`, `bytes` are the version, `octets`, and the digest of both. Three checks
+-- passed: `long` is that of the length, `begun` of the version, and `closed` of the digest.
 unsealed_is : (bytes octets : List ℕ) → IsBytes bytes → unsealed bytes ≡ Ok octets → IsSealed bytes octets
 unfolding unsealed
 unsealed_is bytes octets fits e =
@@ -262,6 +265,7 @@ unsealed_is bytes octets fits e =
       IsBytes-rest (body bytes) version_2 octets prefix (IsBytes-take size bytes fits),
     )
   where
+    -- If `not b` is false, `b` is true.
     not_not : (b : Bool) → not b ≡ false → b ≡ true
     not_not true e = refl
     not_not false e = absurd cc

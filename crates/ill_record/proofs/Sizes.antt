@@ -110,7 +110,7 @@ request_bound : Bounds → (o : Option Apdu) → IfSome o IsApdu → length ((ma
 request_bound bounds None is = omega arith
 request_bound bounds (Some a) is = omega (arith, bounds.longest a is)
 
--- The record of a side in range has at most 41,811 bytes.
+-- The record of a consistent side in range has at most 41,811 bytes. This is the sum of the bounds of its fields.
 pub record_bound : Bounds → (side : Side) → IsSide side → length (record_encoding side) ≤ 41811
 unfolding record_encoding
 record_bound bounds (sides.Requester x) is =
@@ -145,11 +145,11 @@ record_bound bounds (sides.Responder y) is =
 
 -- ---- records of many sides
 
--- The law of one record: the record of a side in range has at most 41,811 bytes.
+-- The law of one record: the record of a consistent side in range has at most 41,811 bytes.
 abbrev pub IsShort : Type 0
 IsShort = (side : Side) → IsSide side → length (record_encoding side) ≤ 41811
 
--- If `IsShort` holds, the parts of sides in range have at most 41,813 bytes each, including the length.
+-- If `IsShort` holds, the parts of `sides` have at most 41,813 bytes each: a record and its length.
 parts_bound : IsShort → (sides : List Side) → Each IsSide sides → length (encode_all part.encode sides) ≤ 41813 * length sides
 unfolding encode_all Each
 parts_bound short [] each = omega arith

@@ -88,7 +88,7 @@ inconsistent : (held : Bool) (all : SidesOf) → (held ≡ true → ⊥)
 inconsistent true all breaks = absurd (breaks refl)
 inconsistent false all breaks = refl
 
--- If putting a side that was read fails, its fault is right for all sides together.
+-- If `side` cannot be put after the sides `held`, the fault is right for decoding `all` sides together.
 pub put_fails : (of_role : Role) (all : List Side) (held : SidesOf) (side : Side) (rest : List Side) (fault : RecordFault)
     (new : SidesOf)
     → held.role ≡ of_role → held.sides ++ side ∷ rest ≡ all → length all ≤ most_sides
@@ -106,7 +106,7 @@ put_fails of_role all held side rest fault new same whole few puts = absurd puts
 
 -- ---- a record of one side
 
--- If `r >>= f` gives a value, `r` gives one.
+-- If `r >>= f` gives a value, `r` gives one, too.
 ok_begins : {V W : Type 0} (r : Result V LayoutFault) (f : V → Result W LayoutFault) (w : W) → (r >>= f) ≡ Ok w → is_ok r ≡ true
 ok_begins (Ok v) f w e = refl
 ok_begins (Err fault) f w e = absurd cc
@@ -161,7 +161,7 @@ count_tells octets first after_role after_count of_role n begun read_role read_c
     ap (λ r. counts_any (r >>= λ a. side_count.read a.1 >>= λ b. Ok ((a.0, b.0), b.1))) role_read
     ∙ ap (λ r. counts_any (r >>= λ b. Ok ((of_role, b.0), b.1))) read_count
 
--- If all sides are read to the end, an answer that is right for them is right for the octets.
+-- If `sides` are read to the end, a `result` that is right for holding them together is right for `octets`.
 pub all_held : (octets : List ℕ) (first after_role after_count last : Cursor) (of_role : Role) (n : ℕ) (sides : List Side)
     (x : Unit {0}) (result : Result SidesOf RecordFault)
     → first ≡ cursor_at 4 octets

@@ -81,20 +81,20 @@ responder_grows y made txn more = (ap (λ t. idle_of (sides.Responder (record y 
 issues_more : (txn : Qualifiers) (old new : List Apdu) → IssuesNext txn old new → IsPrefix old new
 issues_more txn old new more = subst (IsPrefix old) (sym more.1) (one_more old _)
 
--- A requester grows by a wish.
+-- A wish keeps the transaction of a requester, and only appends to its messages (`Grows`).
 wish_grows : CoreRows → (x made : RequesterRecord) (wish : Wish) → requester_actions.acts x wish ≡ Ok made
     → Grows (sides.Requester x) (sides.Requester made)
 wish_grows rows x made wish e =
     requester_grows x made (rows.wish_txn x made wish e) (issues_more x.txn x.issued made.issued (rows.wish_issues x made wish e))
 
--- A deed only appends to the messages of a responder (`Grows`).
+-- A deed keeps the transaction of a responder, and only appends to its messages (`Grows`).
 deed_grows : CoreRows → (y made : ResponderRecord) (deed : Deed) (today : Date)
     → responder_actions.acts y deed today ≡ Ok made → Grows (sides.Responder y) (sides.Responder made)
 deed_grows rows y made deed today e =
     responder_grows y made (rows.deed_txn y made deed today e)
     (issues_more y.txn y.issued made.issued (rows.deed_issues y made deed today e))
 
--- A side grows by an action that is done.
+-- If an action is done, the side keeps its role and transaction, and only appends to its messages (`Grows`).
 acts_grow : CoreRows → (old new : Side) (action : Action) → acts old action ≡ Ok new → Grows old new
 acts_grow rows (sides.Requester x) new (actions.Wish wish) e =
     let is = done_is sides.Requester (requester_actions.acts x wish) new e in
@@ -110,7 +110,8 @@ unfilled_grows : (y new : ResponderRecord) (a : Apdu) → IssuesUnfilled y a.bod
 unfilled_grows y new a (inl none) = none_more y.issued new.issued none
 unfilled_grows y new a (inr more) = subst (IsPrefix y.issued) (sym more.1) (one_more y.issued _)
 
--- A side grows by each APDU.
+-- The side after an APDU has the role and the transaction of `old`. It keeps all issued messages, and may append one
+-- (`Grows`).
 takes_grow : CoreRows → (old : Side) (a : Apdu) → Grows old (takes old a).1
 takes_grow rows (sides.Requester x) a =
     let new = (requester_deliveries.takes x a).1 in

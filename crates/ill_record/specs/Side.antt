@@ -127,7 +127,7 @@ idle_side roles.Responder txn = sides.Responder (responder_of txn Idle None None
 abbrev pub idle_of : Side → Side
 idle_of side = idle_side (role_of side) (txn_of side)
 
--- Returns the side of a result, or its refusal.
+-- Returns the side that `make` makes of the record in a result, or the refusal of the result.
 abbrev pub done_by : {R : Type 0} → (R → Side) → Result R Refusal → Result Side Refusal
 done_by make (Ok new) = Ok (make new)
 done_by make (Err refusal) = Err refusal

@@ -1,4 +1,7 @@
 //! The unread rest of a saved record.
+//!
+//! In the contracts, `read` names the field of `specs/` that gives the result. `room` bounds the offset before a field
+//! is read, and `near` the offset after it.
 
 ghost use Rattle.std.specs.Prelude.{◌≡◌, ◌+◌, ◌*◌, ◌≤◌, length, IfOk, OnOk};
 ghost use Rattle.ill_values.specs.Text.{IsQualifier};
@@ -139,7 +142,7 @@ impl<'a> Cursor<'a> {
         }
     }
 
-    /// Reads a truth value.
+    /// Reads a truth value: 0 is false, and 1 is true.
     pub fn mark(&mut self) -> Result<bool, LayoutFault>
         requires room { self.old.at ≤ 100000000 }
         ensures read { Reads (λ b. b) result self.new (mark.read self.old) }
@@ -153,7 +156,7 @@ impl<'a> Cursor<'a> {
         }
     }
 
-    /// Reads a role.
+    /// Reads a role: 0 is a requester, and 1 a responder.
     pub fn role(&mut self) -> Result<Role, LayoutFault>
         requires room { self.old.at ≤ 100000000 }
         ensures read { Reads (λ r. r) result self.new (role.read self.old) }
@@ -167,7 +170,7 @@ impl<'a> Cursor<'a> {
         }
     }
 
-    /// Reads the number of a message, if there is one.
+    /// Reads an octet as the number of a message. The octet 0 is no number.
     pub fn optional_number(&mut self) -> Result<Option<Number>, LayoutFault>
         requires room { self.old.at ≤ 100000000 }
         ensures read { Reads (λ n. n) result self.new (optional_number.read self.old) }
@@ -244,6 +247,7 @@ impl<'a> Cursor<'a> {
         }
     }
 
+    /// Reads the length of a qualifier: 1 to 64.
     fn text_size(&mut self) -> Result<usize, LayoutFault>
         requires room { self.old.at ≤ 100000000 }
         ensures read { Reads (λ n. n) result self.new (text_size.read self.old) }
@@ -259,7 +263,7 @@ impl<'a> Cursor<'a> {
         }
     }
 
-    /// Reads a due date, if there is one.
+    /// Reads eight bytes as a due date. Eight zeros are no due date.
     pub fn due(&mut self) -> Result<Option<Day>, LayoutFault>
         requires room { self.old.at ≤ 100000000 }
         ensures read { Reads (λ d. d) result self.new (due.read self.old) }
@@ -307,6 +311,7 @@ impl<'a> Cursor<'a> {
         }
     }
 
+    /// Reads an ILL-Request. Any other APDU is a fault at its first byte.
     fn ill_request(&mut self, alloc: Global) -> Result<Apdu, RecordFault>
         requires room { self.old.at ≤ 100000000 }
         ensures read { ReadsInMemory (λ a. a) result self.new (ill_request.read self.old) }

@@ -37,7 +37,7 @@ pub fn decode_record2(alloc: Global, bytes: &[u8]) -> Result<Sides, RecordFault>
     }
 }
 
-/// Decodes a record of version 1, as the only side.
+/// Decodes a record of version 1. Its side is the only one, or there is none if that side is idle.
 fn one_side(alloc: Global, bytes: &[u8]) -> Result<Sides, RecordFault>
     ensures { Decodes (read_alone (record_at bytes.now)) (begins_as_record bytes.now) result }
 {

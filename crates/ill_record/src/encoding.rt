@@ -125,6 +125,7 @@ fn push_text(bytes: &mut Vec<u8>, text: &[u8]) -> Result<(), OutOfMemory>
     Ok(())
 }
 
+/// Appends the due date as eight digits, or eight zeros if there is none.
 fn push_due_octets(bytes: &mut Vec<u8>, due: Option<Day>) -> Result<(), OutOfMemory>
     ensures bytes { OnOk result (bytes.new.items ≡ bytes.old.items ++ due_octets due) }
     ensures range { OnOk result (IfSome due IsDate) }

@@ -63,6 +63,7 @@ impl FromStr for Role {
     }
 }
 
+/// Displays a role by its name, padded as the format asks.
 impl fmt::Display for Role {
     ghost output = { λ role. Some (role_name role) };
 

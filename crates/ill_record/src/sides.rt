@@ -181,7 +181,7 @@ fn insert_new<V: Drop>(map: &mut IndexMap<TxnId, V>, key: TxnId, value: V) -> Re
     }
 }
 
-/// Performs `action`, if `map` has the side of this transaction.
+/// Lets the side of `txn` perform `action`, if `map` has this side.
 fn act_among(
     map: &mut IndexMap<TxnId, Side>,
     alloc: Global,
@@ -196,7 +196,7 @@ fn act_among(
     }
 }
 
-/// Hands over a message, if `map` has the side of its transaction.
+/// Hands `apdu` to the side of its transaction, if `map` has this side.
 fn take_among(
     map: &mut IndexMap<TxnId, Side>,
     alloc: Global,

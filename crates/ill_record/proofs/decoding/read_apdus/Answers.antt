@@ -18,7 +18,7 @@ returns-in_err-apdu c =
           c.apdu.new.self (apdu.read c.loop.cursor) whole stays c.in_err-apdu.ensures.read,
     )
 
--- One more turn of the loop keeps the invariant.
+-- One more turn of the loop keeps the invariant. The next APDU becomes the last of the list (`next`).
 pub loop-preserved : goal.loop-preserved
 loop-preserved c =
     let next = one_more apdu c.loop.apdus.items c.args.count c.loop.counter c.loop.cursor

@@ -1,3 +1,4 @@
+-- States the loop invariant of `read_apdus` (`src/decoding.rt`).
 use Rattle.std.proofs.Common.{◌≡◌, ◌+◌, ◌-◌, ◌*◌, ◌≤◌}
 use Rattle.ill_record.specs.Layout.{apdu, read_all}
 use Rattle.ill_record.proofs.Lists.{after}

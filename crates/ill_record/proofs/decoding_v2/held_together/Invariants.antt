@@ -1,3 +1,4 @@
+-- States the loop invariant of `held_together` (`src/decoding_v2.rt`).
 use Rattle.std.proofs.Common.{◌≡◌, true, ◌++◌}
 use Rattle.ill_record.specs.Sides.{may_be_held}
 use Rattle.ill_record.proofs.decoding_v2.held_together.Given as goal

@@ -19,7 +19,7 @@ returns-in_err-part-clause-read c =
           c.part.new.cursor (part.read c.loop.cursor) whole stays c.in_err-part.ensures.read,
     )
 
--- One more turn of the loop keeps the invariant.
+-- One more turn of the loop keeps the invariant. The next side becomes the last of the list (`next`).
 pub loop-preserved : goal.loop-preserved
 loop-preserved c =
     let next = one_more part c.loop.sides.items c.args.count c.loop.counter c.loop.cursor

@@ -1,3 +1,4 @@
+-- States the loop invariant of `parts` (`src/decoding_v2.rt`).
 use Rattle.std.proofs.Common.{◌≡◌, ◌+◌, ◌-◌, ◌*◌, ◌≤◌, length}
 use Rattle.ill_record.specs.Layout.{read_all}
 use Rattle.ill_record.specs.RecordsV2.{part}

@@ -7,7 +7,7 @@ use Rattle.ill_record.specs.Layout.{encode_all}
 use Rattle.ill_record.proofs.Lists.{one_encoded, all_encoded, one_each, none_each}
 use Rattle.ill_record.proofs.encoding.push_apdus.Goals as goal
 
--- One more turn of the loop keeps the invariant.
+-- One more turn of the loop keeps the invariant. It appends the encoding of the APDU `a` at `index`.
 pub loop-apdu-preserved : goal.loop-apdu-preserved
 loop-apdu-preserved c =
     let apdus = c.args.apdus.now in

@@ -1,3 +1,4 @@
+-- States the loop invariant of `push_apdus` (`src/encoding.rt`).
 use Rattle.std.proofs.Common.{◌≡◌, ◌++◌, drop}
 use Rattle.ill_values.specs.Apdu.{IsApdu}
 use Rattle.ill_der.specs.ShortForm.{encoding}

@@ -10,7 +10,7 @@ use Rattle.ill_record.proofs.Lists.{one_encoded, all_encoded, one_each, none_eac
 use Rattle.ill_record.proofs.encoding_v2.push_parts.Goals as goal
 use Rattle.ill_record.proofs.encoding_v2.push_parts.Goals.{in-Some+in_ok-push_part, in_default}
 
--- One more turn of the loop keeps the invariant.
+-- One more turn of the loop keeps the invariant. A side is at `place`, so the second branch cannot be taken.
 pub loop-place-preserved : goal.loop-place-preserved
 loop-place-preserved c =
     let held = c.args.sides.now.sides in
@@ -38,7 +38,7 @@ returns-clause-bytes c =
     let all : length held ≤ c.loop-place.place = omega (arith, c.loop-place-test.false, c.len-place-end.ensures.value) in
     sym (all_encoded part.encode c.loop-place.bytes.items held c.loop-place.place all) ∙ c.loop-place.invariant.bytes
 
--- After the last side, all sides are in range.
+-- After the last side, all sides are consistent and in range.
 pub returns-clause-sides : goal.returns-clause-sides
 returns-clause-sides c =
     let held = c.args.sides.now.sides in

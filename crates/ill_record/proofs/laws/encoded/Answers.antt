@@ -4,7 +4,7 @@ use Rattle.ill_record.proofs.Fields.{Below}
 use Rattle.ill_record.proofs.RecordLaws.{side_takes, record_takes}
 use Rattle.ill_record.proofs.laws.encoded.Goals as goal
 
--- Bytes that are read as a side are its encoding.
+-- Bytes that are read as a side are its encoding. `below` has the laws of the crates below that this needs.
 pub returns : goal.returns
 returns c =
     let below : Below = record {

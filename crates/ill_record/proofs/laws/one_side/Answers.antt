@@ -2,6 +2,6 @@
 use Rattle.ill_record.proofs.RecordLaws.{one_side}
 use Rattle.ill_record.proofs.laws.one_side.Goals as goal
 
--- Two sides in range with equal encodings are equal.
+-- Two consistent sides in range with equal encodings are equal.
 pub returns : goal.returns
 returns c = one_side c.read_again.ensures

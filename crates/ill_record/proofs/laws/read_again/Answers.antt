@@ -3,7 +3,7 @@
 use Rattle.ill_record.proofs.RecordLaws.{record_again}
 use Rattle.ill_record.proofs.laws.read_again.Goals as goal
 
--- A side in range is read from its encoding.
+-- A consistent side in range is read from its encoding.
 pub returns : goal.returns
 returns c = record_again (record {
   day_encoded = c.date_texts.ensures.encoded;

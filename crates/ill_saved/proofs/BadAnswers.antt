@@ -1,4 +1,5 @@
--- The definitions of a desk's calls exclude each case of `BadAnswers`.
+-- The definitions of a desk's calls exclude each case of `BadAnswers`. In most cases the last premise `is` is false by
+-- definition.
 use Rattle.std.proofs.Common.{◌≡◌, ◌⊎◌, inl, inr, ℕ, Bool, List, Option, Some, None, Result, Err, sym, ◌∙◌}
 use Rattle.std.proofs.lemmas.Bool.{true≢false}
 use Rattle.ill_store.specs.declared.store.NextCall.{NextCall}
@@ -16,7 +17,7 @@ use Rattle.ill_saved.specs.BadAnswers.{read_other, read_store, LandsWrong, done,
 
 -- ---- faults
 
--- A save has no fault that is of no record.
+-- A fault of `IsOfNoRecord`, such as one of an action or a message, is no fault of a save.
 not_saving : (fault : DeskFault) → IsOfNoRecord fault → IsSaveFault (Err fault) → ⊥
 not_saving _ (core refusal) is = is
 not_saving _ (bytes fault) is = is
@@ -35,7 +36,7 @@ none_saves _ save_no_record is = is
 none_saves _ (save_record fault) is = is
 none_saves _ save_too_large is = is
 
--- Creating a desk has no fault that is of no record.
+-- A fault of `IsOfNoRecord` is no answer of creating a desk.
 not_creating : (fault : DeskFault) → IsOfNoRecord fault → IsCreateAnswer (Err fault) → ⊥
 not_creating _ (core refusal) is = is
 not_creating _ (bytes fault) is = is
@@ -52,7 +53,7 @@ none_creates _ (create_other fault other) is = not_creating fault other is
 none_creates _ create_no_record is = is
 none_creates _ (create_record fault) is = is
 
--- Loading has no fault that is of no record.
+-- A fault of `IsOfNoRecord` is no fault of loading.
 not_loading : (has_digest : Bool) (fault : DeskFault) → IsOfNoRecord fault → IsLoadFault has_digest fault → ⊥
 not_loading has_digest _ (core refusal) is = is
 not_loading has_digest _ (bytes fault) is = is
@@ -71,7 +72,7 @@ none_loads has_digest _ load_no_record is = is
 none_loads has_digest _ load_memory is = is
 none_loads has_digest _ (load_digest without) is = true≢false (sym is ∙ without)
 
--- Reading a record has no fault that is of no record.
+-- A fault of `IsOfNoRecord` is no fault of reading a record.
 not_reading : (has_digest : Bool) (fault : DeskFault) → IsOfNoRecord fault → IsReadFault has_digest fault → ⊥
 not_reading has_digest _ (core refusal) is = is
 not_reading has_digest _ (bytes fault) is = is
@@ -82,7 +83,7 @@ not_reading has_digest _ no_such_transaction is = is
 not_reading has_digest _ desk_full is = is
 not_reading has_digest _ store_memory is = is
 
--- Reading a record has no fault that loading has not.
+-- If loading cannot have a fault, reading a record cannot have it.
 not_loaded : (has_digest : Bool) (fault : DeskFault) → CannotLoad has_digest fault → IsReadFault has_digest fault → ⊥
 not_loaded has_digest _ (load_other fault other) is = not_reading has_digest fault other is
 not_loaded has_digest _ load_exists is = is
@@ -105,12 +106,12 @@ old_or_new (Some Works) record_bytes old new is = is
 old_or_new (Some FailsOld) record_bytes old new is = inl is
 old_or_new (Some FailsNew) record_bytes old new is = inr is
 
--- Two facts exclude either of two others.
+-- If neither `A` nor `B` holds, `A ⊎ B` does not hold.
 neither : {A B : Type 0} → (A → ⊥) → (B → ⊥) → A ⊎ B → ⊥
 neither not_a not_b (inl a) = not_a a
 neither not_a not_b (inr b) = not_b b
 
--- A save lands nothing of `LandsWrong`.
+-- If a save may land `new`, as `SaveLands` says, `LandsWrong` does not exclude it.
 pub none_lands : (plan : Option NextCall) (record_bytes : List ℕ) (answer : Result (Unit {0}) DeskFault)
     (old new : Option (List ℕ)) → LandsWrong record_bytes old new answer → SaveLands plan record_bytes answer old new → ⊥
 none_lands plan record_bytes _ old new (done other) is = other is.0
@@ -118,18 +119,18 @@ none_lands plan record_bytes _ old new (failed not_old not_new) is =
     neither not_old not_new (old_or_new plan record_bytes old new is.0)
 none_lands plan record_bytes _ old new (memory other) is = other is
 
--- A save for which memory ran out leaves no plan of `PlansWrong`.
+-- If memory ran out and a save may leave the plan `new`, `PlansWrong` does not exclude it.
 pub none_plans : (old new : Option NextCall) → PlansWrong old new → PlanAfter (Err OutOfMemory) old new → ⊥
 none_plans old new (plan_other not_spent not_old) is = neither not_spent not_old is
 
 -- ---- what a loss of power leaves
 
--- If the landed record alone may be left, no other one is.
+-- If the landed record alone may be left, no other record is left.
 pub none_outlasts : (landed : Option (List ℕ)) (leaves : Option (List ℕ) → Type 0) (left : Option (List ℕ))
     → LeavesLanded landed leaves → leaves left → (left ≡ landed → ⊥) → ⊥
 none_outlasts landed leaves left lasts is differ = differ (lasts left is)
 
--- If one of those before or another one may be left, no third one is.
+-- If only `other` and the records of `before` may be left after a call, no third record is left.
 pub none_outlasts_either : (other : Option (List ℕ)) (before after : Option (List ℕ) → Type 0) (left : Option (List ℕ))
     → LeavesBeforeOr other before after → after left → (before left → ⊥) → (left ≡ other → ⊥) → ⊥
 none_outlasts_either other before after left lasts is not_before not_other = neither not_before not_other (lasts left is)

@@ -1,4 +1,4 @@
--- The contents of a desk of many transactions.
+-- The contents of a desk of many transactions: its sides, their released counts, and the sides that back them.
 use Rattle.std.proofs.Common.{rules, arith, ◌≡◌, ◌⊎◌, inl, inr, ℕ, zero, suc, ◌+◌, ◌<◌, ◌≤◌, nat_lt, length, map, Bool, true}
 use Rattle.std.proofs.Common.{false, not, cond, List, [], ◌∷◌, ◌++◌, Option, Some, None, is_some, Result, Ok, Err, is_ok, refl}
 use Rattle.std.proofs.Common.{ap, sym, subst, ◌∙◌, true≢false, slice_index_or, drop, append_assoc}
@@ -97,7 +97,7 @@ found_side txn sides counted as_many =
     ap (λ vs. found_by txn_of txn vs) (sym (sides_there sides counted as_many))
     ∙ found_mapped txn_held txn_of (λ (held : DeskEntry). held.side) (λ held. refl) txn (held_of sides counted)
 
--- Appending a side and its count appends the side to the held sides.
+-- Appending a side and its count appends the entry of both to the held sides.
 pub held_last : (sides : List Side) (counted : List ℕ) (side : Side) (n : ℕ) → length counted ≡ length sides
     → held_of (sides ++ side ∷ []) (counted ++ n ∷ []) ≡ held_of sides counted ++ record { side = side; released = n } ∷ []
 unfolding held_of
@@ -128,7 +128,8 @@ put_among after x n held sides counted true found on =
     ap (λ (h : DeskEntry). record { side = after; released = h.released } ∷ held_of sides counted) (some_is _ _ found)
 put_among after x n held sides counted false found on = ap (λ hs. record { side = x; released = n } ∷ hs) (on found)
 
--- Putting a side whose transaction is held changes that side alone. All counts are unchanged.
+-- If the entry `held` has the transaction of `after`, putting `after` among the sides puts it in this entry. The count
+-- of the entry is unchanged.
 pub held_put : (after : Side) (held : DeskEntry) (sides : List Side) (counted : List ℕ) → length counted ≡ length sides
     → found_by txn_held (txn_of after) (held_of sides counted) ≡ Some held
     → held_of (put_by txn_of after sides) counted
@@ -193,7 +194,8 @@ none_there : {X : Type 0} (test : X → Bool) (xs : List X) → nat_lt (position
 none_there test [] past = refl
 none_there test (x ∷ xs) past = not_here x (find test xs) (position_or_len test xs) (length xs) (test x) past (none_there test xs)
 
--- The count at the index of the side of `txn` is the number of its released messages.
+-- The count at the index of the side of `txn` is the number of its released messages. A search stops at this index
+-- among the sides and among the entries.
 pub count_there : (role : Role) (sides : List Side) (counted : List ℕ) (txn : Qualifiers) (place n : ℕ)
     → length counted ≡ length sides → Some place ≡ position (λ side. is_same_txn txn (txn_of side)) sides
     → place < length sides → n ≡ slice_index_or counted place n
@@ -258,8 +260,8 @@ backed_on landed old new released row backed =
           backed.has-released;
     }
 
--- Let `landed` back the held side that is found, and back `new`.
--- Then it backs the held side that is found after `new` is put.
+-- Let `landed` back the entry that is found, or `idle`, and back `new` if `new` has the transaction (`same`). Then it
+-- backs the entry that is found after `new` is put.
 found_backs : (landed : Side) (idle new old : DeskEntry) (found : Option DeskEntry) (same : Bool)
     → (same ≡ true → IsBackedBy landed new.side new.released)
     → IsBackedBy landed (found_or idle found).side (found_or idle found).released
@@ -267,7 +269,8 @@ found_backs : (landed : Side) (idle new old : DeskEntry) (found : Option DeskEnt
 found_backs landed idle new old found true backs backed = backs refl
 found_backs landed idle new old found false backs backed = backed
 
--- If landed sides back the desk's contents, they back them after a transition of one side.
+-- If landed sides back the desk's contents, they back them after a transition of one side. In the transaction of `new`
+-- they back `new` (`here`), and all other entries are unchanged.
 pub row_backs_held : (landed : SidesOf) (live : DeskContents) (held : DeskEntry) (new : Side)
     → held_for (txn_of new) live ≡ held → IsSideTransition held.side new → AreBackedBy landed live
     → AreBackedBy landed (with_held live (record { side = new; released = held.released }))
@@ -294,7 +297,7 @@ pub row_backs_all : (landed : Result DeskContents RecordFault) (live : DeskConte
 row_backs_all (Ok landed) live held new is row backed = row_backs_held (sides_held landed) live held new is row backed
 row_backs_all (Err fault) live held new is row backed = backed
 
--- For desks of one role, landed bytes give equal landed sides.
+-- If `old` and `new` have one role, the bytes `landed` give equal landed sides for both.
 same_landed : (landed : Option (List ℕ)) (old new : DeskContents) → new.role ≡ old.role
     → landed_live many_sides landed old ≡ landed_live many_sides landed new
 same_landed None old new role = ap (λ r. Ok (no_sides r)) (sym role)
@@ -323,6 +326,7 @@ took_taken : (live : DeskContents) (held : DeskEntry) (r : Result Taking Refusal
 took_taken live held (Ok taking) new e = search rules
 took_taken live held (Err refusal) new e = search rules
 
+-- Below, `held` is the entry of `txn`, and `after` is its side after a call.
 module _ (live : DeskContents) (txn : Qualifiers) (held : DeskEntry) (after : Side)
     (found : found_by txn_held txn live.held ≡ Some held) where
   -- Returns the desk's contents with `after` in place of the old side. The released count is unchanged.
@@ -348,6 +352,7 @@ module _ (live : DeskContents) (txn : Qualifiers) (held : DeskEntry) (after : Si
   acts_held action (Err refusal) fits acts =
       (acts_there action fits ∙ ap (acted_by live held) acts.0, refl, unchanged live held txn after found acts.1)
 
+-- Below, `held` is the entry of the transaction of `a`, and `after` its side after a call. The other role issues `a`.
 module _ (live : DeskContents) (a : Apdu) (held : DeskEntry) (after : Side)
     (found : found_by txn_held a.txn live.held ≡ Some held) (other : is_own live.role a.body ≡ false) where
   -- If the side of the APDU's transaction is held, and the APDU is of the other role, that side takes it.
@@ -459,7 +464,7 @@ none_with : (live : DeskContents) (txn : Qualifiers) → found_by txn_held txn l
 unfolding side_with
 none_with live txn none = found_mapped txn_held txn_of side_of (λ held. refl) txn live.held ∙ ap (option_map side_of) none
 
--- A side that has begun in a transaction that is not held.
+-- Below, `txn` is not held, and there is room. A transition leads from its idle side to `side`, which has begun.
 module _ (grows : RowsGrow) (live : DeskContents) (txn : Qualifiers) (none : found_by txn_held txn live.held ≡ None)
     (room : nat_lt (length live.held) most_sides ≡ true) (side : Side) (row : IsSideTransition (idle_side live.role txn) side)
     (begun : is_idle side ≡ false) where
@@ -496,6 +501,7 @@ first_begins law roles.Requester a side request other taken = absurd (true≢fal
 
 -- ---- a desk of which one side is changed
 
+-- Below, each of `sides` has a count in `counted`.
 module _ (role : Role) (sides : List Side) (counted : List ℕ) (as_many : length counted ≡ length sides) where
   -- Returns the contents of a desk with these sides and counts.
   abbrev held_so : DeskContents
@@ -510,12 +516,14 @@ module _ (role : Role) (sides : List Side) (counted : List ℕ) (as_many : lengt
       → (held : DeskEntry) × (found_by txn_held txn (held_of sides counted) ≡ Some held) × (held.side ≡ side)
   side_held txn side there = some_mapped _ side (sym there ∙ found_side txn sides counted as_many)
 
+  -- Below, a call that `Does` describes leads a side to the next one by a transition, or changes nothing (`rows`).
   module _ (grows : RowsGrow) (txn : Qualifiers) {A : Type 0} (Does : Side → A → Side → Type 0)
       (rows : (old new : Side) (answer : A) → Does old answer new → IsSideTransition old new ⊎ (new ≡ old)) where
     -- A side keeps its transaction in a call that `Does` describes.
     same_txn : (side after : Side) (answer : A) → Does side answer after → txn ≡ txn_of side → txn ≡ txn_of after
     same_txn side after answer does of = by (rows side after answer does)
       where
+        -- A transition keeps the transaction (`grows`), and an unchanged side has it.
         by : IsSideTransition side after ⊎ (after ≡ side) → txn ≡ txn_of after
         by (inl row) = of ∙ sym (idle_txn side) ∙ ap txn_of (sym (grows side after row).0) ∙ idle_txn after
         by (inr same) = of ∙ ap txn_of (sym same)
@@ -556,6 +564,7 @@ module _ (role : Role) (sides : List Side) (counted : List ℕ) (as_many : lengt
         → IsBackedByRead ManyBack landed (with_held held_so (record { side = after; released = held.released }))
     changed_backs landed held after answer found does of backed = by (rows held.side after answer does)
       where
+        -- The contents are backed after a transition of the side, and if it is unchanged.
         by : IsSideTransition held.side after ⊎ (after ≡ held.side)
             → IsBackedByRead ManyBack landed (with_held held_so (record { side = after; released = held.released }))
         by (inl row) = row_backs_all landed held_so held after
@@ -569,6 +578,7 @@ module _ (role : Role) (sides : List Side) (counted : List ℕ) (as_many : lengt
         → AreBackedBy landed (with_held held_so (record { side = after; released = held.released }))
     changed_backs_by landed held after answer found does of backed = by (rows held.side after answer does)
       where
+        -- The contents are backed after a transition of the side, and if it is unchanged.
         by : IsSideTransition held.side after ⊎ (after ≡ held.side)
             → AreBackedBy landed (with_held held_so (record { side = after; released = held.released }))
         by (inl row) = row_backs_held landed held_so held after
@@ -620,6 +630,7 @@ module _ (role : Role) (sides : List Side) (counted : List ℕ) (as_many : lengt
 
 -- ---- a desk with one more side
 
+-- Below, each of `sides` has a count in `counted`, and `side` may be put after them.
 module _ (role : Role) (sides : List Side) (counted : List ℕ) (as_many : length counted ≡ length sides) (side : Side)
     (may : put_refusal (record { role = role; sides = sides }) side ≡ None) where
   -- No side of the transaction of `side` is held.
@@ -749,7 +760,7 @@ none_are P = tt
 pub none_back : (role : Role) → ManyBack (no_sides role) (no_sides role)
 none_back role = whole_backed (record { role = role; sides = [] }) (none_are IsConsistent)
 
--- If each side is in range, each is consistent.
+-- If each side is consistent and in range (`IsSide`), each is consistent.
 pub each_consistent : (sides : List Side) → Each IsSide sides → Each IsConsistent sides
 unfolding Each
 each_consistent [] each = tt
@@ -763,6 +774,7 @@ SidesReadAgain = (all : SidesOf) → AreSides all → records_at (sides_encoding
 abbrev FollowsIssues : Type 0
 FollowsIssues = (old new : Side) → IsAfterTransitions old new → IsPrefix (issued_of old) (issued_of new)
 
+-- Below, the sides `all` are consistent, and each has a count in `counted`.
 module _ (follows : FollowsIssues) (all : SidesOf) (counted : List ℕ) (as_many : length counted ≡ length all.sides)
     (each : Each IsConsistent all.sides) where
   -- If a found side is consistent, the found side, or the idle one if none is found, is consistent.
@@ -777,7 +789,8 @@ module _ (follows : FollowsIssues) (all : SidesOf) (counted : List ℕ) (as_many
   same_or txn (Some held) = refl
   same_or txn None = refl
 
-  -- If landed sides back the desk's contents, the sides of the desk back them, too.
+  -- If landed sides back the desk's contents, the sides `all` of the desk back them, too. They have all messages of the
+  -- landed ones, and these have each released message.
   self_backed : (landed : SidesOf) → AreBackedBy landed (record { role = all.role; held = held_of all.sides counted })
       → AreBackedBy all (record { role = all.role; held = held_of all.sides counted })
   unfolding side_with
@@ -825,7 +838,7 @@ unfolding Each
 each_if true side is = tt
 each_if false side is = (is, tt)
 
--- The law of one record: bytes that are read as a side are its encoding, and it is in range.
+-- The law of one record. Bytes that are read as a side are its encoding, and the side is consistent and in range.
 abbrev pub OneConsistent : Type 0
 OneConsistent = (bytes : List ℕ) (side : Side) → IsBytes bytes → record_at bytes ≡ Ok side → (bytes ≡ record_encoding side)
     × IsSide side

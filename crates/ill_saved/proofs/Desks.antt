@@ -234,7 +234,7 @@ trailing_alone bytes (Err fault) found less decodes = search rules
 
 -- ---- saving
 
--- The law of one record: a side in range is read from its encoding.
+-- The law of one record: a consistent side in range is read from its encoding.
 abbrev pub ReadsAgain : Type 0
 ReadsAgain = (side : Side) → IsSide side → record_at (record_encoding side) ≡ Ok side
 
@@ -279,7 +279,7 @@ keeps_whole landed_record side count is all =
 pub itself_backs : (side : Side) (count : ℕ) → IsConsistent side → count ≤ length (issued_of side) → IsBackedBy side side count
 itself_backs side count is few = record { consistent = is; follows = same; has-released = few }
 
--- The bytes of the landed record of a side are its record.
+-- If `landed_record` is that of the side `live`, its bytes are the record of `live`, as `IsRecordOf` says.
 pub record_of : ReadsAgain → (landed_record : LandedBytes) (live : Side) (released : ℕ) → IsLandedRecord landed_record live
     → released ≤ length (issued_of live) → IsRecordOf one_side OneBacks landed_record.bytes (entry live released)
 record_of again landed_record live released is few =
@@ -291,7 +291,7 @@ record_of again landed_record live released is few =
       saved = itself_backs live (length (issued_of live)) is.0.0 (omega arith);
     }
 
--- The next landed record has the record of the side as its bytes.
+-- If `result` is a landed record of the side `live`, its bytes are the record of `live`, as `IsRecordOf` says.
 pub next_record : {E : Type 0} → ReadsAgain → (live : Side) (released : ℕ) (result : Result LandedBytes E)
     → IfOk result (λ landed_record. IsLandedRecord landed_record live) → released ≤ length (issued_of live)
     → IfOk result (λ landed_record. IsRecordOf one_side OneBacks landed_record.bytes (entry live released))
@@ -300,13 +300,13 @@ next_record again live released (Err fault) is few = tt
 
 -- ---- loading
 
--- If nothing has landed, the idle side with no message released is backed.
+-- If `first` is idle, it backs itself with no message released, as the `unsaved` side of a desk.
 pub idle_backs : (first : Side) → first ≡ idle_of first → OneBacks (one_side.unsaved (alone first)) (alone first)
 idle_backs first idle =
     subst (λ side. IsBackedBy side first 0) idle
     (itself_backs first 0 (subst IsConsistent (sym idle) (idle_consistent first)) (omega arith))
 
--- If nothing has landed, the idle side of a side is backed with all of its messages released.
+-- If nothing has landed, the idle side of `live` is backed with all of its messages released.
 pub idle_again_backs : (live : Side) → IsBacked one_side OneBacks None (whole (idle_of live))
 idle_again_backs live =
     subst (λ side. OneBacks (whole side) (whole (idle_of live))) (sym (idle_twice live))
@@ -321,14 +321,15 @@ pub read_is_backed : {L K : Type 0} (effects : Effects L K) (backs : L → L →
     → effects.read bytes ≡ Ok live → backs live live → IsBacked effects backs (Some bytes) live
 read_is_backed effects backs bytes live read backed = subst (λ r. IsBackedByRead backs r live) (sym read) backed
 
--- If the live side goes back to the landed record, the loaded bytes are read as it with all its messages released.
+-- If the live side goes back to `new`, the loaded `bytes` are read as `new` with all its messages released.
 pub back_is : ReadsAgain → (landed_record : LandedBytes) (released : ℕ) (bytes : List ℕ) (old new : Side)
     → GoesBackTo landed_record released bytes true old new → one_side.read bytes ≡ Ok (whole new)
 back_is again landed_record released bytes old new (encoded, is, of) =
     ap one_side.read (encoded ∙ ap (λ (k : LandedBytes). k.bytes) is.1)
     ∙ ap (map_ok whole) (again new is.0)
 
--- If the live side goes back to the landed record, the loaded bytes back it, and it satisfies its rules.
+-- If the live side goes back to `new`, `new` satisfies its rules, and the loaded `bytes` back it. All its messages are
+-- released.
 pub back_rules : ReadsAgain → (landed_record : LandedBytes) (released : ℕ) (bytes : List ℕ) (old new : Side)
     → GoesBackTo landed_record released bytes true old new
     → Rules landed_record new released × IsBacked one_side OneBacks (Some bytes) (entry new released)
@@ -351,7 +352,7 @@ map_decodes f read begins (records.Bad at) decodes = ap (map_ok f) decodes
 map_decodes f read begins records.Inconsistent decodes = ap (map_ok f) decodes
 map_decodes f read begins records.Digest decodes = ap (map_ok f) decodes
 
--- A fault of decoding is the fault of reading a record.
+-- If decoding `bytes` gives `fault`, a read of the record may answer with `of_record fault`, as `ReadsRecord` says.
 pub fault_reads : {L K : Type 0} (effects : Effects L K) (bytes : List ℕ) (fault : RecordFault)
     → Decodes (effects.read bytes) (effects.begins bytes) (Err fault) → ReadsRecord effects bytes (Err (of_record fault))
 fault_reads effects bytes records.OutOfMemory decodes = tt
@@ -429,7 +430,8 @@ message_stays [] more n bytes are e = absurd cc
 message_stays (a ∷ issued) more zero bytes are e = (a, refl, are.0, cc)
 message_stays (a ∷ issued) more (suc n) bytes are e = message_stays issued more n bytes are.1 e
 
--- If the landed record has `bytes` as message `number`, they encode message `number` of the live side.
+-- If the landed record has `bytes` as message `number`, they encode message `number` of the live side. A desk without a
+-- landed record has no such message (`inl`). Otherwise the landed messages are a prefix of the live ones (`inr`).
 pub message_released : (landed_record : LandedBytes) (live : Side) (released number : ℕ) (bytes : List ℕ)
     → HoldsReleased landed_record live released → 1 ≤ number → slice_get landed_record.pieces (number - 1) ≡ Some bytes
     → (a : Apdu) × (message (issued_of live) number ≡ Some a) × IsApdu a × (bytes ≡ encoding a)
@@ -444,7 +446,7 @@ message_released landed_record live released (suc n) bytes (inr (side, is, of)) 
     let found = message_stays (issued_of side) of.prefix.0 n bytes is.0.1.issued piece in
     (found.0, subst (λ apdus. slice_get apdus n ≡ Some found.0) (sym of.prefix.1) found.1, found.2, found.3)
 
--- If a message is taken from the landed record, the answer is as `Sends` says.
+-- If a released message is taken from the landed record, the answer with its bytes is as `Sends` says.
 pub sends_released : {X : Type 0} (view : X → List ℕ) (value : X) (landed_record : LandedBytes) (live : Side)
     (released number : ℕ) (bytes : List ℕ)
     → HoldsReleased landed_record live released → 1 ≤ number → number ≤ released

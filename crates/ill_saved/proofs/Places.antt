@@ -40,7 +40,8 @@ pieces_of_prefix prefix more (place ∷ places) within =
     let others = pieces_of_prefix prefix more places (All-tail (IsWithin (length prefix)) place places within) in
     cc
 
--- Each message before offset `end` has its place in `whole`. The encodings of the messages in `left` follow.
+-- Each message before offset `end` has its place in `whole`. The encodings of the messages in `left` follow. `all` are
+-- the encodings of all messages.
 pub record ArePlaced (whole : List ℕ) (end : ℕ) (places : List Place) (left : List Apdu) (all : List (List ℕ)) : Type 0 where
   pub rest : drop end whole ≡ encode_all encoding left
   pub reached : end ≤ length whole
@@ -64,7 +65,7 @@ first_placed messages pieces places apdus end e within are =
           (pieces_of_prefix messages (encode_all encoding apdus) places within ∙ are);
     }
 
--- If the next message gets the place at `end`, all messages before the end of this place have their places.
+-- If the next message `a` gets the place at `end`, all messages up to its end have their places.
 pub next_placed : (whole : List ℕ) (end : ℕ) (places : List Place) (a : Apdu) (left : List Apdu) (all : List (List ℕ))
     → ArePlaced whole end places (a ∷ left) all
     → ArePlaced whole (end + length (encoding a)) (places ++ record { start = end; size = length (encoding a) } ∷ []) left all

@@ -16,7 +16,8 @@ use Rattle.ill_store.specs.Store.{plan_after_call}
 
 -- ---- faults
 
--- The fault is of an action, of an APDU or of a message. No call that loads or saves a record has it.
+-- The fault is of an action, of an APDU or of a message. Or it is a store's own lack of memory. No call that loads or
+-- saves a record has it.
 pub data IsOfNoRecord : DeskFault → Type 0 where
   core : (refusal : Refusal) → IsOfNoRecord (Core refusal)
   bytes : (fault : DerFault) → IsOfNoRecord (Bytes fault)
@@ -56,12 +57,12 @@ pub data CannotRead (has_digest : Bool) : DeskFault → Type 0 where
 
 -- ---- changes
 
--- A save of `bytes` may not land this. Each case gives the answer, and the landed bytes that are wrong.
+-- A save of `bytes` over the landed `old` may not land `new`. Each case gives the answer, and why `new` is wrong.
 pub data LandsWrong (bytes : List ℕ) (old new : Option (List ℕ)) : Result (Unit {0}) DeskFault → Type 0 where
   done : (new ≡ Some bytes → ⊥) → LandsWrong bytes old new (Ok tt)
   failed : (new ≡ old → ⊥) → (new ≡ Some bytes → ⊥) → LandsWrong bytes old new (Err (Store stores.Failed))
   memory : (new ≡ old → ⊥) → LandsWrong bytes old new (Err OutOfMemory)
 
--- A save may not leave this plan: it is neither the old one nor the plan after a call.
+-- A save may not leave the plan `new`: it is neither the plan `old` nor the plan after a call.
 pub data PlansWrong (old new : Option NextCall) : Type 0 where
   plan_other : (new ≡ plan_after_call old → ⊥) → (new ≡ old → ⊥) → PlansWrong old new

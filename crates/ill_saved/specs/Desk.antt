@@ -19,8 +19,8 @@ pub record DeskOf (L S : Type 0) : Type 0 where
 
 -- ---- answers
 
--- The desk answers bytes that begin with the APDU that was read, or that have its fault.
--- If the APDU is all of the bytes, the desk takes it. If bytes follow it, the answer is `Trailing`.
+-- The desk with the sides `old` answers bytes, and has the sides `new` after it. Reading gave an APDU and the bytes
+-- after it, or a fault. If no bytes follow the APDU, the desk takes it. If bytes follow it, the answer is `Trailing`.
 -- After a fault of the bytes, `Trailing` or `OutOfMemory`, nothing changes.
 abbrev pub DeskTakes : {L K : Type 0} → Effects L K → L → Result (Apdu × List ℕ) DerFault → Result Taking DeskFault → L →
     Type 0
@@ -29,8 +29,8 @@ DeskTakes effects old (Ok found) (Err OutOfMemory) new = new ≡ old
 DeskTakes effects old (Ok (a, [])) answer new = DeskTakesApdu effects old a answer new
 DeskTakes effects old (Ok (a, byte ∷ rest)) answer new = (answer ≡ Err Trailing) × (new ≡ old)
 
--- The answer is the APDU that is all of the bytes, or the fault of the bytes. If bytes follow it, it is `Trailing`.
--- Memory can run out for each APDU that is read.
+-- The answer is the APDU that is all of the bytes, or the fault of the bytes. If bytes follow the APDU, the answer is
+-- `Trailing`. Memory can run out for each APDU that is read.
 abbrev pub IsOneApdu : Result (Apdu × List ℕ) DerFault → Result Apdu DeskFault → Type 0
 IsOneApdu (Err fault) answer = answer ≡ Err (Bytes fault)
 IsOneApdu (Ok found) (Err OutOfMemory) = Unit {0}
@@ -81,12 +81,12 @@ Loads read begins (Some bytes) plan (Err (Saved fault)) =
 Loads read begins landed plan (Err OutOfMemory) = Unit {0}
 Loads read begins landed plan answer = ⊥
 
--- `leaves` holds of each record that a loss of power may leave: of the landed one alone.
+-- `leaves` holds of each record that a loss of power may leave. It is the landed one alone.
 abbrev pub LeavesLanded : Option (List ℕ) → (Option (List ℕ) → Type 0) → Type 0
 LeavesLanded landed leaves = (left : Option (List ℕ)) → leaves left → left ≡ landed
 
--- `after` holds of each record that a loss of power may leave after a call, and `before` of each that one might have left
--- before it. After the call it is `other`, or one of those before.
+-- `before` holds of each record that a loss of power might have left before a call. `after` holds of each that it may
+-- leave after the call. Each record of `after` is `other`, or one of `before`.
 abbrev pub LeavesBeforeOr : Option (List ℕ) → (Option (List ℕ) → Type 0) → (Option (List ℕ) → Type 0) → Type 0
 LeavesBeforeOr other before after = (left : Option (List ℕ)) → after left → before left ⊎ (left ≡ other)
 

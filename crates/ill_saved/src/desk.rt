@@ -1,4 +1,7 @@
 //! A desk: one side or many, in memory and in a store.
+//!
+//! The clause `lasts` says what a loss of power leaves after a call that is done. `left` says what it leaves after any
+//! answer. `memory` says when memory may run out, and `store` what becomes of the store.
 
 ghost use Rattle.std.specs.Prelude.{◌≡◌, ◌≤◌, true, length, option_copied, Some, IfOk, IfErr, IfSome, OnOk};
 ghost use Rattle.ill_der.specs.ShortForm.{apdu_at};
@@ -36,6 +39,7 @@ pub type Desk1<S> = AnyDesk<OneSide, S>;
 /// The sides of one library in many transactions, in memory and in a store. No side that is held is idle.
 pub type Desk<S> = AnyDesk<ManySides, S>;
 
+/// If the store is honest, the landed record backs the sides. So does each record that a loss of power may leave.
 impl<H: Holdings, S: Store> Model for AnyDesk<H, S> {
     ghost Value = { DeskOf H S };
 
@@ -134,9 +138,9 @@ impl<H: Holdings, S: Store> AnyDesk<H, S> {
     }
 
     /// Saves all sides, so that all their messages may be sent. A fault changes neither the sides nor the released
-    /// messages. The desk allocates all its memory before it calls the store. A loss of power meanwhile leaves a record
-    /// that has each released message. Once the save is done, it leaves the new record. After a fault it leaves
-    /// this one, or one that it might have left before.
+    /// messages. The desk allocates all its memory before it calls the store. A loss of power during the save leaves a
+    /// record that has each released message. After a save that is done, it leaves the new record. After a fault, it
+    /// leaves the new record, or one that it might have left before.
     pub fn save(&mut self, alloc: Global) -> Result<(), DeskFault>
         ensures live { self.new.live ≡ held_after H.effects result self.old.live }
         ensures store { DeskSaves (H.effects.encoding self.old.live) (S.state self.old.store) result

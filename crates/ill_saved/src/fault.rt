@@ -52,6 +52,7 @@ pub enum DeskFault {
     DeskFull,
 }
 
+/// Returns the fault of a desk for a fault of the bytes of an APDU. A lack of memory becomes the desk's own.
 impl From<DerFault> for DeskFault {
     ghost from_gives = { λ bytes fault. fault ≡ of_bytes bytes };
 
@@ -63,6 +64,7 @@ impl From<DerFault> for DeskFault {
     }
 }
 
+/// Returns the fault of a desk for a refusal of a side. A lack of memory becomes the desk's own.
 impl From<Refusal> for DeskFault {
     ghost from_gives = { λ refusal fault. fault ≡ of_core refusal };
 
@@ -74,6 +76,7 @@ impl From<Refusal> for DeskFault {
     }
 }
 
+/// Returns the fault of a desk for a fault of its store. A lack of memory becomes the desk's own.
 impl From<StoreFault> for DeskFault {
     ghost from_gives = { λ stored fault. fault ≡ of_store stored };
 
@@ -85,6 +88,7 @@ impl From<StoreFault> for DeskFault {
     }
 }
 
+/// Returns the fault of a desk for a fault of its record. A lack of memory becomes the desk's own.
 impl From<RecordFault> for DeskFault {
     ghost from_gives = { λ saved fault. fault ≡ of_record saved };
 

@@ -21,8 +21,8 @@ pub struct Place {
     size: usize,
 }
 
-/// The bytes of a landed record, the place of each message in them, and the standing of its side. The messages
-/// are the last part of the record.
+/// The bytes of a landed record, the place of each message in them, and the standing of its side. The messages are the
+/// last part of the record, from offset `first` on.
 #[derive(Debug, Drop)]
 pub struct LandedRecord {
     standing: Option<Standing>,
@@ -31,6 +31,7 @@ pub struct LandedRecord {
     places: Vec<Place>,
 }
 
+/// Each place lies within the messages, which are the bytes from `first` on.
 impl Model for LandedRecord {
     ghost Value = { LandedBytes };
 

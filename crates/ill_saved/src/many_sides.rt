@@ -30,6 +30,7 @@ pub struct ManySides {
     released: Vec<u8>,
 }
 
+/// Each side has a count of released messages, and some sides back the contents.
 impl Model for ManySides {
     ghost Value = { DeskContents };
 
@@ -152,6 +153,7 @@ pub struct SidesRecord {
     counts: Vec<u8>,
 }
 
+/// Each call does as the trait `Held` says.
 impl Held for ManySides {
     type Key = TxnId;
 
@@ -180,6 +182,8 @@ impl Held for ManySides {
         read_sides(alloc, &bytes)
     }
 
+    /// Refuses an action of the other role. If the side of `txn` is held, it acts. Otherwise the action may begin
+    /// `txn`.
     fn act(&mut self, alloc: Global, txn: &TxnId, action: &Action) -> Result<(), DeskFault> {
         laws::rows_grow();
         if action.role() != self.sides.role() {
@@ -191,6 +195,8 @@ impl Held for ManySides {
         }
     }
 
+    /// Refuses a message that this role issues. If the side of its transaction is held, it takes the message. Otherwise
+    /// the message may begin the transaction.
     fn take(&mut self, alloc: Global, apdu: &Apdu) -> Result<Taking, DeskFault> {
         laws::rows_grow();
         laws::refusals_stay();
@@ -203,6 +209,7 @@ impl Held for ManySides {
         }
     }
 
+    /// Encodes the message, if it is issued and released.
     fn message(&self, alloc: Global, txn: &TxnId, number: Number) -> Result<Vec<u8>, DeskFault> {
         let Some(side) = self.sides.get(txn) else {
             return Err(DeskFault::NoSuchTransaction);
@@ -214,6 +221,7 @@ impl Held for ManySides {
         }
     }
 
+    /// Encodes all sides, and counts the issued messages of each.
     fn record(&self, alloc: Global) -> Result<SidesRecord, OutOfMemory> {
         laws::sides_read_again();
         laws::follows_issues();
@@ -226,10 +234,12 @@ impl Held for ManySides {
         &made.bytes
     }
 
+    /// Releases all messages: the counts in the record become the released counts.
     fn release(&mut self, landed: SidesRecord) {
         self.released = landed.counts;
     }
 
+    /// Decodes the sides, or holds none if there are no bytes.
     fn go_back(&mut self, alloc: Global, bytes: Option<Vec<u8>>) -> Result<(), DeskFault> {
         *self = read_or_none(alloc, bytes, self.sides.role())?;
         Ok(())

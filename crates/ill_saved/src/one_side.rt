@@ -30,6 +30,7 @@ pub struct OneSide {
     landed_record: LandedRecord,
 }
 
+/// At most the issued messages are released, and the copy of the landed record has the released ones.
 impl Model for OneSide {
     ghost Value = { DeskEntry };
 
@@ -79,6 +80,7 @@ impl OneSide {
 /// The name of the one side.
 const ONE: () = ();
 
+/// Each call does as the trait `Held` says.
 impl Held for OneSide {
     type Key = ();
 
@@ -103,6 +105,7 @@ impl Held for OneSide {
         OneSide::alone(alloc, Side::idle(alloc, role, txn))
     }
 
+    /// Decodes the side, and keeps `bytes` as the copy of the landed record.
     fn read(alloc: Global, bytes: Vec<u8>) -> Result<OneSide, DeskFault> {
         let side = read_side(alloc, &bytes)?;
         let landed_record = LandedRecord::of(alloc, bytes, &side)?;
@@ -126,6 +129,7 @@ impl Held for OneSide {
         Ok(self.side.take(alloc, apdu)?)
     }
 
+    /// Copies the bytes of the message from the copy of the landed record.
     fn message(&self, alloc: Global, _key: &(), number: Number) -> Result<Vec<u8>, DeskFault> {
         if self.side.issued(number).is_none() {
             return Err(DeskFault::NoSuchMessage);
@@ -136,6 +140,7 @@ impl Held for OneSide {
         Ok(Vec::from_slice(alloc, self.landed_record.message(number))?)
     }
 
+    /// Makes the next record. It copies the released messages from the landed one.
     fn record(&self, alloc: Global) -> Result<LandedRecord, OutOfMemory> {
         laws::read_again();
         self.landed_record.next(alloc, &self.side, self.released)
@@ -145,11 +150,13 @@ impl Held for OneSide {
         made.bytes()
     }
 
+    /// Releases all messages. The record `landed` becomes the copy.
     fn release(&mut self, landed: LandedRecord) {
         self.released = self.side.issued_count();
         self.landed_record = landed;
     }
 
+    /// If `bytes` are the copy of the landed record, takes the live side back to it. Otherwise decodes them.
     fn go_back(&mut self, alloc: Global, bytes: Option<Vec<u8>>) -> Result<(), DeskFault> {
         laws::read_again();
         let Some(bytes) = bytes else {
@@ -185,7 +192,7 @@ impl Holdings for OneSide {
     }
 }
 
-/// Decodes the side that `bytes` encode.
+/// Decodes the side that `bytes` encode. This side is consistent and in range, and `bytes` are its encoding.
 fn read_side(alloc: Global, bytes: &[u8]) -> Result<Side, RecordFault>
     ensures decodes { Decodes (record_at bytes.now) (begins_as_record bytes.now) result }
     ensures encoded { IfOk result (λ side. IsSide side × (bytes.now ≡ record_encoding side)) }

@@ -4,13 +4,13 @@ use Rattle.ill_saved.specs.ManySides.{many_sides}
 use Rattle.ill_saved.proofs.LandedMessages.{many_have}
 use Rattle.ill_saved.proofs.laws.what_may_be_sent_outlasts_the_power.Goals as goal
 
--- Each message that may be sent is that message of each record that may be left.
+-- Each message that may be sent is that message of each record that a loss of power may leave.
 pub returns-clause-left : goal.returns-clause-left
 returns-clause-left g c honest left txn number a is_left may =
     many_have c.follows_issues.ensures (landed_live many_sides left c.args.desk.now.live) c.args.desk.now.live txn number a
     ((c.sides.ensures.backed honest).later left is_left) may
 
--- So it is during a save.
+-- During a save, too, each message that may be sent is that message of each record that may be left.
 pub returns-clause-left_in_save : goal.returns-clause-left_in_save
 returns-clause-left_in_save g c backed left txn number a is_left may =
     many_have c.follows_issues.ensures (landed_live many_sides left c.args.desk.now.live) c.args.desk.now.live txn number a

@@ -1,3 +1,4 @@
+-- States the loop invariant of `counts_of` (`src/many_sides.rt`).
 use Rattle.std.proofs.Common.{◌≡◌, ◌++◌, drop}
 use Rattle.ill_saved.specs.ManySides.{counts}
 use Rattle.ill_saved.proofs.many_sides.counts_of.Given as goal

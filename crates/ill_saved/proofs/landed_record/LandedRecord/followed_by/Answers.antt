@@ -24,7 +24,7 @@ loop-apdu-init c =
           (length c.messages-end.result.now) end within pieces;
     }
 
--- One more turn of the loop keeps the invariant.
+-- One more turn of the loop keeps the invariant. The message `a` at `index` gets the place at `end` (`next_placed`).
 pub loop-apdu-preserved : goal.loop-apdu-preserved
 loop-apdu-preserved c =
     let apdus = c.args.apdus.now in

@@ -1,5 +1,5 @@
 -- Proves the contract of `ManySides::record` (`src/many_sides.rt`).
--- The sides in range are read from their encoding.
+-- Sides that may be saved (`AreSides`) are read from their encoding.
 use Rattle.std.proofs.Common.{subst, ap, ◌∙◌}
 use Rattle.ill_record.specs.RecordsV2.{AreSides}
 use Rattle.ill_saved.specs.ManySides.{counts, AreBackable}
@@ -21,7 +21,7 @@ returns-clause-record c =
     c.sides_read_again.ensures are c.in_ok-bytes.bytes.items c.args.self.now c.in_ok-bytes.ensures.bytes c.self.view_is
     (subst AreBackable c.self.view_is c.self.invariant.1)
 
--- The sides are in range.
+-- One desk may hold the sides, and each is consistent and in range (`AreSides`).
 pub returns-clause-range : goal.returns-clause-range
 returns-clause-range c =
     subst AreSides (as_seen c.self.inside.sides c.self.inside.released.items c.args.self.now c.self.invariant.0 c.self.view_is)

@@ -63,21 +63,21 @@ is_before_by a b (inr (year, inr (month, day))) =
     is_less a.year b.year _ (inr (year, is_less a.month b.month _ (inr (month, lt-ltb a.day b.day day))))
 
 -- If `A` and `B` together imply `C`, `Less p q A` and `Less q r B` imply `Less p r C`.
-less_on : (p q r : ℕ) (A B C : Type 0) → (A → B → C) → Less p q A → Less q r B → Less p r C
-less_on p q r A B C on (inl lt) (inl lt') = inl (omega (arith, lt, lt'))
-less_on p q r A B C on (inl lt) (inr both) = inl (omega (arith, lt, both.0))
-less_on p q r A B C on (inr both) (inl lt) = inl (omega (arith, both.0, lt))
-less_on p q r A B C on (inr one) (inr two) = inr (one.0 ∙ two.0, on one.1 two.1)
+less_chains : (p q r : ℕ) (A B C : Type 0) → (A → B → C) → Less p q A → Less q r B → Less p r C
+less_chains p q r A B C on (inl lt) (inl lt') = inl (omega (arith, lt, lt'))
+less_chains p q r A B C on (inl lt) (inr both) = inl (omega (arith, lt, both.0))
+less_chains p q r A B C on (inr both) (inl lt) = inl (omega (arith, both.0, lt))
+less_chains p q r A B C on (inr one) (inr two) = inr (one.0 ∙ two.0, on one.1 two.1)
 
 -- If `p` is less than `q`, and `q` less than `r`, `p` is less than `r`.
-day_on : (p q r : ℕ) → p < q → q < r → p < r
-day_on p q r one two = omega (arith, one, two)
+day_chains : (p q r : ℕ) → p < q → q < r → p < r
+day_chains p q r one two = omega (arith, one, two)
 
 -- If `a` is before `b`, and `b` before `c`, `a` is before `c`.
-pub before_on : (a b c : Date) → is_before a b ≡ true → is_before b c ≡ true → is_before a c ≡ true
-before_on a b c one two =
+pub before_chains : (a b c : Date) → is_before a b ≡ true → is_before b c ≡ true → is_before a c ≡ true
+before_chains a b c one two =
     is_before_by a c
-    (less_on a.year b.year c.year _ _ _ (less_on a.month b.month c.month _ _ _ (day_on a.day b.day c.day)) (before_is a b one)
+    (less_chains a.year b.year c.year _ _ _ (less_chains a.month b.month c.month _ _ _ (day_chains a.day b.day c.day)) (before_is a b one)
     (before_is b c two))
 
 -- If `p` equals `q` and `A` is false, `Less p q A` is false.
@@ -109,7 +109,7 @@ itself_not_before a = false_from_ne_true (is_before a a) (not_before_itself a)
 -- If `d` is before `c`, and `e` is not before `c`, then `e` is not before `d`.
 not_before_earlier : (d c e : Date) → is_before d c ≡ true → is_before e c ≡ false → is_before e d ≡ false
 not_before_earlier d c e earlier not_before =
-    false_from_ne_true (is_before e d) (λ h. let no : true ≡ false = sym (before_on e d c h earlier) ∙ not_before in search rules)
+    false_from_ne_true (is_before e d) (λ h. let no : true ≡ false = sym (before_chains e d c h earlier) ∙ not_before in search rules)
 
 -- If `A` implies `B` or `C`, `Less p r A` implies `Less p q B` or `Less q r C`.
 less_either : (p q r : ℕ) (A B C : Type 0) → (A → B ⊎ C) → Less p r A → (Less p q B) ⊎ (Less q r C)
@@ -164,12 +164,12 @@ rise_rest last None dates rises = (last, rises)
 rise_rest last (Some d) dates rises = (Some d, (and_parts _ _ rises).1)
 
 -- If `dates` with `o` first rise after `last`, and `o` is `d`, the last one is not before `d`.
-rise_here : (last : Option Date) (o : Option Date) (dates : List Date) (d : Date) (p : Option Date) → o ≡ Some d
+last_not_before_first : (last : Option Date) (o : Option Date) (dates : List Date) (d : Date) (p : Option Date) → o ≡ Some d
     → rise_from last (cons_option o dates) ≡ true
     → (e : Date) × (last_or p (cons_option o dates) ≡ Some e) × (is_before e d ≡ false)
 unfolding rise_from
-rise_here last None dates d p is rises = search rules
-rise_here last (Some c) dates d p is rises =
+last_not_before_first last None dates d p is rises = search rules
+last_not_before_first last (Some c) dates d p is rises =
     let same : c ≡ d = search rules in
     subst (λ x. (e : Date) × (last_or (Some c) dates ≡ Some e) × (is_before e x ≡ false)) same
     (rise_above c dates (and_parts _ _ rises).1)
@@ -188,7 +188,7 @@ last_is_latest : (last : Option Date) (apdus : List Apdu) (i : ℕ) (a : Apdu) (
     → granted_day a ≡ Some d → (e : Date) × (last_or p (filter_map granted_day apdus) ≡ Some e) × (is_before e d ≡ false)
 last_is_latest last [] i a d p rises e is = search rules
 last_is_latest last (b ∷ apdus) zero a d p rises e is =
-    rise_here last (granted_day b) (filter_map granted_day apdus) d p (ap granted_day (same_Some b a e) ∙ is) rises
+    last_not_before_first last (granted_day b) (filter_map granted_day apdus) d p (ap granted_day (same_Some b a e) ∙ is) rises
 last_is_latest last (b ∷ apdus) (suc i) a d p rises e is =
     let rest = rise_rest last (granted_day b) (filter_map granted_day apdus) rises in
     last_skips (granted_day b) (filter_map granted_day apdus) d p (λ q. last_is_latest rest.0 apdus i a d q rest.1 e is)

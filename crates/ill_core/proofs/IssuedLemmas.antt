@@ -220,10 +220,10 @@ not_longer old new a same longer =
 -- ---- Cancels
 
 -- If message `n + 1` is old or the new one, so is message `n + 2` after an APDU is put first.
-one_further : (says : Bool) (old : Bool) (n size : ℕ) → (old ≡ true) ⊎ ((suc n ≡ size + 1) × (says ≡ true))
+message_one_further : (says : Bool) (old : Bool) (n size : ℕ) → (old ≡ true) ⊎ ((suc n ≡ size + 1) × (says ≡ true))
     → (old ≡ true) ⊎ ((suc (suc n) ≡ suc size + 1) × (says ≡ true))
-one_further says old n size (inl is) = inl is
-one_further says old n size (inr (at, is)) = inr (omega (arith, at), is)
+message_one_further says old n size (inl is) = inl is
+message_one_further says old n size (inr (at, is)) = inr (omega (arith, at), is)
 
 -- If `says` holds of message `c` after one more APDU, message `c` is an old message or the new one.
 pub was_more : (says : Body → Bool) (apdus : List Apdu) (a : Apdu) (c : ℕ) → is_message_with says (apdus ++ a ∷ []) c ≡ true
@@ -233,7 +233,7 @@ was_more says [] a (suc zero) h = search rules
 was_more says [] a (suc (suc n)) h = search rules
 was_more says (b ∷ apdus) a (suc zero) h = inl h
 was_more says (b ∷ apdus) a (suc (suc n)) h =
-    one_further (says a.body) (is_message_with says apdus (suc n)) n (length apdus) (was_more says apdus a (suc n) h)
+    message_one_further (says a.body) (is_message_with says apdus (suc n)) n (length apdus) (was_more says apdus a (suc n) h)
 
 -- If the new APDU is not a Cancel, each message that is a Cancel was one before.
 pub still_cancel : (apdus : List Apdu) (a : Apdu) (c : ℕ) → is_cancel a.body ≡ false

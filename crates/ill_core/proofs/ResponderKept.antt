@@ -217,12 +217,12 @@ issued_in_process Conditional apdus fits is = search rules
 issued_in_process state apdus fits is = search rules
 
 -- CONDITIONAL is one of IDLE and CONDITIONAL.
-one_of_two : (state : State) → is_among (Conditional ∷ []) state ≡ true → is_among (Idle ∷ Conditional ∷ []) state ≡ true
-one_of_two state is = search rules
+conditional_of_two : (state : State) → is_among (Conditional ∷ []) state ≡ true → is_among (Idle ∷ Conditional ∷ []) state ≡ true
+conditional_of_two state is = search rules
 
 -- IDLE is one of IDLE and CONDITIONAL.
-first_of_two : (state : State) → is_among (Idle ∷ []) state ≡ true → is_among (Idle ∷ Conditional ∷ []) state ≡ true
-first_of_two state is = search rules
+idle_of_two : (state : State) → is_among (Idle ∷ []) state ≡ true → is_among (Idle ∷ Conditional ∷ []) state ≡ true
+idle_of_two state is = search rules
 
 -- The record after the outstanding conditions are accepted satisfies the rules.
 yes_kept : (y : ResponderRecord) (c : ℕ) → ResponderRules y → is_equal_number c (outstanding_number y) ≡ true
@@ -234,7 +234,7 @@ yes_kept y c h is =
       role = h.role;
       request = h.request;
       parts = parts_in_process y.state _ _ _ _ _ _ h.parts named.0;
-      issued = issued_in_process y.state y.issued h.issued (one_of_two y.state named.0);
+      issued = issued_in_process y.state y.issued h.issued (conditional_of_two y.state named.0);
       accepted = named.1;
       rising = h.rising;
       ships_first = h.ships_first;
@@ -250,7 +250,7 @@ request_kept y a h idle same is =
       role = h.role;
       request = and_from _ _ same is;
       parts = parts_requested y.state _ _ _ _ _ _ h.parts idle;
-      issued = issued_in_process y.state y.issued h.issued (first_of_two y.state idle);
+      issued = issued_in_process y.state y.issued h.issued (idle_of_two y.state idle);
       accepted = h.accepted;
       rising = h.rising;
       ships_first = h.ships_first;

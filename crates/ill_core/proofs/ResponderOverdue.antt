@@ -26,7 +26,7 @@ use Rattle.ill_core.specs.ResponderDeliveries.{takes}
 use Rattle.ill_core.specs.ResponderNotices.{undecided, grant, grant_of, is_overdue_of, OverdueFits, GrantsBeforeOverdue}
 use Rattle.ill_core.proofs.IssuedLemmas.{found_none, has_more, last_of_more}
 use Rattle.ill_core.proofs.MessageLemmas.{message_more, says_message}
-use Rattle.ill_core.proofs.GrantLemmas.{before_on, not_before_itself, not_before_same, itself_not_before, same_itself}
+use Rattle.ill_core.proofs.GrantLemmas.{before_chains, not_before_itself, not_before_same, itself_not_before, same_itself}
 use Rattle.ill_core.proofs.ResponderGrants.{grant_date, last_none, not_shipped, after_granted}
 use Rattle.ill_core.proofs.Rules.{responder_rules}
 use Rattle.ill_core.proofs.ResponderLists.{no_grants, due_there}
@@ -106,7 +106,7 @@ none_for apdus due after there =
 
 -- If `a` is before `b`, `b` is not before `a`.
 not_before_back : (a b : Date) → is_before a b ≡ true → is_before b a ≡ false
-not_before_back a b before = false_from_ne_true (is_before b a) (λ back. not_before_itself a (before_on a b a before back))
+not_before_back a b before = false_from_ne_true (is_before b a) (λ back. not_before_itself a (before_chains a b a before back))
 
 -- ---- one more APDU
 

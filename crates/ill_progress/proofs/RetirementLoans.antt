@@ -22,7 +22,7 @@ use Rattle.ill_world.specs.Invariant.{Invariant}
 use Rattle.ill_world.specs.Round.{CanAnswer}
 use Rattle.ill_world.specs.Night.{AreAtRest, AreInStepOrAtRest}
 use Rattle.ill_world.specs.DeskNight.{desk_night_of}
-use Rattle.ill_world.specs.Shelves.{ShelfEvent, first_shelves, shelves_run, said_in, events_at}
+use Rattle.ill_world.specs.Shelves.{ShelfEvent, first_shelves, shelves_run, in_group, events_at}
 use Rattle.ill_world.proofs.Desks.{EachStands, desks_stand_on}
 use Rattle.ill_world.proofs.Shelves.{shelves_run_at}
 use Rattle.ill_progress.specs.Retirement.{MarkedShelves, first_marked_shelves, has_mark, RetiringEvent, on_shelf, retire}
@@ -170,16 +170,16 @@ shelf_runs_of_kept w all group kept =
 -- A night of a group that neither library has retired brings both sides of each transaction in step, or to rest.
 pub night_of_kept : ((txn : Qualifiers) (all : List ShelfEvent) → let w = shelves_run first_shelves all in
     CanAnswer (project txn (w txn.group)).responder.live
-    → let night = said_in txn.group (desk_night_of (w txn.group)) in
+    → let night = in_group txn.group (desk_night_of (w txn.group)) in
     AreInStepOrAtRest (project txn (shelves_run w night txn.group)))
     → (txn : Qualifiers) (all : List RetiringEvent) → let w = retiring_run first_marked_shelves all in IsKeptByBoth w txn.group
     → CanAnswer (project txn (w.shelves txn.group)).responder.live
-    → let night = map on_shelf (said_in txn.group (desk_night_of (w.shelves txn.group))) in
+    → let night = map on_shelf (in_group txn.group (desk_night_of (w.shelves txn.group))) in
     AreInStepOrAtRest (project txn ((retiring_run w night).shelves txn.group))
 night_of_kept nights txn all kept can =
     let w = retiring_run first_marked_shelves all in
-    let night = said_in txn.group (desk_night_of (w.shelves txn.group)) in
+    let night = in_group txn.group (desk_night_of (w.shelves txn.group)) in
     subst (λ desks. AreInStepOrAtRest (project txn desks)) (sym (shelf_runs_of_kept w night txn.group kept))
     (subst (λ shelves. CanAnswer (project txn (shelves txn.group)).responder.live
-    → AreInStepOrAtRest (project txn (shelves_run shelves (said_in txn.group (desk_night_of (shelves txn.group))) txn.group)))
+    → AreInStepOrAtRest (project txn (shelves_run shelves (in_group txn.group (desk_night_of (shelves txn.group))) txn.group)))
     (sym (run_shelves first_marked_shelves all)) (nights txn (shelf_events_of first_marked_shelves all)) can)

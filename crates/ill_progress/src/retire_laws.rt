@@ -15,7 +15,7 @@ ghost use Rattle.ill_world.specs.Agreement.{Agrees};
 ghost use Rattle.ill_world.specs.Round.{CanAnswer};
 ghost use Rattle.ill_world.specs.Night.{AreAtRest, AreInStepOrAtRest};
 ghost use Rattle.ill_world.specs.DeskNight.{desk_night_of};
-ghost use Rattle.ill_world.specs.Shelves.{events_at, said_in, shelves_run};
+ghost use Rattle.ill_world.specs.Shelves.{events_at, in_group, shelves_run};
 ghost use Rattle.ill_progress.specs.Retirement.{MarkedShelves, RetiringEvent, on_shelf, first_marked_shelves, has_mark, last_word_of, retiring_happens, retiring_run, shelf_events_of, events_named, IsKeptByBoth, IsSafeRetiringRun, IsAgreeingRetiringRun};
 ghost use Rattle.ill_progress.specs.BadRetirement.{IsMishandled};
 
@@ -83,7 +83,7 @@ pub fn retiring_runs_have_each_world()
 pub fn a_night_of_a_kept_group_is_enough()
     ensures { (txn : Qualifiers) (events : List RetiringEvent) → let w = retiring_run first_marked_shelves events in
         IsKeptByBoth w txn.group → CanAnswer (project txn (w.shelves txn.group)).responder.live →
-        let night = map on_shelf (said_in txn.group (desk_night_of (w.shelves txn.group))) in
+        let night = map on_shelf (in_group txn.group (desk_night_of (w.shelves txn.group))) in
         AreInStepOrAtRest (project txn ((retiring_run w night).shelves txn.group)) }
 {
     ill_world::shelf_laws::a_night_of_a_group_is_enough();

@@ -486,8 +486,8 @@ module _ (grows : RowsGrow) (live : DeskContents) (txn : Qualifiers) (none : fou
       (ap (λ n. nat_lt n most_sides) (length-map live.held side_of) ∙ room)
 
   -- The new side may be put, and a transition led to it from the idle side of its transaction.
-  pub first_may : (put_refusal (sides_held live) side ≡ None) × IsSideTransition (idle_side live.role (txn_of side)) side
-  first_may = (first_put, subst (λ t. IsSideTransition (idle_side live.role t) side) (sym first_txn) row)
+  pub may_begin_with : (put_refusal (sides_held live) side ≡ None) × IsSideTransition (idle_side live.role (txn_of side)) side
+  may_begin_with = (first_put, subst (λ t. IsSideTransition (idle_side live.role t) side) (sym first_txn) row)
 
 -- If an idle side takes an ILL-Request, it is not idle after it.
 pub first_begins : ((y : ResponderRecord) (a : Apdu) → is_ill_request a.body ≡ true → (responder_takes y a).0 ≡ Ok Taken
@@ -504,8 +504,8 @@ first_begins law roles.Requester a side request other taken = absurd (true≢fal
 -- Below, each of `sides` has a count in `counted`.
 module _ (role : Role) (sides : List Side) (counted : List ℕ) (as_many : length counted ≡ length sides) where
   -- Returns the contents of a desk with these sides and counts.
-  abbrev held_so : DeskContents
-  held_so = record { role = role; held = held_of sides counted }
+  abbrev desk_with : DeskContents
+  desk_with = record { role = role; held = held_of sides counted }
 
   -- If no side is of `txn`, no side of `txn` is held.
   pub none_held : (txn : Qualifiers) → side_with txn sides ≡ None → found_by txn_held txn (held_of sides counted) ≡ None
@@ -534,7 +534,7 @@ module _ (role : Role) (sides : List Side) (counted : List ℕ) (as_many : lengt
         → (held : DeskEntry) × (after : Side) × (found_by txn_held txn (held_of sides counted) ≡ Some held)
         × Does held.side answer after × (txn ≡ txn_of after)
         × (record { role = new.role; held = held_of new.sides counted }
-        ≡ with_held held_so (record { side = after; released = held.released })) × (length counted ≡ length new.sides)
+        ≡ with_held desk_with (record { side = after; released = held.released })) × (length counted ≡ length new.sides)
     changed_held answer new (side, after, there, does, changed) =
         let held = side_held txn side there in
         let of_side : txn ≡ txn_of side = found_is txn_held txn (held_of sides counted) held.0 held.1 ∙ ap txn_of held.2 in
@@ -542,7 +542,7 @@ module _ (role : Role) (sides : List Side) (counted : List ℕ) (as_many : lengt
         let put = held_put after held.0 sides counted as_many
         (ap (λ t. found_by txn_held t (held_of sides counted)) (sym of) ∙ held.1) in
         let holding : record { role = new.role; held = held_of new.sides counted }
-        ≡ with_held held_so (record { side = after; released = held.0.released }) =
+        ≡ with_held desk_with (record { side = after; released = held.0.released }) =
         ap (λ (all : SidesOf). record { role = all.role; held = held_of all.sides counted }) changed
         ∙ ap (λ hs. record { role = role; held = hs }) put in
         let few : length (put_by txn_of after sides) ≡ length sides =
@@ -560,46 +560,46 @@ module _ (role : Role) (sides : List Side) (counted : List ℕ) (as_many : lengt
     -- If the sides that were read back the contents, they back them after a held side's call that `Does` describes.
     changed_backs : (landed : Result DeskContents RecordFault) (held : DeskEntry) (after : Side) (answer : A)
         → found_by txn_held txn (held_of sides counted) ≡ Some held → Does held.side answer after → txn ≡ txn_of after
-        → IsBackedByRead ManyBack landed held_so
-        → IsBackedByRead ManyBack landed (with_held held_so (record { side = after; released = held.released }))
+        → IsBackedByRead ManyBack landed desk_with
+        → IsBackedByRead ManyBack landed (with_held desk_with (record { side = after; released = held.released }))
     changed_backs landed held after answer found does of backed = by (rows held.side after answer does)
       where
         -- The contents are backed after a transition of the side, and if it is unchanged.
         by : IsSideTransition held.side after ⊎ (after ≡ held.side)
-            → IsBackedByRead ManyBack landed (with_held held_so (record { side = after; released = held.released }))
-        by (inl row) = row_backs_all landed held_so held after
-            (ap (λ t. held_for t held_so) (sym of) ∙ ap (found_or (idle_held role txn)) found) row backed
-        by (inr same) = subst (IsBackedByRead ManyBack landed) (sym (unchanged held_so held txn after found same)) backed
+            → IsBackedByRead ManyBack landed (with_held desk_with (record { side = after; released = held.released }))
+        by (inl row) = row_backs_all landed desk_with held after
+            (ap (λ t. held_for t desk_with) (sym of) ∙ ap (found_or (idle_held role txn)) found) row backed
+        by (inr same) = subst (IsBackedByRead ManyBack landed) (sym (unchanged desk_with held txn after found same)) backed
 
     -- If `landed` backs the desk's contents, it backs them after a held side's call that `Does` describes.
     changed_backs_by : (landed : SidesOf) (held : DeskEntry) (after : Side) (answer : A)
         → found_by txn_held txn (held_of sides counted) ≡ Some held → Does held.side answer after → txn ≡ txn_of after
-        → AreBackedBy landed held_so
-        → AreBackedBy landed (with_held held_so (record { side = after; released = held.released }))
+        → AreBackedBy landed desk_with
+        → AreBackedBy landed (with_held desk_with (record { side = after; released = held.released }))
     changed_backs_by landed held after answer found does of backed = by (rows held.side after answer does)
       where
         -- The contents are backed after a transition of the side, and if it is unchanged.
         by : IsSideTransition held.side after ⊎ (after ≡ held.side)
-            → AreBackedBy landed (with_held held_so (record { side = after; released = held.released }))
-        by (inl row) = row_backs_held landed held_so held after
-            (ap (λ t. held_for t held_so) (sym of) ∙ ap (found_or (idle_held role txn)) found) row backed
-        by (inr same) = subst (AreBackedBy landed) (sym (unchanged held_so held txn after found same)) backed
+            → AreBackedBy landed (with_held desk_with (record { side = after; released = held.released }))
+        by (inl row) = row_backs_held landed desk_with held after
+            (ap (λ t. held_for t desk_with) (sym of) ∙ ap (found_or (idle_held role txn)) found) row backed
+        by (inr same) = subst (AreBackedBy landed) (sym (unchanged desk_with held txn after found same)) backed
 
     -- All bytes that back the desk's contents back them after a call of one side that `Does` describes.
     pub still_backed : (answer : A) (new : SidesOf)
         → ChangesOnlySideOf Does txn (record { role = role; sides = sides }) (Some answer) new
-        → StaysBacked many_sides ManyBack held_so (record { role = new.role; held = held_of new.sides counted })
+        → StaysBacked many_sides ManyBack desk_with (record { role = new.role; held = held_of new.sides counted })
     still_backed answer new only landed backed =
         let to = changed_held answer new only in
-        let next = with_held held_so (record { side = to.1; released = to.0.released }) in
+        let next = with_held desk_with (record { side = to.1; released = to.0.released }) in
         subst (IsBacked many_sides ManyBack landed) (sym to.5)
-        (subst (λ read. IsBackedByRead ManyBack read next) (same_landed landed held_so next refl)
-        (changed_backs (landed_live many_sides landed held_so) to.0 to.1 answer to.2 to.3 to.4 backed))
+        (subst (λ read. IsBackedByRead ManyBack read next) (same_landed landed desk_with next refl)
+        (changed_backs (landed_live many_sides landed desk_with) to.0 to.1 answer to.2 to.3 to.4 backed))
 
     -- If some sides back the desk's contents, they back them after a call of one side that `Does` describes.
     pub still_backable : (answer : A) (new : SidesOf)
         → ChangesOnlySideOf Does txn (record { role = role; sides = sides }) (Some answer) new
-        → AreBackable held_so → AreBackable (record { role = new.role; held = held_of new.sides counted })
+        → AreBackable desk_with → AreBackable (record { role = new.role; held = held_of new.sides counted })
     still_backable answer new only backed =
         let to = changed_held answer new only in
         (backed.0, subst (AreBackedBy backed.0) (sym to.5) (changed_backs_by backed.0 to.0 to.1 answer to.2 to.3 to.4 backed.1))
@@ -609,24 +609,24 @@ module _ (role : Role) (sides : List Side) (counted : List ℕ) (as_many : lengt
       → is_same_role role (role_for action) ≡ true
       → ChangesOnlySideOf (λ old answer new. Acts old action answer new) txn (record { role = role; sides = sides }) (Some answer)
       new
-      → DeskActs many_sides held_so txn action (core_answer answer) (record { role = new.role; held = held_of new.sides counted })
+      → DeskActs many_sides desk_with txn action (core_answer answer) (record { role = new.role; held = held_of new.sides counted })
   desk_acts_so grows txn action answer new fits only =
       let to = changed_held grows txn (λ old answer new. Acts old action answer new)
       (λ old new answer does. acts_row old new action answer does) answer new only in
-      subst (λ l. DeskActs many_sides held_so txn action (core_answer answer) l) (sym to.5)
-      (acts_held held_so txn to.0 to.1 to.2 action answer fits to.3)
+      subst (λ l. DeskActs many_sides desk_with txn action (core_answer answer) l) (sym to.5)
+      (acts_held desk_with txn to.0 to.1 to.2 action answer fits to.3)
 
   -- If the side of an APDU alone answers it as `Takes` says, the desk answers as `DeskTakesApdu` says.
   pub desk_takes_so : (grows : RowsGrow) → RefusalsStay → (a : Apdu) (answer : Result Taking Refusal) (new : SidesOf)
       → is_own role a.body ≡ false
       → ChangesOnlySideOf (λ old answer new. Takes old a answer new) a.txn (record { role = role; sides = sides }) (Some answer)
       new
-      → DeskTakesApdu many_sides held_so a (core_answer answer) (record { role = new.role; held = held_of new.sides counted })
+      → DeskTakesApdu many_sides desk_with a (core_answer answer) (record { role = new.role; held = held_of new.sides counted })
   desk_takes_so grows stay a answer new other only =
       let to = changed_held grows a.txn (λ old answer new. Takes old a answer new)
       (λ old new answer does. takes_row old new a answer does) answer new only in
-      subst (λ l. DeskTakesApdu many_sides held_so a (core_answer answer) l) (sym to.5)
-      (takes_held held_so a to.0 to.1 to.2 other stay answer to.3)
+      subst (λ l. DeskTakesApdu many_sides desk_with a (core_answer answer) l) (sym to.5)
+      (takes_held desk_with a to.0 to.1 to.2 other stay answer to.3)
 
 -- ---- a desk with one more side
 
@@ -640,7 +640,7 @@ module _ (role : Role) (sides : List Side) (counted : List ℕ) (as_many : lengt
   -- If `side` is put with a count of 0, the desk holds it with no message released.
   pub held_more : (new : SidesOf) → new ≡ put_side (record { role = role; sides = sides }) side
       → record { role = new.role; held = held_of new.sides (counted ++ 0 ∷ []) }
-      ≡ with_held (held_so role sides counted as_many) (record { side = side; released = 0 })
+      ≡ with_held (desk_with role sides counted as_many) (record { side = side; released = 0 })
   held_more new put =
       ap (λ (all : SidesOf). record { role = all.role; held = held_of all.sides (counted ++ 0 ∷ []) }) put
       ∙ ap (λ hs. record { role = role; held = hs })
@@ -650,10 +650,10 @@ module _ (role : Role) (sides : List Side) (counted : List ℕ) (as_many : lengt
   -- All bytes that back the desk's contents back them with a side that began by a transition.
   pub more_backed : RowsGrow → (new : SidesOf)
       → new ≡ put_side (record { role = role; sides = sides }) side → IsSideTransition (idle_side role (txn_of side)) side
-      → StaysBacked many_sides ManyBack (held_so role sides counted as_many)
+      → StaysBacked many_sides ManyBack (desk_with role sides counted as_many)
       (record { role = new.role; held = held_of new.sides (counted ++ 0 ∷ []) })
   more_backed grows new put row landed backed =
-      let old = held_so role sides counted as_many in
+      let old = desk_with role sides counted as_many in
       let next = with_held old (record { side = side; released = 0 }) in
       subst (IsBacked many_sides ManyBack landed) (sym (held_more new put))
       (subst (λ read. IsBackedByRead ManyBack read next) (same_landed landed old next refl)
@@ -663,12 +663,12 @@ module _ (role : Role) (sides : List Side) (counted : List ℕ) (as_many : lengt
   -- If some sides back the desk's contents, they back them with a side that began by a transition.
   pub more_backable : RowsGrow → (new : SidesOf) → new ≡ put_side (record { role = role; sides = sides }) side
       → IsSideTransition (idle_side role (txn_of side)) side
-      → AreBackable (held_so role sides counted as_many)
+      → AreBackable (desk_with role sides counted as_many)
       → AreBackable (record { role = new.role; held = held_of new.sides (counted ++ 0 ∷ []) })
   more_backable grows new put row backed = (
     backed.0,
     subst (AreBackedBy backed.0) (sym (held_more new put))
-        (row_backs_held backed.0 (held_so role sides counted as_many) (idle_held role (txn_of side)) side
+        (row_backs_held backed.0 (desk_with role sides counted as_many) (idle_held role (txn_of side)) side
         (ap (found_or (idle_held role (txn_of side))) none_before) row backed.1),
   )
 

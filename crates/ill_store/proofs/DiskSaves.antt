@@ -19,17 +19,17 @@ use Rattle.ill_store.specs.Store.{LoadLasts, SaveLasts}
 use Rattle.ill_store.specs.declared.store.StoreFault.{StoreFault}
 
 -- If `P` holds of `old` and of `change old`, it holds of the disk after the call, done or failed.
-pub either_way : {E : Type 0} (P : Disk → Type 0) (change : Disk → Disk) (old new : Disk) (result : Result (Unit {0}) E) →
+pub after_call : {E : Type 0} (P : Disk → Type 0) (change : Disk → Disk) (old new : Disk) (result : Result (Unit {0}) E) →
     Changes change old result new → P old → P (change old) → P new
-either_way P change old new (Ok done) is without_it with_it = subst P (sym is) with_it
-either_way P change old new (Err fault) is without_it with_it =
+after_call P change old new (Ok done) is without_it with_it = subst P (sym is) with_it
+after_call P change old new (Err fault) is without_it with_it =
     ⊎_elim (λ same. subst P (sym same) without_it) (λ changed. subst P (sym changed) with_it) is
 
 -- If `P` holds of `change old`, it holds of the disk after a call that is done.
-pub done_gives : {E : Type 0} (P : Disk → Type 0) (change : Disk → Disk) (old new : Disk) (result : Result (Unit {0}) E) →
+pub after_done_call : {E : Type 0} (P : Disk → Type 0) (change : Disk → Disk) (old new : Disk) (result : Result (Unit {0}) E) →
     Changes change old result new → P (change old) → OnOk result (P new)
-done_gives P change old new (Ok done) is with_it = subst P (sym is) with_it
-done_gives P change old new (Err fault) is with_it = tt
+after_done_call P change old new (Ok done) is with_it = subst P (sym is) with_it
+after_done_call P change old new (Err fault) is with_it = tt
 
 -- If `k` is the index of a file in `files`, `bytes_of` gives the bytes of this file.
 made_has_bytes : (files : List File) (k : ℕ) → k < length files → bytes_of files (Some k) ≡ None → ⊥
@@ -85,14 +85,14 @@ remove_leaves aside path d differ found left = ⊎_elim
 pub flush_keeps : {E : Type 0} (path : List ℕ) (old read flushed : Disk) (result : Result (Unit {0}) E) →
     IsOld path old read → Changes (after_flush path) read result flushed → IsOld path old flushed
 flush_keeps path old read flushed result kept changes =
-    either_way (IsOld path old) (after_flush path) read flushed result changes kept
+    after_call (IsOld path old) (after_flush path) read flushed result changes kept
     (flush_is_not_read path path read ∙ kept.0, flush_leaves path path old read kept.1)
 
 -- If a path has its old record, it has this after `flush_names` too, whether that succeeds or fails.
 pub names_keep : {E : Type 0} (path : List ℕ) (old flushed last : Disk) (result : Result (Unit {0}) E) → IsWhole flushed →
     IsOld path old flushed → Changes after_flush_names flushed result last → IsOld path old last
 names_keep path old flushed last result whole kept changes =
-    either_way (IsOld path old) after_flush_names flushed last result changes kept
+    after_call (IsOld path old) after_flush_names flushed last result changes kept
     (kept.0, names_leave path old flushed whole kept.1)
 
 -- A record that was read lasts after its file and the names were flushed.
@@ -253,7 +253,7 @@ module _ (aside path bytes : List ℕ) (d : Disk) (differ : aside ≡ path → �
   pub after_flushing : {E : Type 0} (made flushed : Disk) (result : Result (Unit {0}) E) →
       made ≡ after_create aside bytes d → Changes (after_flush aside) made result flushed → IsOldOrNew path bytes d flushed
   after_flushing made flushed result is changes =
-      on_way flushed (either_way (In (on_the_way aside path bytes d)) (after_flush aside) made flushed result changes
+      on_way flushed (after_call (In (on_the_way aside path bytes d)) (after_flush aside) made flushed result changes
       (inr (inl is)) (inr (inr (inl (ap (after_flush aside) is)))))
 
   -- The disk after the new file was renamed, or was not, has the old record or the new one.
@@ -262,7 +262,7 @@ module _ (aside path bytes : List ℕ) (d : Disk) (differ : aside ≡ path → �
       Changes (after_rename aside path) flushed result renamed → IsOldOrNew path bytes d renamed
   after_renaming made flushed renamed result is flush changes =
       let here = flush ∙ ap (after_flush aside) is in
-      on_way renamed (either_way (In (on_the_way aside path bytes d)) (after_rename aside path) flushed renamed result
+      on_way renamed (after_call (In (on_the_way aside path bytes d)) (after_rename aside path) flushed renamed result
       changes (inr (inr (inl here))) (inr (inr (inr (inl (ap (after_rename aside path) here))))))
 
   -- The disk after the names were flushed, or were not, has the old record or the new one.
@@ -270,7 +270,7 @@ module _ (aside path bytes : List ℕ) (d : Disk) (differ : aside ≡ path → �
       placed ≡ after_placing aside path bytes d → Changes after_flush_names placed result last →
       IsOldOrNew path bytes d last
   after_flushing_names placed last result is changes =
-      on_way last (either_way (In (on_the_way aside path bytes d)) after_flush_names placed last result changes
+      on_way last (after_call (In (on_the_way aside path bytes d)) after_flush_names placed last result changes
       (inr (inr (inr (inl is)))) (inr (inr (inr (inr (inl (ap after_flush_names is)))))))
 
 -- The bytes of a save last after the new record was placed, and the names were flushed.
@@ -278,7 +278,7 @@ pub save_is_done : {E : Type 0} (aside path bytes : List ℕ) (d placed last : D
     IsWhole d → (aside ≡ path → ⊥) → placed ≡ after_placing aside path bytes d →
     Changes after_flush_names placed result last → OnOk result (Lasts path last (Some bytes))
 save_is_done aside path bytes d placed last result whole differ is names =
-    done_gives (λ (x : Disk). Lasts path x (Some bytes)) after_flush_names placed last result names
+    after_done_call (λ (x : Disk). Lasts path x (Some bytes)) after_flush_names placed last result names
     (subst (λ (x : Disk). Lasts path (after_flush_names x) (Some bytes)) (sym is) (save_lasts aside path bytes d whole differ))
 
 -- A read gives the bytes of a save after the new record was placed, and the names were flushed.
@@ -286,7 +286,7 @@ pub save_is_seen : {E : Type 0} (aside path bytes : List ℕ) (d placed last : D
     IsWhole d → (aside ≡ path → ⊥) → placed ≡ after_placing aside path bytes d →
     Changes after_flush_names placed result last → OnOk result (content path last ≡ Some bytes)
 save_is_seen aside path bytes d placed last result whole differ is names =
-    done_gives (λ (x : Disk). content path x ≡ Some bytes) after_flush_names placed last result names
+    after_done_call (λ (x : Disk). content path x ≡ Some bytes) after_flush_names placed last result names
     (subst (λ (x : Disk). content path (after_flush_names x) ≡ Some bytes) (sym is)
     (save_is_read aside path bytes d whole differ))
 
@@ -360,7 +360,7 @@ module _ {E : Type 0} {aside path bytes : List ℕ} {old made flushed renamed : 
   pub placing_ends : DiskPlaces aside path bytes old renaming renamed
   placing_ends =
       let before : HasSaved path bytes old flushed = so_flushed differ creates flushes in record {
-        placed = λ h. done_gives (λ (x : Disk). x ≡ after_placing aside path bytes old.now) (after_rename aside path)
+        placed = λ h. after_done_call (λ (x : Disk). x ≡ after_placing aside path bytes old.now) (after_rename aside path)
             flushed.now renamed.now renaming (renames.done (still_honest h))
             (ap (after_rename aside path) (flushed_is h ∙ ap (after_flush aside) (creates.done h)));
         moments = λ h. goes_on (before.moments h) (renames.past (still_honest h))
@@ -376,7 +376,7 @@ module _ {E : Type 0} {aside path bytes : List ℕ} {old made flushed renamed : 
 pub look_up_has_kept : {E : Type 0} {path : List ℕ} {old looked : DiskState} {answer : Result (Unit {0}) E} →
     Answers (Changes unchanged) old answer looked → HasKept path old looked
 look_up_has_kept {path = path} {old = old} {looked = looked} {answer = answer} looks = record {
-  moments = λ h. goes_on (begins (refl, old_left path old.now)) (looks.past h) (either_way (IsOld path old.now) unchanged
+  moments = λ h. goes_on (begins (refl, old_left path old.now)) (looks.past h) (after_call (IsOld path old.now) unchanged
       old.now looked.now answer (looks.done h) (refl, old_left path old.now) (refl, old_left path old.now));
   honest = looks.honest;
 }
@@ -387,7 +387,7 @@ pub remove_has_kept : {E : Type 0} {aside path : List ℕ} {old looked cleared :
     HasKept path old cleared
 remove_has_kept {aside = aside} {path = path} {old = old} {looked = looked} {cleared = cleared} {answer = answer} differ
     so_far removes = record {
-      moments = λ h. goes_on (so_far.moments h) (removes.past (so_far.honest ∙ h)) (either_way (IsOld path old.now)
+      moments = λ h. goes_on (so_far.moments h) (removes.past (so_far.honest ∙ h)) (after_call (IsOld path old.now)
           (after_remove aside) looked.now cleared.now answer (removes.done (so_far.honest ∙ h)) (so_far.moments h).last (
             remove_elsewhere aside path looked.now differ ∙ (so_far.moments h).last.0,
             λ found left. (so_far.moments h).last.1 found (remove_leaves aside path looked.now differ found left),
@@ -400,9 +400,9 @@ old_is_fine : (path bytes : List ℕ) (old d : Disk) → IsOld path old d → Is
 old_is_fine path bytes old d kept = (inl kept.0, λ found left. inl (kept.1 found left))
 
 -- If `d` satisfies `IsOld`, and `x` has the record of `d` or the new one, `x` satisfies `IsOldOrNew`.
-fine_again : (path bytes : List ℕ) (old d : Disk) → IsOld path old d → (x : Disk) → IsOldOrNew path bytes d x →
+old_then_fine : (path bytes : List ℕ) (old d : Disk) → IsOld path old d → (x : Disk) → IsOldOrNew path bytes d x →
     IsOldOrNew path bytes old x
-fine_again path bytes old d kept x fine = (
+old_then_fine path bytes old d kept x fine = (
   ⊎_elim (λ same. inl (same ∙ kept.0)) inr fine.0,
   λ found left. ⊎_elim (λ was. inl (kept.1 found was)) inr (fine.1 found left),
 )
@@ -438,7 +438,7 @@ module _ {E : Type 0} {aside path bytes : List ℕ} {old cleared placed : DiskSt
   so_placed : HasSaved path bytes old placed
   so_placed = record {
     moments = λ h. joins (holds_too (old_is_fine path bytes old.now) (so_far.moments h))
-        (holds_too (fine_again path bytes old.now cleared.now (so_far.moments h).last) (places.moments (was_honest h)));
+        (holds_too (old_then_fine path bytes old.now cleared.now (so_far.moments h).last) (places.moments (was_honest h)));
     honest = places.honest ∙ so_far.honest;
   }
 
@@ -454,7 +454,7 @@ save_fails {aside = aside} {path = path} {bytes = bytes} {old = old} {placed = p
       saved = λ h. tt;
       lasts = λ h. tt;
       moments = λ h. goes_on (before.moments h) (removes.past (before.honest ∙ h))
-          (either_way (IsOldOrNew path bytes old.now) (after_remove aside) placed.now last.now removal
+          (after_call (IsOldOrNew path bytes old.now) (after_remove aside) placed.now last.now removal
           (removes.done (before.honest ∙ h)) (before.moments h).last
           (fine_without aside path bytes old.now placed.now differ (before.moments h).last));
       honest = removes.honest ∙ before.honest;
@@ -473,7 +473,7 @@ save_ends {aside = aside} {path = path} {bytes = bytes} {old = old} {cleared = c
       lasts = λ h. save_is_done aside path bytes cleared.now placed.now last.now ending (places.whole (so_far.honest ∙ h))
           differ (places.placed (so_far.honest ∙ h)) (names.done (before.honest ∙ h));
       moments = λ h. goes_on (before.moments h) (names.past (before.honest ∙ h))
-          (fine_again path bytes old.now cleared.now (so_far.moments h).last last.now
+          (old_then_fine path bytes old.now cleared.now (so_far.moments h).last last.now
           (after_flushing_names aside path bytes cleared.now differ (places.whole (so_far.honest ∙ h)) placed.now last.now
           ending (places.placed (so_far.honest ∙ h)) (names.done (before.honest ∙ h))));
       honest = names.honest ∙ before.honest;

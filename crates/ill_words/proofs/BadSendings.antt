@@ -97,11 +97,11 @@ not_misjudged side says (unsettled _ is) e = true≢false (e ∙ unsettled_is_op
 not_misjudged side says (may_act _ acts) e = acts (no_verbs side (sym e))
 
 -- If `says` is a wrong answer on the sending of `side`, `wants_sending` does not give it.
-pub not_missent : (was_asked : Bool) (side : Side) (says : Bool) → MisjudgesSending was_asked side says
+pub not_misjudged_sending : (was_asked : Bool) (side : Side) (says : Bool) → MisjudgesSending was_asked side says
     → says ≡ wants_sending was_asked side → ⊥
-not_missent was_asked side says (over_requester_sends x over) e = true≢false (e ∙ ap not over)
-not_missent was_asked side says (unasked_sends y over unasked) e =
+not_misjudged_sending was_asked side says (over_requester_sends x over) e = true≢false (e ∙ ap not over)
+not_misjudged_sending was_asked side says (unasked_sends y over unasked) e =
     true≢false (e ∙ or_from (not (is_over (sides.Responder y))) was_asked (ap not over) unasked)
-not_missent was_asked side says (asked_is_silent y asked) e =
+not_misjudged_sending was_asked side says (asked_is_silent y asked) e =
     true≢false (sym (or_right (not (is_over (sides.Responder y))) was_asked asked) ∙ sym e)
-not_missent was_asked side says (open_is_silent _ is_open) e = true≢false (sym (open_wants was_asked side is_open) ∙ sym e)
+not_misjudged_sending was_asked side says (open_is_silent _ is_open) e = true≢false (sym (open_wants was_asked side is_open) ∙ sym e)

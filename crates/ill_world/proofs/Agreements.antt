@@ -91,8 +91,8 @@ is_in_checked_in state e = search rules
 
 -- `P` holds of two records that satisfy `RequesterInvariant` and `ResponderInvariant`. Each has issued all messages
 -- that were sent to the other.
-abbrev pub PairOf : (RequesterRecord → ResponderRecord → Type 0) → Type 0
-PairOf P =
+abbrev pub HoldsOfRecords : (RequesterRecord → ResponderRecord → Type 0) → Type 0
+HoldsOfRecords P =
     (txn : Qualifiers) (x : RequesterRecord) (y : ResponderRecord) (responder_sent requester_sent : List (Option Apdu))
     → RequesterInvariant txn x responder_sent → ResponderInvariant txn y requester_sent → AreIssued responder_sent y.issued
     → AreIssued requester_sent x.issued → P x y
@@ -177,8 +177,8 @@ cancel_is_open txn x y responder_sent requester_sent requester_stands responder_
         sym is ∙ body_of a refused.0 same ∙ no in
         search rules
 
--- `SaysTrue` holds of two records of `PairOf`: each record's claims on the other side are right.
-pub says_true : PairOf SaysTrue
+-- `SaysTrue` holds of two records of `HoldsOfRecords`: each record's claims on the other side are right.
+pub says_true : HoldsOfRecords SaysTrue
 says_true txn x y responder_sent requester_sent requester_stands responder_stands issued heeded = record {
   returned =
       λ is.
@@ -205,8 +205,8 @@ says_true txn x y responder_sent requester_sent requester_stands responder_stand
       ∙ has_issued y.issued responder_sent is_checked_in known.0 issued known.1 (tells_given_back known.0.body known.2));
 }
 
--- `IsNotLater` holds of two records of `PairOf`: the requester's due date is not later than the responder's.
-not_later : PairOf IsNotLater
+-- `IsNotLater` holds of two records of `HoldsOfRecords`: the requester's due date is not later than the responder's.
+not_later : HoldsOfRecords IsNotLater
 not_later txn x y responder_sent requester_sent requester_stands responder_stands issued heeded =
     λ d e.
     let known = requester_stands.knows (requester.Granted d) e in
@@ -215,8 +215,8 @@ not_later txn x y responder_sent requester_sent requester_stands responder_stand
 
 -- ---- live and landed records
 
--- If `PairOf P` holds, `P` holds of the records of two sides that satisfy the premises of `PairOf`.
-facing : (P : RequesterRecord → ResponderRecord → Type 0) → PairOf P
+-- If `HoldsOfRecords P` holds, `P` holds of the records of two sides that satisfy the premises of `HoldsOfRecords`.
+facing : (P : RequesterRecord → ResponderRecord → Type 0) → HoldsOfRecords P
     → (txn : Qualifiers) (x y : Side) (responder_sent requester_sent : List (Option Apdu))
     → RequesterSideInvariant txn x responder_sent
     → ResponderSideInvariant txn y requester_sent
@@ -228,8 +228,8 @@ facing P pair txn (sides.Responder x) y responder_sent requester_sent requester_
 facing P pair txn (sides.Requester x) (sides.Requester y) responder_sent requester_sent requester_stands responder_stands issued
     heeded = absurd responder_stands
 
--- If `PairOf P` holds, and a world satisfies the invariant, `P` holds of its four pairs of records.
-of_both_facing : (P : RequesterRecord → ResponderRecord → Type 0) → PairOf P → (txn : Qualifiers) (w : Parties) → Invariant txn w
+-- If `HoldsOfRecords P` holds, and a world satisfies the invariant, `P` holds of its four pairs of records.
+of_both_facing : (P : RequesterRecord → ResponderRecord → Type 0) → HoldsOfRecords P → (txn : Qualifiers) (w : Parties) → Invariant txn w
     → OfBoth (Facing P) w
 of_both_facing P pair txn w stands =
     let sent = w.responder.sent in

@@ -25,7 +25,7 @@ use Rattle.ill_record.specs.declared.role.Role.TheVariants as who
 use Rattle.ill_world.specs.declared.event.Event.TheVariants.{Deliver, Restart}
 use Rattle.ill_words.specs.declared.outcome.Outcome.{Outcome}
 use Rattle.ill_world.specs.World.{Party, Parties, happens, sent_message}
-use Rattle.ill_core.proofs.GrantLemmas.{before_on, not_before_itself}
+use Rattle.ill_core.proofs.GrantLemmas.{before_chains, not_before_itself}
 use Rattle.ill_world.specs.Safety.{EndsAlike, WasShipped, WasGranted, OfBoth, Safe}
 use Rattle.ill_world.specs.Agreement.{AnswersOnce, AnswersOnceBoth, EndsOnce, Facing, AcceptedBy, IsNotLater, SaysTrue, Agrees}
 use Rattle.ill_world.specs.Agreement.{KeepsLiveDate, KeepsDates, Settles, settled_by, Arrives}
@@ -136,7 +136,7 @@ not_taken_back old new (due, was, now) (inl none) = let both : ◌≡◌ {A = Op
 not_taken_back old new (due, was, now) (inr (inl same)) = not_before_itself due (now due (same ∙ was))
 not_taken_back old None (due, was, now) (inr (inr raised)) = cc
 not_taken_back old (Some later) (due, was, now) (inr (inr raised)) =
-    not_before_itself due (before_on due later due (sym (ap (is_after_due later) was) ∙ raised) (now later refl))
+    not_before_itself due (before_chains due later due (sym (ap (is_after_due later) was) ∙ raised) (now later refl))
 
 -- An event other than its restart keeps or raises the requester's live due date.
 live_kept : (event : Event) (old new : Party) → (event ≡ Restart who.Requester → ⊥) → KeepsLiveDate event old new

@@ -90,8 +90,8 @@ AreIssued sent apdus = (a : Apdu) → WasSent sent a → (n : ℕ) × (message a
 
 -- `P` holds of two sides that satisfy `RequesterSideInvariant` and `ResponderSideInvariant`. The responder's side has
 -- issued all messages that were sent to the requester.
-abbrev Pair : (Side → Side → Type 0) → Type 0
-Pair P = (txn : Qualifiers) (x y : Side) (responder_sent requester_sent : List (Option Apdu))
+abbrev HoldsOfSides : (Side → Side → Type 0) → Type 0
+HoldsOfSides P = (txn : Qualifiers) (x y : Side) (responder_sent requester_sent : List (Option Apdu))
     → RequesterSideInvariant txn x responder_sent → ResponderSideInvariant txn y requester_sent
     → AreIssued responder_sent (issued_of y)
     → P x y
@@ -121,8 +121,8 @@ not_supplied_faces txn x y responder_sent requester_sent requester_stands respon
     is_in_not_supplied y.state (sym responder_stands.ends.unsupplied
     ∙ has_issued y.issued responder_sent responder.is_unsupplied known.0 issued known.1 (tells_ended known.0.body known.2))
 
--- `EndsAlike` holds of two sides that satisfy the premises of `Pair`.
-ends_pair : Pair EndsAlike
+-- `EndsAlike` holds of two sides that satisfy the premises of `HoldsOfSides`.
+ends_pair : HoldsOfSides EndsAlike
 ends_pair txn (sides.Requester x) (sides.Responder y) responder_sent requester_sent requester_stands responder_stands issued = (
   cancelled_faces txn x y responder_sent requester_sent requester_stands responder_stands issued,
   not_supplied_faces txn x y responder_sent requester_sent requester_stands responder_stands issued,
@@ -132,8 +132,8 @@ ends_pair txn (sides.Responder x) y responder_sent requester_sent requester_stan
 ends_pair txn (sides.Requester x) (sides.Requester y) responder_sent requester_sent requester_stands responder_stands issued =
     absurd responder_stands
 
--- `WasGranted` holds of two sides that satisfy the premises of `Pair`.
-grant_pair : Pair WasGranted
+-- `WasGranted` holds of two sides that satisfy the premises of `HoldsOfSides`.
+grant_pair : HoldsOfSides WasGranted
 grant_pair txn (sides.Requester x) (sides.Responder y) responder_sent requester_sent requester_stands responder_stands issued =
     λ due e.
     let known = requester_stands.knows (requester.Granted due) e in
@@ -158,8 +158,8 @@ shipped_by txn x y responder_sent requester_sent (Some d) requester_stands respo
           (has_issued y.issued responder_sent is_renewal known.0 issued known.1 renewal)
     ]
 
--- `WasShipped` holds of two sides that satisfy the premises of `Pair`.
-shipped_pair : Pair WasShipped
+-- `WasShipped` holds of two sides that satisfy the premises of `HoldsOfSides`.
+shipped_pair : HoldsOfSides WasShipped
 shipped_pair txn (sides.Requester x) (sides.Responder y) responder_sent requester_sent requester_stands responder_stands issued =
     λ is. shipped_by txn x y responder_sent requester_sent x.due requester_stands responder_stands issued refl
     (requester_stands.rules.parts.due ∙ is)
@@ -181,8 +181,8 @@ live_issues p saved = λ a was. (
   prefix_message (issued_of p.landed) (issued_of p.live) was.0 a saved.prefix (saved.landed was.0 a was.1),
 )
 
--- If `Pair P` holds, and a world satisfies the invariant, `P` holds of its four pairs of sides.
-of_both : (P : Side → Side → Type 0) → Pair P → (txn : Qualifiers) (w : Parties) → Invariant txn w → OfBoth P w
+-- If `HoldsOfSides P` holds, and a world satisfies the invariant, `P` holds of its four pairs of sides.
+of_both : (P : Side → Side → Type 0) → HoldsOfSides P → (txn : Qualifiers) (w : Parties) → Invariant txn w → OfBoth P w
 of_both P pair txn w stands =
     let sent = w.responder.sent in
     let requester_sent = w.requester.sent in

@@ -12,7 +12,7 @@ use Rattle.ill_core.specs.Requester.{RequesterRecord, later}
 use Rattle.ill_core.specs.RequesterActions as requester_actions
 use Rattle.ill_core.specs.RequesterDeliveries as requester_deliveries
 use Rattle.ill_core.specs.RequesterEvidence.{KeepsDue, is_raised}
-use Rattle.ill_core.proofs.GrantLemmas.{before_on}
+use Rattle.ill_core.proofs.GrantLemmas.{before_chains}
 use Rattle.ill_record.specs.declared.side.Side.{Side}
 use Rattle.ill_record.specs.declared.side.Side.TheVariants as sides
 use Rattle.ill_record.specs.declared.side.Action.{Action}
@@ -35,7 +35,7 @@ keeps_on (Some x) (Some y) c (inr (inr raised)) (inl none) = search rules
 keeps_on (Some x) (Some y) c (inr (inr raised)) (inr (inl same)) =
     inr (inr (subst (λ z. is_raised (Some x) z ≡ true) (sym same) raised))
 keeps_on (Some x) (Some y) None (inr (inr raised)) (inr (inr again)) = search rules
-keeps_on (Some x) (Some y) (Some z) (inr (inr raised)) (inr (inr again)) = inr (inr (before_on x y z raised again))
+keeps_on (Some x) (Some y) (Some z) (inr (inr raised)) (inr (inr again)) = inr (inr (before_chains x y z raised again))
 
 -- These facts of the tables are assumed here. A wish leaves the requester's due date unchanged. A message that it takes
 -- keeps or raises it.

@@ -177,14 +177,14 @@ module _ (rows : TransitionsHear) where
       → is_among (states.NotSupplied ∷ []) (taking lends y apdus).state ≡ true
   unsupplied_stays y apdus is =
       keeps_all lends (λ r. is_among (states.NotSupplied ∷ []) r.state ≡ true)
-      (λ r a ended. ap (is_among (states.NotSupplied ∷ [])) (rows.responder_final r a (final_too r.state ended)) ∙ ended) y
+      (λ r a ended. ap (is_among (states.NotSupplied ∷ [])) (rows.responder_final r a (unsupplied_is_final r.state ended)) ∙ ended) y
       apdus is
     where
       -- NOT-SUPPLIED is one of the states that no message changes.
-      final_too : (s : State) → is_among (states.NotSupplied ∷ []) s ≡ true
+      unsupplied_is_final : (s : State) → is_among (states.NotSupplied ∷ []) s ≡ true
           → is_among (states.NotSupplied ∷ states.Cancelled ∷ states.CheckedIn ∷ []) s ≡ true
-      final_too states.NotSupplied is = refl
-      final_too s is = search rules
+      unsupplied_is_final states.NotSupplied is = refl
+      unsupplied_is_final s is = search rules
 
   -- A responder in NOT-SUPPLIED is not undecided.
   not_undecided : {P : Type 0} (s : State) → is_among (states.NotSupplied ∷ []) s ≡ true → is_among records.undecided s ≡ true → P
@@ -320,13 +320,13 @@ module _ (rows : TransitionsHear) where
           plain_heard (suc i) a at plain =
               requester_heard i a at (λ j b there later.
               plain_reopens b.body a.body plain
-              (λ ships recalls. before_itself (lender_after.ships_first (suc j) (suc i) b a there at ships recalls) later)
-              (λ both. before_itself (lender_after.grants_first (suc j) (suc i) both.0 b a both.1 both.2 there at both.3 both.4
+              (λ ships recalls. not_both_ways (lender_after.ships_first (suc j) (suc i) b a there at ships recalls) later)
+              (λ both. not_both_ways (lender_after.grants_first (suc j) (suc i) both.0 b a both.1 both.2 there at both.3 both.4
               both.5) later))
             where
               -- No message is both before and after another.
-              before_itself : {i j : ℕ} → suc j < suc i → i < j → ⊥
-              before_itself first later = omega (arith, first, later)
+              not_both_ways : {i j : ℕ} → suc j < suc i → i < j → ⊥
+              not_both_ways first later = omega (arith, first, later)
 
           -- `has_heard` holds of the last message at the requester.
           last_heard : (a : Apdu) → message lender_new.issued (length lender_new.issued) ≡ Some a

@@ -96,19 +96,19 @@ pub record HasPassed (of : Role) (old new : Parties) (apdus : List Apdu) : Type 
   pub taken : (party new (other of)).live ≡ takes_all (party old (other of)).live apdus
 
 -- After message n was passed, the party may still send all of `apdus`.
-may_still : (of : Role) (w : Parties) (n : ℕ) (a : Apdu) (apdus : List Apdu) → MaySend (party w of) apdus
+may_send_still : (of : Role) (w : Parties) (n : ℕ) (a : Apdu) (apdus : List Apdu) → MaySend (party w of) apdus
     → MaySend (party (passed w of n a) of) apdus
-may_still who.Requester w n a apdus may =
+may_send_still who.Requester w n a apdus may =
     record { issued = may.issued; released = may.released; few = may.few; places = places_kept w.requester.sent n a ∙ may.places }
-may_still who.Responder w n a apdus may =
+may_send_still who.Responder w n a apdus may =
     record { issued = may.issued; released = may.released; few = may.few; places = places_kept w.responder.sent n a ∙ may.places }
 
 -- If `a` was passed, and then `apdus`, then `a ∷ apdus` were passed.
-passed_on : (of : Role) (w new : Parties) (n : ℕ) (a : Apdu) (apdus : List Apdu)
+has_passed_one_more : (of : Role) (w new : Parties) (n : ℕ) (a : Apdu) (apdus : List Apdu)
     → HasPassed of (passed w of n a) new apdus → HasPassed of w new (a ∷ apdus)
 unfolding takes_all
-passed_on who.Requester w new n a apdus has = record { live = has.live; taken = has.taken }
-passed_on who.Responder w new n a apdus has = record { live = has.live; taken = has.taken }
+has_passed_one_more who.Requester w new n a apdus has = record { live = has.live; taken = has.taken }
+has_passed_one_more who.Responder w new n a apdus has = record { live = has.live; taken = has.taken }
 
 -- If a party may send `prefix ++ rest`, `sends_and_delivers` passes `rest` from the end of `prefix` on.
 pass_all : (of : Role) (w : Parties) (n : ℕ) (prefix rest : List Apdu) → n ≡ length prefix + 1
@@ -126,12 +126,12 @@ pass_all of w n prefix (a ∷ rest) is may =
     subst (λ k. sent_message (with_sent p.sent k a) k ≡ Some a) (sym place)
     (put_here p.sent (length prefix) a (omega (arith, size, may.few, may.places))) in
     let may_more = subst (MaySend (party (passed w of n a) of)) (sym (append_assoc prefix (a ∷ []) rest))
-    (may_still of w n a (prefix ++ a ∷ rest) may) in
+    (may_send_still of w n a (prefix ++ a ∷ rest) may) in
     let more = pass_all of (passed w of n a) (n + 1) (prefix ++ a ∷ []) rest (omega (arith, is, length-append prefix (a ∷ [])))
     may_more in
     subst (λ v. HasPassed of w (run_of v (sends_and_delivers of (n + 1) (length rest))) (a ∷ rest))
     (sym (passes of w n a at free there))
-    (passed_on of w (run_of (passed w of n a) (sends_and_delivers of (n + 1) (length rest))) n a rest more)
+    (has_passed_one_more of w (run_of (passed w of n a) (sends_and_delivers of (n + 1) (length rest))) n a rest more)
 
 -- ---- a half of a round
 

@@ -24,7 +24,7 @@ use Rattle.ill_world.specs.Round.{sends_and_delivers}
 use Rattle.ill_world.specs.DeskRound.{passes_side}
 use Rattle.ill_words.specs.Sending.{wants_sending}
 use Rattle.ill_world.specs.DeskNight.{desk_half_if, is_asked_by, desk_asking_half, desk_night_of}
-use Rattle.ill_world.specs.Shelves.{ShelfEvent, group_of, said_in, events_at}
+use Rattle.ill_world.specs.Shelves.{ShelfEvent, group_of, in_group, events_at}
 use Rattle.ill_world.proofs.Parties.{RowsGrow}
 use Rattle.ill_world.proofs.Runs.{run_both}
 use Rattle.ill_world.proofs.Desks.{EachStands}
@@ -39,10 +39,10 @@ module _ (group : List ℕ) where
   AllAt (event ∷ more) = (group_of group event ≡ group) × AllAt more
 
   -- If all events have their home at the group, `events_at` returns all of them.
-  pub all_at : (all : List DeskEvent) → AllAt all → events_at group (said_in group all) ≡ all
+  pub all_at : (all : List DeskEvent) → AllAt all → events_at group (in_group group all) ≡ all
   all_at [] at = refl
   all_at (event ∷ more) at =
-      let others = events_at group (said_in group more) in
+      let others = events_at group (in_group group more) in
       ap (λ b. if b then event ∷ others else others) ((bytes_eq-Decides group (group_of group event)).1 (sym at.0))
       ∙ ap (λ l. event ∷ l) (all_at more at.1)
 
@@ -136,20 +136,20 @@ module _ (group : List ℕ) where
 
   -- All events of a night of the desks of a group, given with the group, have their home there.
   pub night_at : RowsGrow → EachStands → DesksInvariant first_desks → (all : List ShelfEvent)
-      → let night = desk_night_of (desks_run first_desks (events_at group all)) in events_at group (said_in group night) ≡ night
+      → let night = desk_night_of (desks_run first_desks (events_at group all)) in events_at group (in_group group night) ≡ night
   night_at grows after first all =
       let w = desks_run first_desks (events_at group all) in
       let asking = desk_asking_half w in
       let asking_at : AllAt asking = half_at (wants_sending false) who.Requester w (lack all) in
-      let longer : events_at group (all ++ said_in group asking) ≡ events_at group all ++ asking =
-      group_in_order group all (said_in group asking) ∙ ap (λ l. events_at group all ++ l) (all_at asking asking_at) in
-      let next : desks_run first_desks (events_at group (all ++ said_in group asking)) ≡ desks_run w asking =
+      let longer : events_at group (all ++ in_group group asking) ≡ events_at group all ++ asking =
+      group_in_order group all (in_group group asking) ∙ ap (λ l. events_at group all ++ l) (all_at asking asking_at) in
+      let next : desks_run first_desks (events_at group (all ++ in_group group asking)) ≡ desks_run w asking =
       ap (desks_run first_desks) longer ∙ run_both desks_happen first_desks (events_at group all) asking in
       all_at (desk_night_of w)
       (both_at asking (desk_half_if (λ side. wants_sending (is_asked_by w side) side) who.Responder (desks_run w asking))
       asking_at
       (half_at (λ side. wants_sending (is_asked_by w side) side) who.Responder (desks_run w asking)
-      (subst LackOthers next (lack (all ++ said_in group asking)))))
+      (subst LackOthers next (lack (all ++ in_group group asking)))))
     where
       -- After any events the desks of the group lack each transaction of another group.
       lack : (all : List ShelfEvent) → LackOthers (desks_run first_desks (events_at group all))

@@ -107,10 +107,10 @@ answers_once answered apdus distinct (suc m) (suc n) k a b at_m at_n is_a is_b =
 -- ---- the end
 
 -- If no APDU ends the request, neither the first one nor the rest gives the number of an end.
-none_go : (ends : Bool) (n : ℕ) (rest : List ℕ) (count : ℕ) → (cond ends 1 0) + count ≡ 0 → (count ≡ 0 → rest ≡ [])
+none_with_first : (ends : Bool) (n : ℕ) (rest : List ℕ) (count : ℕ) → (cond ends 1 0) + count ≡ 0 → (count ≡ 0 → rest ≡ [])
     → cons_option (if ends then Some n else None) rest ≡ []
-none_go true n rest count none more = absurd (omega (arith, none))
-none_go false n rest count none more = more (omega (arith, none))
+none_with_first true n rest count none more = absurd (omega (arith, none))
+none_with_first false n rest count none more = more (omega (arith, none))
 
 -- Returns the count of the APDUs that end the request.
 abbrev ends_in : List Apdu → ℕ
@@ -123,20 +123,20 @@ count_first a apdus = sum_by-cons (λ (x : Apdu). cond (is_end x.body) 1 0) a ap
 -- In a list without an end, no number of an end is found.
 none_found : (apdus : List Apdu) → ends_in apdus ≡ 0 → filter_map number_of_end apdus ≡ []
 none_found [] none = refl
-none_found (a ∷ apdus) none = none_go (is_end a.body) a.number (filter_map number_of_end apdus) (ends_in apdus)
+none_found (a ∷ apdus) none = none_with_first (is_end a.body) a.number (filter_map number_of_end apdus) (ends_in apdus)
     (sym (count_first a apdus) ∙ none) (none_found apdus)
 
 -- If only the first APDU ends the request, its number is the last found.
-head_go : (ends : Bool) (n : ℕ) (rest : List ℕ) (o : Option ℕ) → ends ≡ true → rest ≡ []
+first_is_last : (ends : Bool) (n : ℕ) (rest : List ℕ) (o : Option ℕ) → ends ≡ true → rest ≡ []
     → last_or o (cons_option (if ends then Some n else None) rest) ≡ Some n
-head_go true n rest o is none = ap (last_or (Some n)) none
-head_go false n rest o is none = search rules
+first_is_last true n rest o is none = ap (last_or (Some n)) none
+first_is_last false n rest o is none = search rules
 
 -- The last number found in the rest of a list is the last found in the whole.
-tail_go : (ends : Bool) (n m : ℕ) (rest : List ℕ) (o : Option ℕ) → ((o : Option ℕ) → last_or o rest ≡ Some m)
+last_in_rest : (ends : Bool) (n m : ℕ) (rest : List ℕ) (o : Option ℕ) → ((o : Option ℕ) → last_or o rest ≡ Some m)
     → last_or o (cons_option (if ends then Some n else None) rest) ≡ Some m
-tail_go true n m rest o last = last (Some n)
-tail_go false n m rest o last = last o
+last_in_rest true n m rest o last = last (Some n)
+last_in_rest false n m rest o last = last o
 
 -- If the first APDU ends the request, and at most one does, no other does.
 one_more_end : (ends : Bool) (count : ℕ) → ends ≡ true → (cond ends 1 0) + count ≤ 1 → count ≡ 0
@@ -151,9 +151,9 @@ one_last (b ∷ apdus) zero a o most e is =
     let same : b ≡ a = same_apdu b a e in
     let ends : is_end b.body ≡ true = ap (λ (x : Apdu). is_end x.body) same ∙ is in
     let none = none_found apdus (one_more_end (is_end b.body) (ends_in apdus) ends (omega (arith, most, count_first b apdus))) in
-    head_go (is_end b.body) b.number (filter_map number_of_end apdus) o ends none ∙ ap (λ (x : Apdu). Some x.number) same
+    first_is_last (is_end b.body) b.number (filter_map number_of_end apdus) o ends none ∙ ap (λ (x : Apdu). Some x.number) same
 one_last (b ∷ apdus) (suc i) a o most e is =
-    tail_go (is_end b.body) b.number a.number (filter_map number_of_end apdus) o
+    last_in_rest (is_end b.body) b.number a.number (filter_map number_of_end apdus) o
     (λ p. one_last apdus i a p (omega (arith, most, count_first b apdus)) e is)
 
 -- In a numbered list with at most one end, if message n is the end, n is the last found.

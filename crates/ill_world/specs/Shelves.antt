@@ -45,8 +45,8 @@ abbrev pub home : ShelfEvent → List ℕ
 home e = group_of e.group e.event
 
 -- Returns `events`, each with `group`.
-abbrev pub said_in : List ℕ → List DeskEvent → List ShelfEvent
-said_in group events = map (λ event. record { group = group; event = event }) events
+abbrev pub in_group : List ℕ → List DeskEvent → List ShelfEvent
+in_group group events = map (λ event. record { group = group; event = event }) events
 
 -- Returns the outcome of an event, and the shelves after it. Only the desks at its home change.
 abbrev pub shelves_happen : Shelves → ShelfEvent → DeskOutcome × Shelves

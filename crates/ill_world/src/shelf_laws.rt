@@ -12,7 +12,7 @@ ghost use Rattle.ill_world.specs.Agreement.{Agrees};
 ghost use Rattle.ill_world.specs.Round.{CanAnswer};
 ghost use Rattle.ill_world.specs.Night.{AreInStepOrAtRest};
 ghost use Rattle.ill_world.specs.DeskNight.{desk_night_of};
-ghost use Rattle.ill_world.specs.Shelves.{Shelves, ShelfEvent, first_shelves, home, shelves_happen, shelves_run, said_in, events_at, IsSafeShelfRun, IsAgreeingShelfRun};
+ghost use Rattle.ill_world.specs.Shelves.{Shelves, ShelfEvent, first_shelves, home, shelves_happen, shelves_run, in_group, events_at, IsSafeShelfRun, IsAgreeingShelfRun};
 
 use crate::desk_laws;
 
@@ -90,10 +90,10 @@ pub fn no_transaction_has_two_homes()
 pub fn a_night_of_a_group_is_enough()
     ensures home { (group : List ℕ) (events : List ShelfEvent) →
         let night = desk_night_of (shelves_run first_shelves events group) in
-        events_at group (said_in group night) ≡ night }
+        events_at group (in_group group night) ≡ night }
     ensures run { (txn : Qualifiers) (events : List ShelfEvent) → let w = shelves_run first_shelves events in
         CanAnswer (project txn (w txn.group)).responder.live →
-        let night = said_in txn.group (desk_night_of (w txn.group)) in
+        let night = in_group txn.group (desk_night_of (w txn.group)) in
         AreInStepOrAtRest (project txn (shelves_run w night txn.group)) }
 {
     ill_saved::laws::rows_grow();

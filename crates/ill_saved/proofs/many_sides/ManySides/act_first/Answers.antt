@@ -4,7 +4,7 @@ use Rattle.std.proofs.Common.{rules, ◌≡◌, true, None, Ok, length, nat_lt}
 use Rattle.ill_record.specs.Side.{acted, acts, txn_of, idle_side, IsSideTransition}
 use Rattle.ill_record.specs.Sides.{most_sides, put_refusal}
 use Rattle.ill_saved.specs.ManySides.{sides_held}
-use Rattle.ill_saved.proofs.Contents.{first_may}
+use Rattle.ill_saved.proofs.Contents.{may_begin_with}
 use Rattle.ill_saved.proofs.many_sides.ManySides.act_first.Goals.{In_ok-side}
 use Rattle.ill_saved.proofs.many_sides.ManySides.act_first.Goals as goal
 
@@ -17,7 +17,7 @@ may c =
     let room : nat_lt (length live.held) most_sides ≡ true = search rules in
     let done : acts (idle_side live.role c.args.txn.now) c.args.action.now ≡ Ok c.in_ok-side.side = search rules in
     let begun = c.rows_begin.ensures.acts (idle_side live.role c.args.txn.now) c.in_ok-side.side c.args.action.now done in
-    first_may c.rows_grow.ensures live c.args.txn.now c.requires.none room c.in_ok-side.side (acted c.args.action.now done) begun
+    may_begin_with c.rows_grow.ensures live c.args.txn.now c.requires.none room c.in_ok-side.side (acted c.args.action.now done) begun
 
 -- The side that has begun may be put.
 pub hold-requires-clause-may : goal.hold-requires-clause-may

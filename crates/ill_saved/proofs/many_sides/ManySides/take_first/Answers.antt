@@ -6,7 +6,7 @@ use Rattle.ill_values.specs.Bodies.{is_ill_request}
 use Rattle.ill_record.specs.Side.{took, takes, txn_of, idle_side, IsSideTransition}
 use Rattle.ill_record.specs.Sides.{most_sides, put_refusal}
 use Rattle.ill_saved.specs.ManySides.{sides_held}
-use Rattle.ill_saved.proofs.Contents.{first_may, first_begins}
+use Rattle.ill_saved.proofs.Contents.{may_begin_with, first_begins}
 use Rattle.ill_saved.proofs.many_sides.ManySides.take_first.Goals.{In_ok-side}
 use Rattle.ill_saved.proofs.many_sides.ManySides.take_first.Goals as goal
 
@@ -21,7 +21,7 @@ may c =
     let request : is_ill_request a.body ≡ true = search rules in
     let taken : takes (idle_side live.role a.txn) a ≡ (Ok Taken, c.in_ok-side.side) = search rules in
     let begun = first_begins c.responder_has_begun.ensures.takes live.role a c.in_ok-side.side request c.requires.other taken in
-    first_may c.rows_grow.ensures live a.txn c.requires.none room c.in_ok-side.side (took a (ap (λ p. p.1) taken)) begun
+    may_begin_with c.rows_grow.ensures live a.txn c.requires.none room c.in_ok-side.side (took a (ap (λ p. p.1) taken)) begun
 
 -- The side that has begun may be put.
 pub hold-requires-clause-may : goal.hold-requires-clause-may

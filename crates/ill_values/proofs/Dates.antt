@@ -72,6 +72,7 @@ digit_range x rest e =
     (between 48 57 x p.0, p.1)
 
 -- Eight ASCII digits are the date text of the year, the month and the day with these values.
+-- By `digit_range` each byte from `a` to `i` is a digit, one after another.
 eight_encoded : (a b c e f g h i : ℕ) → list_all is_ascii_digit (a ∷ b ∷ c ∷ e ∷ f ∷ g ∷ h ∷ i ∷ []) ≡ true
     → a ∷ b ∷ c ∷ e ∷ f ∷ g ∷ h ∷ i ∷ []
     ≡ date_text (record {
@@ -120,6 +121,7 @@ eight_read d a b c e f g h i found =
     (made.0, eight_encoded a b c e f g h i digits.1 ∙ ap date_text made.1)
 
 -- If `text` is read as `d`, it is the date text of `d`, which is in range.
+-- By `first_of` its eight bytes are taken off one after another, and `eight_read` proves it for them.
 pub date_read : (text : List ℕ) (d : Date) → IsRead d text
 date_read text d found =
     let tested = passed (eight_digits text)

@@ -128,7 +128,7 @@ civil_of d is = record {
   day_in = (is.from_first, is.to_last);
 }
 
--- The date of jiff has the year, the month and the day of `d`.
+-- The date `date` of jiff has the year, the month and the day of `d`.
 abbrev pub IsSame : Date → CivilDate → Type 0
 IsSame d date = IsYmd (pos d.year) (pos d.month) (pos d.day) date
 
@@ -139,12 +139,13 @@ number_same d date same =
     let day : date.day ≡ d.day = omega (arith, signed_arith, same.2) in
     rw (same.0, month, day) refl
 
--- If the year of a day is at most 9999, its number is within jiff's calendar.
+-- If the year of the day `d` is at most 9999, its number is within jiff's calendar.
 number_in_reach : (d : Date) → IsDay d → d.year ≤ 9999 → IsEpochDay (day_number d)
 unfolding civil_of
 number_in_reach d is year = epoch_day_range (civil_of d (date_of_day d is year))
 
--- If the number of a day is within jiff's calendar, its year is at most 9999.
+-- If the number of the day `d` is within jiff's calendar, its year is at most 9999.
+-- A later year has a number above that of 31 December 9999, the last day of jiff's calendar.
 year_in_reach : (d : Date) → IsDay d → IsEpochDay (day_number d) → d.year ≤ 9999
 year_in_reach d is reach =
     elim (cases_lt 9999 d.year) [
@@ -197,7 +198,8 @@ record IsReached (d : Date) (later : CivilDate) : Type 0 where
   same_month : pos later.month ≡ pos d.month
   same_day : pos later.day ≡ pos d.day
 
--- If the number of `later` is that of `d` plus `n`, `later` is `days_later n d`, which is in range.
+-- Let `date` be the date of jiff for the day `d`. If the number of `later` is that of `date` plus `n`, `later` is
+-- `days_later n d`, and this is in range. For dates with equal numbers are equal (`epoch_day_injective`).
 reached_same : (n : ℕ) (d : Date) (date later : CivilDate) → IsDate d → IsSame d date
     → epoch_day later ≡ epoch_day date +ℤ pos n → IsReached (days_later n d) later
 unfolding civil_of
@@ -209,14 +211,15 @@ reached_same n d date later is same number =
     let one = epoch_day_injective later (civil_of (days_later n d) found) here in
     record { in_range = found; same_year = one.0; same_month = ap pos one.1; same_day = ap pos one.2 }
 
--- If the number of `later` is that of `d` plus `n`, the year of `later` is not negative.
+-- Let `date` be the day `d`. If the number of `later` is that of `date` plus `n`, its year is not negative.
 pub reached_year : (n : ℕ) (d : Date) (date later : CivilDate) → IsDate d → IsSame d date
     → epoch_day later ≡ epoch_day date +ℤ pos n → pos 0 ≤ℤ later.year
 reached_year n d date later is same number =
     let there = reached_same n d date later is same number in
     rw there.same_year (omega (arith, signed_arith))
 
--- If the number of `later` is that of `d` plus `n`, `date_of` of its parts returns `day_after n d`.
+-- Let `date` be the day `d`. If the number of `later` is that of `date` plus `n`, `date_of` of the parts of `later`
+-- returns `day_after n d`.
 pub reached : (n : ℕ) (d : Date) (date later : CivilDate) → IsDate d → IsSame d date
     → epoch_day later ≡ epoch_day date +ℤ pos n
     → date_of (unsigned_abs later.year) later.month later.day ≡ day_after n d

@@ -75,14 +75,14 @@ item_utf8 text e =
 abbrev below_128 : ℕ → Type 0
 below_128 byte = byte < 128
 
--- A printing character is ASCII.
+-- A printing character of ASCII, or a space, is below 128.
 printable_ascii : (byte : ℕ) → is_printable byte ≡ true → byte < 128
 printable_ascii byte e =
     let most = and_parts (leb 0x20 byte) (leb byte 0x7E) e in
     let at_most = leb-true byte 0x7E most.1 in
     omega arith
 
--- Printing characters are ASCII.
+-- If each byte of `text` passes `is_printable`, each is below 128.
 printables_ascii : (text : List ℕ) → list_all is_printable text ≡ true → All below_128 text
 printables_ascii [] e = All-nil below_128
 printables_ascii (byte ∷ text) e =

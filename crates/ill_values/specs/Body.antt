@@ -12,7 +12,7 @@ use Rattle.ill_values.specs.Text.{item_of, ◌>>=◌}
 abbrev pub Body : Type 0
 Body = BodyWith (List ℕ)
 
--- Returns the body with `change` of its item.
+-- Returns the body with `change` applied to its item. Only an ILL-Request has an item.
 abbrev pub map_item : {I J : Type 0} → (I → J) → BodyWith I → BodyWith J
 map_item change (IllRequest expiry item) = IllRequest expiry (change item)
 map_item change (IllAnswer result) = IllAnswer result
@@ -29,7 +29,7 @@ map_item change (Renew wished) = Renew wished
 map_item change (RenewAnswer answers granted) = RenewAnswer answers granted
 map_item change Expired = Expired
 
--- Returns the body that a view of a body shows.
+-- Returns the body that a view shows: the item has the bytes that the view borrows.
 abbrev pub body_in : BodyWith (Bor (List ℕ)) → Body
 body_in = map_item (λ item. item.now)
 
@@ -38,7 +38,8 @@ abbrev pub checked_body : BodyWith (Bor (List ℕ)) → Result Body TextFault
 checked_body (IllRequest expiry item) = item_of item.now >>= λ text. Ok (IllRequest expiry text)
 checked_body other = Ok (body_in other)
 
--- `result` is `old` with another item, or a fault of its item. `gives` says what may come of an item.
+-- `result` is `old` with another item in an ILL-Request, or the fault of that item. All other fields are kept.
+-- `gives item made` says that the item `item` may become `made`.
 abbrev pub Maps : {I J E : Type 0} → (I → Result J E → Type 0) → BodyWith I → Result (BodyWith J) E → Type 0
 Maps gives (IllRequest expiry item) (Ok (IllRequest same new)) = (same ≡ expiry) × gives item (Ok new)
 Maps gives (IllRequest expiry item) (Err fault) = gives item (Err fault)

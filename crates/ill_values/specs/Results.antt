@@ -20,6 +20,6 @@ abbrev pub all_results : List AnswerResult
 all_results =
     Conditional ∷ Retry ∷ Unfilled ∷ LocationsProvided ∷ WillSupply ∷ HoldPlaced ∷ Estimate ∷ []
 
--- Returns the result with the given name, or `None`.
+-- Returns the result whose name is the text, or `None`.
 abbrev pub result_named : List ℕ → Option AnswerResult
 result_named = named_by result_name all_results

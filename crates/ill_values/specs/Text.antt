@@ -18,7 +18,7 @@ is_no_control byte = nat_le 0x20 byte && not (byte == 0x7F)
 abbrev pub is_item_text : List ℕ → Bool
 is_item_text text = list_all is_no_control text && is_utf8 text
 
--- Returns `next` of the value of the first result, or its fault.
+-- If the first result is a value, returns `next` of it. Otherwise returns the fault of the first result.
 infixl 10 ◌>>=◌
 abbrev pub ◌>>=◌ : {A B : Type 0} → Result A TextFault → (A → Result B TextFault) → Result B TextFault
 (Ok value) >>= next = next value
@@ -51,7 +51,7 @@ IsItem text = item_check text ≡ Ok tt
 abbrev pub item_of : List ℕ → Result (List ℕ) TextFault
 item_of text = item_check text >>= λ _. Ok text
 
--- The result of a call is the expected fault. If a value is expected, the result is this value or `OutOfMemory`.
+-- `result` is the expected fault, which is the first parameter. If that is a value, `result` is it or `OutOfMemory`.
 abbrev pub ReturnsText : {V : Type 0} → Result V TextFault → Result V TextFault → Type 0
 ReturnsText (Err fault) result = result ≡ Err fault
 ReturnsText (Ok value) result = MatchResult result (λ made. made ≡ value) (λ fault. fault ≡ OutOfMemory)

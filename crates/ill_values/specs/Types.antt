@@ -48,7 +48,7 @@ apdu_type_name Renew = codes "Renew"
 apdu_type_name RenewAnswer = codes "Renew-Answer"
 apdu_type_name Expired = codes "Expired"
 
--- Returns the type with the given name, or `None`.
+-- Returns the type whose name is the text, or `None`.
 abbrev pub apdu_type_named : List ℕ → Option ApduType
 apdu_type_named = named_by apdu_type_name all_types
 

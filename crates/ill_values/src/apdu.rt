@@ -121,7 +121,7 @@ pub enum BodyWith<I> {
 }
 
 impl<I> BodyWith<I> {
-    /// Returns the type of the message.
+    /// Returns the type of the message. A view of the body has an equal type (`mapped`).
     pub fn apdu_type(&self) -> ApduType
         ensures value { result ≡ type_of self.now }
         ensures mapped { (text : I → List ℕ) → result ≡ type_of (map_item text self.now) }
@@ -144,7 +144,7 @@ impl<I> BodyWith<I> {
         }
     }
 
-    /// Returns the name of the type of the message, as `ILL-Request`.
+    /// Returns the name of the type of the message, as `ILL-Request`. A view of the body has an equal name (`mapped`).
     pub fn type_name(&self) -> &'static str
         ensures value { result.now ≡ type_name self.now }
         ensures mapped { (text : I → List ℕ) → result.now ≡ type_name (map_item text self.now) }
@@ -153,6 +153,7 @@ impl<I> BodyWith<I> {
     }
 
     /// Returns the body with what `make` makes of its item, or the error of `make`. Only an `IllRequest` has an item.
+    /// All other fields are copied.
     fn try_map<'a, J, E, Make: FnOnce(&'a I) -> Result<J, E>>(
         &'a self,
         make: Make,

@@ -29,6 +29,7 @@ pub struct Day {
     day: u8,
 }
 
+/// In proofs a day is a `Date` in range. `inverse` gives the fields of the day with that date.
 impl Model for Day {
     ghost Value = { Date };
 

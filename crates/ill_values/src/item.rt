@@ -18,6 +18,7 @@ pub struct Item {
     text: Vec<u8>,
 }
 
+/// In proofs an item is the list of its bytes, which satisfies `IsItem`.
 impl Model for Item {
     ghost Value = { List ℕ };
 

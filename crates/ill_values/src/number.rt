@@ -15,6 +15,7 @@ pub struct Number {
     value: u8,
 }
 
+/// In proofs a number is a natural number of at least 1. `inverse` gives the field of that number.
 impl Model for Number {
     ghost Value = { ℕ };
 

@@ -23,6 +23,7 @@ pub struct TxnId {
     transaction: Vec<u8>,
 }
 
+/// In proofs an id is its two lists of bytes, which are qualifiers.
 impl Model for TxnId {
     ghost Value = { Qualifiers };
 

@@ -5,9 +5,11 @@ use Rattle.ill_values.proofs.apdu.BodyWith.try_map.Goals.{in-CancelReply, in-Shi
 use Rattle.ill_values.proofs.apdu.BodyWith.try_map.Goals.{in-CheckedIn, in-Overdue, in-Renew, in-RenewAnswer, in-Expired}
 use Rattle.ill_values.proofs.apdu.BodyWith.try_map.Goals as goal
 
+-- If `make` fails, the body is an ILL-Request, and the result is the error of `make`.
 pub returns-in-Err : goal.returns-in-Err
 returns-in-Err g c = rw (c.in-IllRequest.is) (_, c.in-Err.ensures, refl)
 
+-- If nothing fails, only the item of an ILL-Request differs; any other variant has equal fields.
 pub returns : goal.returns
 returns g c =
     elim c.match-self.branch [

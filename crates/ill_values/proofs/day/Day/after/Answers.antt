@@ -16,10 +16,12 @@ span_of_days n given s few e only =
     let fits : FitsSigned w64 given = rw e (omega (arith, signed_arith)) in
     rw e at (simp to_z-of_z at only)
 
+-- More than `MAX_DAYS` days lead past 31 December 9999, so the result is `OutOfRange`.
 pub returns-then-days-gt-MAX_DAYS-clause-value : goal.returns-then-days-gt-MAX_DAYS-clause-value
 returns-then-days-gt-MAX_DAYS-clause-value c =
     refused_too_many c.args.days c.args.self.now c.to_civil-date.ensures.valid c.if-days-gt-MAX_DAYS.true
 
+-- If jiff gives a later date, its year is not negative, as `from_civil` asks.
 pub from_civil-requires : goal.from_civil-requires
 from_civil-requires c =
     let date = c.to_civil-date in
@@ -27,6 +29,7 @@ from_civil-requires c =
     let number = c.in-Ok.ensures.value ∙ date_add-days date.result (pos c.args.days) c.days.result span in
     reached_year c.args.days c.args.self.now date.result c.in-Ok.later date.ensures.valid date.ensures.value number
 
+-- If jiff gives a later date, `from_civil` returns the day `days` days later, or `OutOfRange`.
 pub returns-in-Ok-clause-value : goal.returns-in-Ok-clause-value
 returns-in-Ok-clause-value c =
     let date = c.to_civil-date in
@@ -35,6 +38,7 @@ returns-in-Ok-clause-value c =
     c.from_civil.ensures ∙ reached c.args.days c.args.self.now date.result c.in-Ok.later date.ensures.valid date.ensures.value
     number
 
+-- If jiff refuses, the later day is outside its calendar, so `OutOfRange` is right.
 pub returns-in-Err-clause-value : goal.returns-in-Err-clause-value
 returns-in-Err-clause-value c =
     let date = c.to_civil-date in

@@ -1,4 +1,5 @@
--- Proper prefixes of texts that are appended in several parts.
+-- Proper prefixes of texts that are appended in several parts. The functions of `encoding.rt` append parts, one after
+-- another. If memory runs out, they have appended a proper prefix of the whole.
 use Rattle.std.proofs.Common.{◌≡◌, ℕ, List, [], ◌++◌, ◌<◌, length, Result, Ok, Err, OnErr, refl, sym, ap, ◌∙◌, arith}
 use Rattle.std.proofs.Common.{append_assoc, length-append}
 use Rattle.std.proofs.lemmas.List.{append-nil}
@@ -37,7 +38,8 @@ pub at_err : {T E P : Type 0} (result : Result T E) → P → OnErr result P
 at_err (Ok value) holds = tt
 at_err (Err fault) holds = holds
 
--- At an error, if a proper prefix of `second` follows `old ++ first`, one of `first ++ second` follows `old`.
+-- Let `middle` be `old ++ first`. If at an error `new` is `middle` followed by a proper prefix of `second`,
+-- `new` is then `old` followed by a proper prefix of `first ++ second`.
 pub adds_last : {T E : Type 0} (result : Result T E) (old middle new first second : List ℕ) → middle ≡ old ++ first
     → OnErr result (AddsPrefix middle new second)
     → OnErr result (AddsPrefix old new (first ++ second))

@@ -1,4 +1,4 @@
--- Lists of bytes.
+-- The parts of a list of octets are lists of octets.
 use Rattle.std.proofs.Common.{◌≡◌, ℕ, ◌+◌, List, ◌++◌, length, take, drop, refl, subst, inl, inr, arith}
 use Rattle.ill_der.specs.Laws.{IsBytes}
 use Rattle.std.proofs.lemmas.Bool.{cases_lt}

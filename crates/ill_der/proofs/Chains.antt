@@ -1,4 +1,5 @@
--- The results of readings that are chained by `>>=`.
+-- The results of readings that are chained by `>>=`. If a chain gives a value or a fault, each lemma says what a part
+-- of it gave.
 use Rattle.std.proofs.Common.{◌≡◌, ℕ, Bool, true, false, cond, Result, Ok, Err, refl, subst, inl, inr, ◌⊎◌}
 use Rattle.ill_der.specs.declared.fault.DerFault.{DerFault}
 use Rattle.ill_der.specs.declared.fault.DerFault.TheVariants.{Short, Tag, Length, Field, OutOfMemory}

@@ -1,4 +1,4 @@
--- The laws of each kind of contents.
+-- The laws of each kind of contents: it reads exactly the encodings of its values (`IsContents`).
 use Rattle.std.proofs.Common.{◌≡◌, ℕ, ◌<◌, ◌≤◌, Bool, true, false, cond, ◌&&◌, eqb, leb, ltb, List, [], ◌∷◌, length, Some, None}
 use Rattle.std.proofs.Common.{Result, Ok, Err, refl, sym, ap, subst, ◌∙◌, inl, inr, arith, Option}
 use Rattle.std.specs.Prelude.{is_ok, find, ◌⊎◌}
@@ -37,7 +37,7 @@ IsAnyResult v = Unit {0}
 abbrev pub IsYesOrNo : Bool → Type 0
 IsYesOrNo v = Unit {0}
 
--- If `cond b (Some a) o` is `Some x`, then `a` is `x` for a true `b`, or `o` is `Some x`.
+-- If `cond b (Some a) o` is `Some x`, then `b` is true and `a` is `x`, or `o` is `Some x`.
 found_first : {A : Type 0} (b : Bool) (a : A) (o : Option A) (x : A) → cond b (Some a) o ≡ Some x
     → ((b ≡ true) × (a ≡ x)) ⊎ (o ≡ Some x)
 found_first true a o x e = inl (refl, same_Some a x e)
@@ -54,6 +54,7 @@ two_octets : (n : ℕ) → 128 ≤ n → number_octets n ≡ 0 ∷ n ∷ []
 two_octets n le = rw (le-ltb n 128 le) refl
 
 -- If `number_from` reads `v` from `bytes`, they are the encoding of `v`, which is 1 to 255.
+-- One octet is a number below 128, and two are 0 and a number from 128 on. No other octets are read.
 number_takes : (bytes : List ℕ) (v : ℕ) → IsBytes bytes → number_from bytes ≡ Some v → (bytes ≡ number_octets v) × IsNumber v
 number_takes [] v fits e = absurd cc
 number_takes (n ∷ []) v fits e =

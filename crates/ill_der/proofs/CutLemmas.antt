@@ -1,4 +1,4 @@
--- Bytes that are cut into pieces in two ways.
+-- If bytes are cut into pieces in two ways, the pushes of both give equal APDUs and equal feeds (`any_cut`).
 use Rattle.std.proofs.Common.{◌≡◌, ℕ, ◌≤◌, List, [], ◌∷◌, ◌++◌, length, Ok, Err, refl, sym, ap, subst, ◌∙◌, arith, append_assoc}
 use Rattle.std.specs.List.{flat_map, concat}
 use Rattle.std.proofs.lemmas.List.{append-nil}
@@ -15,6 +15,7 @@ use Rattle.ill_der.proofs.FeedLemmas.{AgainLaw, ShortLaw, begins_join, begins_mo
 -- ---- pieces one after another
 
 -- If `prefix` and then `piece` are pushed, one push of `prefix ++ piece` gives all their APDUs and the second feed.
+-- The cases are: both pushes find an open feed, the first push closes it, and it was closed before.
 pub two_pushes : (old middle new : FeedState) (prefix piece : List ℕ) (first more : List Apdu) → Feeds old prefix first middle
     → Feeds middle piece more new → Feeds old (prefix ++ piece) (first ++ more) new
 two_pushes (Ok held) (Ok between) new prefix piece first more a b =
@@ -101,6 +102,7 @@ same_left rest (Err fault) (Ok other) a b =
 same_left rest (Err one) (Err other) a b = ap Err (fault_is one other (sym a.0 ∙ b.0))
 
 -- If `bytes` is divided into APDUs and a rest in two ways, the APDUs are equal, and the rests leave equal feeds.
+-- By `first_again` the first APDUs are equal. By `no_first` it is absurd that only one way has a first APDU.
 one_cut : AgainLaw → (first second : List Apdu) (bytes rest after : List ℕ) (a b : FeedState) → Begins bytes first rest
     → Leaves rest a → Begins bytes second after → Leaves after b
     → (first ≡ second) × (a ≡ b)

@@ -31,7 +31,8 @@ record TakesContents (bytes inside rest : List ℕ) : Type 0 where
   inside-is : take n (drop octets bytes) ≡ inside
   rest-is : drop (octets + n) bytes ≡ rest
 
--- If `contents_by` gives `inside` and `rest`, `left` is a definite length, its contents `inside`, and `rest`.
+-- Let `form` be the length with which `left` begins. If `contents_by` gives `inside` and `rest`, `left` is a definite
+-- length, its contents `inside`, and `rest`.
 contents_found : (form : LengthForm) (left inside rest : Cursor) → length_of left.bytes ≡ form
     → contents_by form left ≡ Ok (inside, rest) → TakesContents left.bytes inside.bytes rest.bytes
 contents_found Truncated left inside rest f e = absurd cc
@@ -66,6 +67,7 @@ assembled identifier n octets bytes later inside rest first second third size =
     ∙ sym (append_assoc (length_octets n) inside rest) ∙ ap (λ (k : ℕ). (length_octets k ++ inside) ++ rest) (sym size))
 
 -- If `element_at` gives `inside` and `rest`, `left` is the element of `identifier` and `inside`, followed by `rest`.
+-- `later` is the bytes after the identifier: the length octets, and then `inside` and `rest` (`split`).
 pub element_takes : (identifier : ℕ) (left inside rest : Cursor) → IsBytes left.bytes
     → element_at identifier left ≡ Ok (inside, rest) → TakesElement identifier left.bytes inside.bytes rest.bytes
 unfolding element_at

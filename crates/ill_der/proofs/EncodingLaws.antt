@@ -65,6 +65,7 @@ encoded_shorter values apdu is other =
 -- ---- bytes of any kind
 
 -- If `apdu_at bytes` is `read`, `bytes` begins with exactly the APDU of `read`, or with none if `read` is a fault.
+-- By `apdu_takes` an APDU that is read is there. By `apdu_again` an APDU that is there is read, so no other is there.
 begins_with_one : Values → (bytes : List ℕ) (read : Result (Apdu × List ℕ) DerFault) → IsBytes bytes
     → apdu_at bytes ≡ read → BeginsWithOne bytes read
 begins_with_one values bytes (Ok found) fits e =

@@ -257,7 +257,8 @@ whole_piece k held piece prefix parts =
 abbrev pub AgainLaw : Type 0
 AgainLaw = (apdu : Apdu) (rest : List ℕ) → IsApdu apdu → apdu_at (encoding apdu ++ rest) ≡ Ok (apdu, rest)
 
--- If `prefix` begins with an APDU and with the unfinished `held`, the APDU has more bytes than `held`.
+-- If `prefix` begins with an APDU of `size` bytes and with the unfinished `held`, `size` is more than `held` has.
+-- Otherwise `held` would begin with the whole APDU, and so would not be unfinished.
 pub ends_after : AgainLaw → (held more prefix : List ℕ) (size : ℕ) (apdu : Apdu) → IsUnfinished held
     → prefix ≡ held ++ more → size ≤ length prefix
     → Begins prefix (apdu ∷ []) (drop size prefix) → length held < size
@@ -332,6 +333,8 @@ on_after handles held piece later apdu before now after (Err fault) new begins f
     (on.0, fails_later handles (held ++ piece) later before now after apdu fault begins first on.1)
 
 -- If the first APDU of the filled bytes was handled, handling the rest has the outcome of a push of `piece`.
+-- `begun` says that `held ++ piece` begins with this APDU. `on_rest` is `on`, with the slice of `piece` as a `drop`,
+-- and `on_held` is that with the held bytes of `old`.
 pub goes_on_after : {S F : Type 0} (handles : Handles S F) → AgainLaw
     → (old new piece : List ℕ) (size filled end : ℕ) (before now after : S) (was : FeedState)
     (result : Result (Option DerFault) F)

@@ -60,6 +60,7 @@ value_faults (Some x) at d e = absurd (no_value d x e)
 value_faults None at d e = field_inside at d e
 
 -- If `required` reads `v` from `left`, `left` is the encoding of `v` followed by `rest`, and `v` satisfies `P`.
+-- `part` is the element that was read, and `found` the value of its contents.
 required_takes : {V : Type 0} (P : V → Type 0) (most : ℕ) (kind : Contents V) (identifier : ℕ) → IsContents P most kind
     → (left : Cursor) (v : V) (rest : Cursor) → IsBytes left.bytes → (required identifier kind).read left ≡ Ok (v, rest)
     → Takes (required identifier kind) P left.bytes v rest.bytes
@@ -184,6 +185,7 @@ abbrev pub Both : {V W : Type 0} → (V → Type 0) → (W → Type 0) → V × 
 Both P Q v = P v.0 × Q v.1
 
 -- If `followed_by f g` reads `v` from `left`, `left` is the encoding of `v` followed by `rest`, and `v` is in range.
+-- `former` is the value that `f` read, and `latter` the one that `g` read after it.
 followed_takes : {E V W : Type 0} (P : V → Type 0) (Q : W → Type 0) (F G : List ℕ → Type 0) (f : Codec E V) (g : Codec E W)
     → IsCodec P F f → IsCodec Q G g
     → (left : Cursor) (v : V × W) (rest : Cursor) → IsBytes left.bytes → (followed_by f g).read left ≡ Ok (v, rest)
@@ -239,6 +241,7 @@ followed_is P Q F G m n f g fs gs joins = record {
 -- ---- a yes or no, with a further field after a yes
 
 -- If `where_yes` reads `o` from `left`, `left` is the encoding of `o` followed by `rest`. A value in `o` satisfies `P`.
+-- `flag` is the yes or no that was read. The first case is a yes, and `found` is the field after it.
 where_takes : {E V : Type 0} (Q : Bool → Type 0) (P : V → Type 0) (F G : List ℕ → Type 0) (yes_no : Codec E Bool)
     (field : Codec E V)
     → IsCodec Q F yes_no → IsCodec P G field
@@ -339,6 +342,7 @@ where_is Q P G m n yes_no field qs fs each = record {
 -- ---- a constructed field
 
 -- If `constructed` reads `v` from `left`, `left` is the encoding of `v` followed by `rest`, and `v` satisfies `P`.
+-- `part` is the element that was read, `found` the fields in it, and `over` the end after them.
 constructed_takes : {V : Type 0} (P : V → Type 0) (F : List ℕ → Type 0) (m : ℕ) (f : Format V) (identifier : ℕ) → IsFormat P F m f
     → (left : Cursor) (v : V) (rest : Cursor) → IsBytes left.bytes → (constructed identifier f).read left ≡ Ok (v, rest)
     → Takes (constructed identifier f) P left.bytes v rest.bytes

@@ -98,6 +98,7 @@ two_takes (high ∷ low ∷ rest) n octets fits e =
     ]
 
 -- If `length_of bytes` is `Definite n octets`, `bytes` begins with the length octets of `n`.
+-- The first octet is the length itself if it is below 128. After 81 and 82 come one and two octets.
 pub length_takes : (bytes : List ℕ) (n octets : ℕ) → IsBytes bytes → length_of bytes ≡ Definite n octets
     → IsEncodedLength bytes n octets
 unfolding length_of

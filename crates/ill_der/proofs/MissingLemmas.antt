@@ -177,7 +177,8 @@ refused values bytes fault other none h =
       | inr e ↦ absurd (other e.0)
     ]
 
--- If `bytes` lacks no byte and its proper prefixes are unfinished, `read_fault` of the decoder's fault is its answer.
+-- Let `bytes` lack no byte, and let its proper prefixes be unfinished.
+-- If decoding has `fault`, the error `read_fault fault` is the right result for `bytes` (`IsJudged`).
 judged_fault : Values → (bytes : List ℕ) (fault : DerFault) → IsBytes bytes → AreUnfinished bytes → missing_of bytes ≡ 0
     → Decodes bytes (apdu_at bytes) (Err fault)
     → IsJudged bytes (Err (read_fault fault))
@@ -188,7 +189,7 @@ judged_fault values bytes (Length at) fits prefixes none h = refused values byte
 judged_fault values bytes (Field at) fits prefixes none h = refused values bytes (Field at) (λ e. absurd cc) none h
 
 -- Let `bytes` lack no byte, and let its proper prefixes be unfinished.
--- Then a result that is `read_fault` of the decoder's fault is its answer.
+-- If decoding has `fault`, and `r` is the error `read_fault fault`, `r` is the right result for `bytes` (`IsJudged`).
 pub handed_on : Values → (bytes : List ℕ) (fault : DerFault) (r : Result (Option Apdu) ReadFault) → IsBytes bytes
     → AreUnfinished bytes → missing_of bytes ≡ 0
     → Decodes bytes (apdu_at bytes) (Err fault) → IsErrAnd r (λ handed. handed ≡ read_fault fault) → IsJudged bytes r

@@ -49,6 +49,7 @@ abbrev IsHead : Unit {0} × ((List ℕ × List ℕ) × ℕ) → Type 0
 IsHead = Both Always (Both IsId IsNumber)
 
 -- `txn_id` reads exactly the encodings of transaction ids, of at most 135 bytes, whatever follows.
+-- A qualifier of 64 bytes takes 66 with its identifier and length. Two take 132, and these 135 with theirs.
 txn_id_is : Values → IsFormat IsId Any 135 txn_id
 txn_id_is values =
     constructed_is IsId Any 132 (followed_by (required 0x81 qualifier) (required 0x82 qualifier)) 0xA1 (omega arith)
@@ -320,6 +321,7 @@ abbrev IsWhole : ApduType → List ℕ → Apdu → Type 0
 IsWhole apdu_type bytes apdu = (bytes ≡ contents_of apdu) × IsApdu apdu × (type_of apdu.body ≡ apdu_type)
 
 -- If `inside_of` reads `apdu` from `left`, all of `left` is the contents of `apdu`.
+-- `prefix` is the head that was read, and `body` the body that was read after it.
 inside_takes : Values → (apdu_type : ApduType) (left : Cursor) (apdu : Apdu) → IsBytes left.bytes
     → inside_of apdu_type left ≡ Ok apdu → IsWhole apdu_type left.bytes apdu
 unfolding inside_of
@@ -473,6 +475,7 @@ unfolding outer_at header_at
 outer_none = refl
 
 -- If `outer_after` gives `outer`, and `first` is the octet of its type, `first ∷ bytes` begins with its element.
+-- By `small` the length is at most 355, and by `whole` all contents are there. `split` parts them from the bytes after.
 outer_by_takes : (first : ℕ) (apdu_type : ApduType) (form : LengthForm) (bytes : List ℕ) (outer : Outer) → IsBytes bytes
     → first ≡ identifier_of apdu_type → length_of bytes ≡ form → outer_after apdu_type form bytes ≡ Ok outer
     → IsOuter (first ∷ bytes) outer
@@ -600,6 +603,7 @@ abbrev IsAtPrefix : List ℕ → Apdu → List ℕ → Type 0
 IsAtPrefix bytes apdu rest = IsApdu apdu × (bytes ≡ encoding apdu ++ rest)
 
 -- If `apdu_at` reads `apdu` from `bytes`, `apdu` is in range, and `bytes` is its encoding followed by `rest`.
+-- `outer` is the element that was read, and `inner` the APDU of its contents.
 pub apdu_takes : Values → (bytes : List ℕ) (apdu : Apdu) (rest : List ℕ) → IsBytes bytes
     → apdu_at bytes ≡ Ok (apdu, rest) → IsApdu apdu × (bytes ≡ encoding apdu ++ rest)
 unfolding apdu_at encoding
@@ -692,6 +696,7 @@ IsFinal Invalid = Unit {0}
 IsFinal (Definite n octets) = Unit {0}
 
 -- If a choice is final with Truncated in its cases `one` and `two`, `y` and `z` in these cases change nothing.
+-- In `length_more` these cases are a single octet 81 or 82, after which the length is missing.
 form_of_one : (short one two : Bool) (x y z w : LengthForm)
     → IsFinal (cond short x (cond one Truncated (cond two Truncated w)))
     → cond short x (cond one y (cond two z w)) ≡ cond short x (cond one Truncated (cond two Truncated w))
@@ -701,6 +706,7 @@ form_of_one false false true x y z w final = absurd final
 form_of_one false false false x y z w final = refl
 
 -- If a choice is final with Truncated in its case `two`, `z` in this case changes nothing.
+-- In `length_more` this case is an octet 82, after which one of two octets is missing.
 form_of_two : (short one two : Bool) (x y z w : LengthForm) → IsFinal (cond short x (cond one y (cond two Truncated w)))
     → cond short x (cond one y (cond two z w)) ≡ cond short x (cond one y (cond two Truncated w))
 form_of_two true one two x y z w final = refl

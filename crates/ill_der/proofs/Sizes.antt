@@ -1,4 +1,4 @@
--- The sizes of elements in bytes.
+-- The sizes of elements and of fields in bytes, for the contracts of `sizing.rt`.
 use Rattle.std.proofs.Common.{◌≡◌, ℕ, ◌+◌, Bool, cond, List, [], ◌∷◌, ◌++◌, length, Option, is_some, refl, sym, ap, ◌∙◌, arith}
 use Rattle.std.proofs.lemmas.List.{length-append}
 use Rattle.ill_values.specs.Day.{Date, date_text}

@@ -30,6 +30,7 @@ decodes_err bytes (Ok x) fault h = inr (h, (x, refl))
 decodes_err bytes (Err f) fault h = inl (let e : f ≡ fault = cc in ap Err e)
 
 -- If the proper prefixes of `bytes` are unfinished, and `apdu_at` reads `apdu`, all of `bytes` is its encoding.
+-- If bytes came after the encoding, it would be a proper prefix of `bytes`, and it is not unfinished.
 exact : Values → (bytes rest : List ℕ) (apdu : Apdu) → IsBytes bytes → AreUnfinished bytes
     → apdu_at bytes ≡ Ok (apdu, rest) → IsApdu apdu × (bytes ≡ encoding apdu)
 exact values bytes [] apdu fits prefixes e =

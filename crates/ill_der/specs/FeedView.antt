@@ -53,6 +53,7 @@ HandlesAll handles bytes before (Ok (at, fault)) after =
 HandlesAll handles bytes before (Err fault) after = FailsIn handles bytes before fault after
 
 -- `bytes`, the rest of a piece after the APDU that the held bytes began, were handled as by an empty feed.
+-- If handling failed, the feed is `old`, as before the handling of the rest.
 abbrev pub HandlesRest : {S F : Type 0} → Handles S F → FeedState × S → List ℕ → Result (Option DerFault) F →
     FeedState × S → Type 0
 HandlesRest handles (old, before) bytes (Ok fault) (new, after) =

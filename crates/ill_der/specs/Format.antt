@@ -41,7 +41,8 @@ length_of (first ∷ rest) =
     else (if first == 0x81 then one_octet_length rest
     else (if first == 0x82 then two_octet_length rest else Invalid))
 
--- A truncated length ends after at most two `bytes`, and a definite length has at most three octets.
+-- If the length with which `bytes` bytes begin is truncated, they are at most two.
+-- If it is definite, it has at most three octets.
 abbrev pub IsFew : LengthForm → ℕ → Type 0
 IsFew Truncated bytes = bytes ≤ 2
 IsFew Invalid bytes = Unit {0}

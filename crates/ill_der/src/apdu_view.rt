@@ -19,6 +19,7 @@ pub struct ApduView<'a> {
     pub(crate) body: BodyView<'a>,
 }
 
+/// In proofs a view is the APDU that it shows. Its qualifiers and its item have been checked.
 impl<'a> Model for ApduView<'a> {
     ghost Value = { Apdu };
 

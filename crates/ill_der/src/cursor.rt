@@ -18,6 +18,7 @@ pub struct Cursor<'a> {
     bytes: &'a [u8],
 }
 
+/// In proofs a cursor is its offset and its bytes. They end within the 359 bytes of the longest APDU.
 impl<'a> Model for Cursor<'a> {
     ghost Value = { model.Cursor };
 
@@ -26,6 +27,8 @@ impl<'a> Model for Cursor<'a> {
     ghost invariant = { λ c. c.at + length c.bytes.now ≤ 359 };
 }
 
+/// Reads fields, one after another. By `Reads` each reader gives the value and the cursor of its description in
+/// `specs/Format.antt`, or its fault.
 impl<'a> Cursor<'a> {
     /// Returns a cursor over `bytes`. The first of them has the offset `at` in the APDU.
     pub fn new(at: u16, bytes: &'a [u8]) -> Cursor<'a>

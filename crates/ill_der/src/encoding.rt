@@ -15,7 +15,8 @@ use crate::tags;
 use ill_values::{AnswerResult, Apdu, ApduType, Body, Day, Number, OutOfMemory, TxnId};
 use std::alloc::Global;
 
-/// Returns the encoding of `apdu`: at most 359 bytes. Allocates once.
+/// Returns the encoding of `apdu`: at most 359 bytes. Allocates once. If it succeeds, the values of `apdu` are in range
+/// (`IsApdu`).
 pub fn encode(alloc: Global, apdu: &Apdu) -> Result<Vec<u8>, OutOfMemory>
     ensures encoded { IfOk result (λ bytes. bytes.items ≡ encoding apdu.now) }
     ensures most { IfOk result (λ bytes. length bytes.items ≤ 359) }
@@ -27,7 +28,7 @@ pub fn encode(alloc: Global, apdu: &Apdu) -> Result<Vec<u8>, OutOfMemory>
 }
 
 /// Appends the encoding of `apdu` to `bytes`. If memory runs out, a proper prefix of the encoding may
-/// have been appended.
+/// have been appended. If it succeeds, the values of `apdu` are in range (`IsApdu`).
 #[tactic(auto, unfolding(crate::specs::ShortForm::encoding, crate::specs::Format::element))]
 pub fn encode_onto(bytes: &mut Vec<u8>, apdu: &Apdu) -> Result<(), OutOfMemory>
     ensures encoded { OnOk result (bytes.new.items ≡ bytes.old.items ++ encoding apdu.now) }
@@ -43,7 +44,8 @@ pub fn encode_onto(bytes: &mut Vec<u8>, apdu: &Apdu) -> Result<(), OutOfMemory>
     push_body(bytes, &apdu.body)
 }
 
-/// Appends the fields that each APDU has.
+/// Appends the fields that each APDU has. If memory runs out here or in a function below, a proper prefix of its bytes
+/// was appended (`prefix`). If it succeeds, the values are in range (`range`).
 fn push_head(bytes: &mut Vec<u8>, apdu: &Apdu) -> Result<(), OutOfMemory>
     ensures bytes { OnOk result (bytes.new.items ≡ bytes.old.items ++ head_of apdu.now) }
     ensures prefix { OnErr result (AddsPrefix bytes.old.items bytes.new.items (head_of apdu.now)) }

@@ -22,12 +22,17 @@ use std::marker::Model;
 /// fault of the bytes closes it.
 #[derive(Debug, Drop)]
 pub struct Feed {
+    /// Gives memory for the APDUs of a push.
     alloc: Global,
+    /// Its first `size` bytes are held.
     buffer: [u8; APDU_LIMIT],
+    /// The number of held bytes, at most 358.
     size: usize,
+    /// The fault that closed the feed, if it is closed.
     closed: Option<DerFault>,
 }
 
+/// In proofs a feed is its held bytes, the first `size` of `buffer`, or the fault that closed it.
 impl Model for Feed {
     ghost Value = { FeedState };
 

@@ -56,7 +56,8 @@ pub fn read_apdu_counted<R: Read, L: Ledger>(
     read_counted(alloc, reader, steps)
 }
 
-/// Reads one APDU from a reader whose reads are all counted: at most 360.
+/// Reads one APDU from a reader whose reads are all counted: at most 360. Each read but the last gives at least one
+/// byte, and 359 bytes never lack one. So the loop always returns.
 fn read_counted<R: CountedRead, L: Ledger>(
     alloc: Global,
     reader: &mut R,
@@ -94,7 +95,7 @@ fn missing(bytes: &[u8]) -> usize
     }
 }
 
-/// Returns the APDU of `bytes`, or their fault. `bytes` must lack no byte.
+/// Returns the APDU of `bytes`, or their fault. `bytes` must lack no byte, and its proper prefixes must be unfinished.
 fn judge(alloc: Global, bytes: &[u8]) -> Result<Option<Apdu>, ReadFault>
     requires unfinished { AreUnfinished bytes.now }
     requires enough { missing_of bytes.now ≡ 0 }

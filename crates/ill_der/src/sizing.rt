@@ -19,7 +19,8 @@ pub fn size(apdu: &Apdu) -> usize
     element_size(contents_size(apdu))
 }
 
-/// Returns the number of bytes of an element with `contents` contents octets.
+/// Returns the number of bytes of an element with `contents` contents octets. It is at most 2 more below 128, at most 3
+/// more below 256, and at most 4 more for all.
 fn element_size(contents: usize) -> usize
     requires { contents < 65536 }
     ensures value { result ≡ 1 + length (length_octets contents) + contents }
@@ -30,7 +31,8 @@ fn element_size(contents: usize) -> usize
     1 + length_size(contents) + contents
 }
 
-/// Returns the number of length octets of `contents` contents octets (X.690 8.1.3, 10.1).
+/// Returns the number of length octets of `contents` contents octets (X.690 8.1.3, 10.1). It is 1 below 128, 2 below 256,
+/// and else 3.
 #[tactic(auto, unfolding(crate::specs::Format::length_octets))]
 fn length_size(contents: usize) -> usize
     ensures value { result ≡ length (length_octets contents) }
@@ -82,7 +84,7 @@ pub fn qualifiers_size(id: &TxnId) -> usize
     element_size(id.group().len()) + element_size(id.transaction().len())
 }
 
-/// Returns the number of bytes of the element of a number.
+/// Returns the number of bytes of the element of a number. It is the same for each identifier, so the clause has 0.
 #[tactic(auto, unfolding(crate::specs::Format::element, crate::specs::Format::length_octets))]
 fn number_size(number: Number) -> usize
     ensures value { result ≡ length (element 0 (number_octets number)) }

@@ -12,6 +12,7 @@ pub struct Steps<L: Ledger> {
     share: Share<L>,
 }
 
+/// In proofs the count is the total of `book`.
 impl<L: Ledger> Model for Steps<L> {
     ghost Value = { ℕ };
 

@@ -6,6 +6,7 @@ use Rattle.ill_der.specs.FeedView.{HandlesFirst}
 use Rattle.ill_der.proofs.FeedLemmas.{one_more_handled, fails_after}
 use Rattle.ill_der.proofs.handling.handle_all.Goals as goal
 
+-- If the next APDU was handled and has `size` bytes, the APDUs before `at + size` were handled.
 pub loop-size-preserved : goal.loop-size-preserved
 loop-size-preserved g c =
     let handles = g.H.Handler.handles in
@@ -21,6 +22,7 @@ loop-size-preserved g c =
     c.loop-size.invariant.within c.loop-size.invariant.so_far first in
     record { within = more.0; so_far = more.1 }
 
+-- If handling the next APDU failed, handling `bytes` failed.
 pub returns-in-Err : goal.returns-in-Err
 returns-in-Err g c =
     fails_after g.H.Handler.handles c.args.bytes.now c.loop-size.at (c.args.handler.now, c.args.context.now)

@@ -1,3 +1,4 @@
+-- The loop of `handling::handle_all` keeps this invariant.
 use Rattle.std.proofs.Common.{List, ◌-◌, ◌≤◌, length, drop}
 use Rattle.ill_values.specs.declared.apdu.Apdu.{Apdu}
 use Rattle.ill_der.specs.Feed.{Begins}

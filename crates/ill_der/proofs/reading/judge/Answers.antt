@@ -6,6 +6,7 @@ use Rattle.ill_der.proofs.StreamLemmas.{encoded_exactly}
 use Rattle.ill_der.proofs.MissingLemmas.{handed_on}
 use Rattle.ill_der.proofs.reading.judge.Goals as goal
 
+-- If decoding gives an APDU, all of `bytes` is its encoding.
 pub returns : goal.returns
 returns c =
     let values : Values = record {
@@ -17,6 +18,7 @@ returns c =
     encoded_exactly values c.args.bytes.now (c.in_ok-apdu.apdu, c.in_ok-apdu.field-0-1) (λ i. omega (arith, c.type_inv.bytes i))
     c.requires.unfinished c.in_ok-apdu.ensures.read
 
+-- If decoding has a fault, the result is `read_fault` of it, which is right for `bytes`.
 pub returns-in_err-apdu : goal.returns-in_err-apdu
 returns-in_err-apdu c =
     let values : Values = record {

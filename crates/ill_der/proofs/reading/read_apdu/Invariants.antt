@@ -1,3 +1,4 @@
+-- The ledger that `reading::read_apdu` gives to `read_uncounted`. It exists in proofs alone.
 use Rattle.ill_der.proofs.reading.read_apdu.Given as goal
 
 -- The ledger has the name and the parts of the blank.

@@ -10,12 +10,14 @@ use Rattle.ill_der.proofs.StreamLemmas.{consumes_nothing}
 use Rattle.ill_der.proofs.MissingLemmas.{unfinished_alone, most_missing, read_on, filled, filled_length}
 use Rattle.ill_der.proofs.reading.read_counted.Goals as goal
 
+-- The bytes that were read and the missing ones are at most 359, so their sum does not overflow.
 pub overflow_add-size : goal.overflow_add-size
 overflow_add-size g c =
     let prefix = take c.loop.size c.loop.bytes in
     let most = most_missing prefix (omega (arith, c.missing-missing.ensures, c.if-missing-eq0.false)) in
     omega (arith, most, c.missing-missing.ensures, c.loop.invariant.size)
 
+-- The slice for the next read ends within the buffer of 359 bytes.
 pub slice_bounds-bytes-end-in-loop : goal.slice_bounds-bytes-end-in-loop
 slice_bounds-bytes-end-in-loop g c =
     let prefix = take c.loop.size c.loop.bytes in
@@ -26,6 +28,7 @@ slice_bounds-bytes-end-in-loop g c =
     omega (arith, most, long, c.missing-missing.ensures, is.room) in
     omega arith
 
+-- If the input ends after some bytes, these have the fault Short.
 pub returns-in-Ok-eq0-2-clause-read : goal.returns-in-Ok-eq0-2-clause-read
 returns-in-Ok-eq0-2-clause-read g c =
     let remaining = g.R.CountedRead.remaining in
@@ -45,12 +48,14 @@ returns-in-Ok-eq0-2-clause-read g c =
       ),
     )
 
+-- If a read fails, the bytes that were read before are unfinished.
 pub returns-in-Err-clause-read : goal.returns-in-Err-clause-read
 returns-in-Err-clause-read g c =
     let prefix = take c.loop.size c.loop.bytes in
     let alone = unfinished_alone prefix (omega (arith, c.missing-missing.ensures, c.if-missing-eq0.false)) in
     (prefix, Consumes-kept _ _ _ prefix c.loop.invariant.read c.in-Err.ensures.bytes, alone)
 
+-- A read of `count` bytes, at least one and at most the missing ones, keeps the invariant. They are `more`.
 pub loop-preserved : goal.loop-preserved
 loop-preserved g c =
     let remaining = g.R.CountedRead.remaining in

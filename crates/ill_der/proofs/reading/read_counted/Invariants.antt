@@ -1,3 +1,4 @@
+-- The loop of `reading::read_counted` keeps this invariant.
 use Rattle.std.proofs.Common.{◌≡◌, ◌+◌, ◌≤◌, length, take}
 use Rattle.std.specs.Io.KnownBytes.{Consumes}
 use Rattle.ill_der.specs.Stream.{AreUnfinished}

@@ -1,3 +1,4 @@
+-- The ledger that `writing::write_apdu` gives to `write_uncounted`. It exists in proofs alone.
 use Rattle.ill_der.proofs.writing.write_apdu.Given as goal
 
 -- The ledger has the name and the parts of the blank.

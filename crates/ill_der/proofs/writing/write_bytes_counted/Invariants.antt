@@ -1,3 +1,4 @@
+-- The loop of `writing::write_bytes_counted` keeps this invariant.
 use Rattle.std.proofs.Common.{◌≡◌, ◌+◌, ◌≤◌, length, take}
 use Rattle.std.specs.Io.KnownBytes.{Appends}
 use Rattle.ill_der.proofs.writing.write_bytes_counted.Given as goal

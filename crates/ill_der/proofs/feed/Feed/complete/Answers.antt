@@ -10,6 +10,7 @@ use Rattle.ill_der.proofs.FeedLemmas.{closing_some, is_open, holds_prefix, holds
 use Rattle.ill_der.proofs.FeedLemmas.{goes_on_alone, all_left, fault_of_all, fails_first, still_held}
 use Rattle.ill_der.proofs.feed.Feed.complete.Goals as goal
 
+-- If nothing is held, handling the piece alone is the push.
 pub returns-then-self-eq0 : goal.returns-then-self-eq0
 returns-then-self-eq0 g c =
     let held = take c.self.inside.size c.self.inside.buffer in
@@ -18,6 +19,7 @@ returns-then-self-eq0 g c =
     goes_on_alone g.H.Handler.handles held c.args.piece.now _ _ c.args.self.now c.hand_on.result c.hand_on.new.self opened none
     c.hand_on.ensures
 
+-- The first APDU contains all held bytes, so `end` is at least `size`.
 pub overflow_sub-after : goal.overflow_sub-after
 overflow_sub-after g c =
     let handles = g.H.Handler.handles in
@@ -33,10 +35,12 @@ overflow_sub-after g c =
     c.fill-filled.ensures c.self.invariant first in
     there.0
 
+-- After the fill the buffer still holds its first `size` bytes.
 pub invariant_of-self : goal.invariant_of-self
 invariant_of-self g c = holds_still c.self.inside.buffer c.fill-filled.new.buffer c.args.piece.now c.self.inside.size
     c.fill-filled.result c.fill-filled.ensures c.self.invariant
 
+-- If the filled bytes have the fault Short, they are unfinished, so the buffer holds all of them.
 pub invariant_of-self-in-None : goal.invariant_of-self-in-None
 invariant_of-self-in-None g c =
     let old = c.self.inside.buffer in
@@ -51,15 +55,18 @@ invariant_of-self-in-None g c =
     c.fill-filled.ensures c.in-None.ensures first.0 in
     is.0
 
+-- If another fault closes the feed, the buffer still holds its first `size` bytes.
 pub invariant_of-self-in-Some : goal.invariant_of-self-in-Some
 invariant_of-self-in-Some g c =
     holds_still c.self.inside.buffer c.fill-filled.new.buffer c.args.piece.now c.self.inside.size c.fill-filled.result
     c.fill-filled.ensures c.self.invariant
 
+-- If handling failed, the buffer still holds its first `size` bytes.
 pub invariant_of-self-in-Err : goal.invariant_of-self-in-Err
 invariant_of-self-in-Err g c = holds_still c.self.inside.buffer c.fill-filled.new.buffer c.args.piece.now c.self.inside.size
     c.fill-filled.result c.fill-filled.ensures c.self.invariant
 
+-- If the first APDU was handled (`first`), handling the rest of the piece (`on`) completes the push.
 pub returns-in-Ok-Ok : goal.returns-in-Ok-Ok
 returns-in-Ok-Ok g c =
     let handles = g.H.Handler.handles in
@@ -84,6 +91,7 @@ returns-in-Ok-Ok g c =
     goes_on_after handles c.read_again.ensures old new c.args.piece.now size filled c.in-Ok-Ok.end _ _ _ c.args.self.now
     c.hand_on-in-Ok-Ok.result c.hand_on-in-Ok-Ok.new.self c.fill-filled.ensures c.self.invariant was first on
 
+-- If the filled bytes have the fault Short, the push handles no APDU, and the feed holds all bytes.
 pub returns-in-None : goal.returns-in-None
 returns-in-None g c =
     let old = c.self.inside.buffer in
@@ -106,6 +114,7 @@ returns-in-None g c =
     (sym opened) (all_left g.H.Handler.handles (take size old) c.args.piece.now _ _ c.args.self.now (Ok (take filled new)) was
     (is.1, is.2) first.1)
 
+-- If the filled bytes have another fault, the push handles no APDU, and this fault closes the feed.
 pub returns-in-Some : goal.returns-in-Some
 returns-in-Some g c =
     let old = c.self.inside.buffer in
@@ -125,6 +134,7 @@ returns-in-Some g c =
     (subst (λ (f : DerFault). IfShort f ⊥) closes.0 closes.1) at_fault in
     all_left g.H.Handler.handles (take size old) c.args.piece.now _ _ c.args.self.now (Err c.in-Some.fault) was leaves first.1
 
+-- If handling failed, the feed is unchanged, and handling failed at the first APDU.
 pub returns-in-Err : goal.returns-in-Err
 returns-in-Err g c =
     let old = c.self.inside.buffer in

@@ -7,6 +7,7 @@ use Rattle.ill_der.specs.FeedView.{held_of}
 use Rattle.ill_der.proofs.FeedLemmas.{is_open, rest_held}
 use Rattle.ill_der.proofs.feed.Feed.leave.Goals as goal
 
+-- If `fault` is Short, the buffer holds `rest` after the fill, and `rest` is unfinished.
 pub invariant_of-self : goal.invariant_of-self
 invariant_of-self c =
     let is =
@@ -15,6 +16,7 @@ invariant_of-self c =
     c.in-None.ensures c.requires.fault in
     is.0
 
+-- If `fault` is Short, the feed stays open and holds exactly `rest`.
 pub returns-in-None-clause-leaves : goal.returns-in-None-clause-leaves
 returns-in-None-clause-leaves c =
     let old = c.self.inside.buffer in

@@ -8,6 +8,7 @@ use Rattle.ill_der.specs.FeedView.{CollectsApdu}
 use Rattle.ill_der.proofs.FeedLemmas.{all_kept, fails_at_apdu}
 use Rattle.ill_der.proofs.feed.Feed.push.Goals as goal
 
+-- The list of the collector was empty, so it is now the list of the APDUs of the push (`all`).
 pub returns-in-Ok : goal.returns-in-Ok
 returns-in-Ok c =
     let is = c.in-Ok.ensures in
@@ -19,6 +20,7 @@ returns-in-Ok c =
     let all : c.each.new.handler.apdus.items ≡ handled.0 = kept ∙ ap (λ (x : List Apdu). x ++ handled.0) c.new.ensures.items in
     (subst (λ (x : List Apdu). Feeds c.args.self.now c.args.piece.now x c.each.new.self) (sym all) handled.1, is.0)
 
+-- If memory ran out, the feed is unchanged, and its held bytes with the piece begin with an APDU.
 pub returns-in-Err : goal.returns-in-Err
 returns-in-Err c = (
   c.in-Err.ensures.0,

@@ -31,8 +31,8 @@ fn element_size(contents: usize) -> usize
     1 + length_size(contents) + contents
 }
 
-/// Returns the number of length octets of `contents` contents octets (X.690 8.1.3, 10.1). It is 1 below 128, 2 below 256,
-/// and else 3.
+/// Returns the number of length octets of `contents` contents octets (X.690 8.1.3, 10.1). It is 1 below 128, 2 below
+/// 256, and else 3.
 #[tactic(auto, unfolding(crate::specs::Format::length_octets))]
 fn length_size(contents: usize) -> usize
     ensures value { result ≡ length (length_octets contents) }

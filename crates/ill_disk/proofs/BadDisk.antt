@@ -10,7 +10,8 @@ use Rattle.ill_disk.proofs.Names.{found_moved, gone_moved}
 use Rattle.ill_disk.proofs.Crashes.{in_first, in_second, in_mapped, left_length}
 use Rattle.ill_disk.proofs.Memory.{value_or}
 
--- A crash leaves the bytes of a flushed file.
+-- Let a crash leave the files `after` of `files`. If the file at place `k` was `f`, and flushed, and is now `g`,
+-- both have equal bytes.
 same_bytes : (files after : List File) (k : ℕ) (f g : File) → AreLeft files after → slice_get files k ≡ Some f →
     slice_get after k ≡ Some g → f.is_flushed ≡ true → g.bytes ≡ f.bytes
 same_bytes [] after k f g left was is flushed = absurd (none-some f was)
@@ -24,7 +25,7 @@ same_bytes (e ∷ files) (h ∷ after) zero f g left was is flushed =
 same_bytes (e ∷ files) (h ∷ after) (suc k) f g left was is flushed =
     same_bytes files after k f g left.1 was is flushed
 
--- A crash leaves each file flushed.
+-- If a crash leaves the files `after` of `files`, the file `g` at each place `k` of `after` is flushed.
 all_flushed : (files after : List File) (k : ℕ) (g : File) → AreLeft files after → slice_get after k ≡ Some g →
     g.is_flushed ≡ true
 all_flushed files [] k g left is = absurd (none-some g is)
@@ -33,7 +34,7 @@ all_flushed (e ∷ files) (h ∷ after) zero g left is =
     sym (ap (λ (x : File). x.is_flushed) (ap (value_or h) is)) ∙ left.0.flushed
 all_flushed (e ∷ files) (h ∷ after) (suc k) g left is = all_flushed files after k g left.1 is
 
--- No crash is bad.
+-- If a crash of `before` may leave `after` (`Crash`), no case of `IsBadCrash` holds for them.
 pub none_bad : (before after : Disk) → Crash before after → IsBadCrash before after → ⊥
 none_bad before after crash (other_names missing) = missing crash.names
 none_bad before after crash (other_bytes k f g was is flushed differ) =
@@ -44,7 +45,7 @@ none_bad before after crash (not_flushed k g is unflushed) =
     true≢false (sym (all_flushed before.files after.files k g crash.files is) ∙ unflushed)
 none_bad before after crash (other_count differ) = differ (left_length before.files after.files crash.files)
 
--- No rename is half done.
+-- If `from` and `to` differ, the names after a rename of `file` from one to the other are not half renamed.
 pub none_half : (from to : List ℕ) (file : ℕ) (names : List Name) → (from ≡ to → ⊥) →
     IsHalfRenamed from to file (with_rename from to (Some file) names) → ⊥
 none_half from to file names differ (still_there other found) =
@@ -54,7 +55,7 @@ none_half from to file names differ (not_there gone) =
 none_half from to file names differ (other_file other found is_other) =
     is_other (ap (value_or other) (sym found ∙ found_moved from to file names (Some file) refl))
 
--- No change of names loses what may stand.
+-- After a change of names (`after_change`) each list that might stand may stand, without the change and with it.
 pub none_lost : (change : List Name → List Name) (d : Disk) → LosesNames change d (after_change change d) → ⊥
 none_lost change d (without_change names stands missing) =
     missing (in_first d.may_stand (map change d.may_stand) names stands)

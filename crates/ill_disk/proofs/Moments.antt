@@ -16,19 +16,19 @@ use Rattle.ill_disk.proofs.Memory.{value_or}
 
 -- ---- lists
 
--- A list followed by none is this list.
+-- `xs` is `xs` followed by the empty list.
 followed_by_none : {X : Type 0} (xs : List X) → xs ≡ xs ++ []
 followed_by_none [] = refl
 followed_by_none {X = X} (x ∷ xs) = ap (λ (l : List X). x ∷ l) (followed_by_none xs)
 
--- Lists are put together from either end.
+-- Appending of lists is associative.
 together : {X : Type 0} (xs ys zs : List X) → (xs ++ ys) ++ zs ≡ xs ++ (ys ++ zs)
 together [] ys zs = refl
 together {X = X} (x ∷ xs) ys zs = ap (λ (l : List X). x ∷ l) (together xs ys zs)
 
 -- ---- moments
 
--- No disk has passed before the first call.
+-- If the disk of the state `old` has P, each disk from `old` to `old` has P, since no other has passed.
 pub begins : {P : Disk → Type 0} {old : DiskState} → P old.now → Throughout P old old
 begins {old = old} has = record {
   during = [];
@@ -36,17 +36,18 @@ begins {old = old} has = record {
   each = λ d none. absurd none;
   last = has;
 } where
+  -- The past is itself followed by no disks.
   no_more : (past : Option (List Disk)) → past ≡ followed_by past []
   no_more None = refl
   no_more (Some disks) = ap (λ (l : List Disk). Some l) (followed_by_none disks)
 
--- Disks that are added twice are added at once.
+-- The past followed by `first` and then by `second` is the past followed by `first ++ second`.
 twice : (past : Option (List Disk)) (first second : List Disk) →
     followed_by (followed_by past first) second ≡ followed_by past (first ++ second)
 twice None first second = refl
 twice (Some disks) first second = ap (λ (l : List Disk). Some l) (together disks first second)
 
--- What holds up to a state and from it on holds throughout.
+-- If each disk from `old` to `now` has P, and each from `now` to `new`, each disk from `old` to `new` has P.
 pub joins : {P : Disk → Type 0} {old now new : DiskState} → Throughout P old now → Throughout P now new → Throughout P old new
 joins {P = P} {old = old} {now = now} {new = new} first second = record {
   during = first.during ++ second.during;
@@ -56,7 +57,7 @@ joins {P = P} {old = old} {now = now} {new = new} first second = record {
   last = second.last;
 }
 
--- What follows from a property holds throughout if the property does.
+-- If each disk with P has Q, and each disk from `old` to `new` has P, each of these has Q.
 pub holds_too : {P Q : Disk → Type 0} {old new : DiskState} → ((d : Disk) → P d → Q d) → Throughout P old new →
     Throughout Q old new
 holds_too {P = P} {Q = Q} {old = old} {new = new} gives held = record {
@@ -66,7 +67,9 @@ holds_too {P = P} {Q = Q} {old = old} {new = new} gives held = record {
   last = gives new.now held.last;
 }
 
--- A call goes on from disks that have P to one that has it.
+-- Let each disk from `old` to `now` have P, and let a call lead from `now` to `new` (`Passes`).
+-- If the disk of `new` has P, each disk from `old` to `new` has P.
+-- The cases are: the call adds the disk of `now` to the past, and it changes nothing.
 pub goes_on : {P : Disk → Type 0} {old now new : DiskState} → Throughout P old now → Passes now new → P new.now →
     Throughout P old new
 goes_on {P = P} {old = old} {now = now} {new = new} so_far (inl grown) has = record {
@@ -89,12 +92,12 @@ abbrev without_first : {X : Type 0} → List X → List X
 without_first [] = []
 without_first (x ∷ xs) = xs
 
--- Two lists after a common one are equal if the whole lists are.
+-- If `xs ++ ys` is `xs ++ zs`, `ys` is `zs`.
 rest_is : {X : Type 0} (xs ys zs : List X) → xs ++ ys ≡ xs ++ zs → ys ≡ zs
 rest_is [] ys zs is = is
 rest_is (x ∷ xs) ys zs is = rest_is xs ys zs (ap without_first is)
 
--- Each moment has P, if P holds throughout.
+-- If each disk from `old` to `new` has P, and `d` is a disk of a moment between them, `d` has P.
 pub each_moment : (P : Disk → Type 0) (old new : DiskState) (d : Disk) → Throughout P old new → IsMoment old new d → P d
 each_moment P old new d held (at_the_end is) = subst P (sym is) held.last
 each_moment P old new d held (meanwhile before during was is passed) =
@@ -103,19 +106,19 @@ each_moment P old new d held (meanwhile before during was is passed) =
 
 -- ---- answers
 
--- A change that is neither done nor left out is no answer.
+-- If `new` is neither `old` nor `change old`, no answer of a call that makes `change` leads to it (`Changes`).
 neither : {E : Type 0} (change : Disk → Disk) (old new : Disk) (answer : Result (Unit {0}) E) → Changes change old answer new →
     (new ≡ old → ⊥) → (new ≡ change old → ⊥) → ⊥
 neither change old new (Ok done) is not_old not_new = not_new is
 neither change old new (Err fault) is not_old not_new = ⊎_elim not_old not_new is
 
--- A call that is done has made its change.
+-- If the answer of a call that makes `change` is a success, `new` is `change old`.
 done_is : {E : Type 0} (change : Disk → Disk) (old new : Disk) (done : Unit {0}) (answer : Result (Unit {0}) E) →
     answer ≡ Ok done → Changes change old answer new → new ≡ change old
 done_is {E = E} change old new done answer is changes =
     subst (λ (r : Result (Unit {0}) E). Changes change old r new) is changes
 
--- No answer is bad.
+-- If `Answers` holds for a call that makes `change`, no case of `IsBadAnswer` holds for it.
 pub no_bad_answer : {E : Type 0} (change : Disk → Disk) (old : DiskState) (answer : Result (Unit {0}) E) (new : DiskState) →
     Answers (Changes change) old answer new → IsBadAnswer change old answer new → ⊥
 no_bad_answer change old answer new given (not_changed done h is differ) =
@@ -128,7 +131,7 @@ no_bad_answer change old answer new given (past_lost before h was differ lost) =
     (λ same. differ same.1) (given.past h)
 no_bad_answer change old answer new given (turned differ) = differ given.honest
 
--- No read is bad.
+-- If `Answers` holds for a read of `path`, no case of `IsBadRead` holds for it.
 pub no_bad_read : {X E : Type 0} (bytes_of : X → List ℕ) (path : List ℕ) (old : DiskState) (answer : Result (Option X) E)
     (new : DiskState) → Answers (Reads bytes_of path) old answer new → IsBadRead bytes_of path old answer new → ⊥
 no_bad_read {X = X} {E = E} bytes_of path old answer new given (other_bytes found h is differ) =
@@ -136,7 +139,7 @@ no_bad_read {X = X} {E = E} bytes_of path old answer new given (other_bytes foun
     (given.done h).bytes)
 no_bad_read bytes_of path old answer new given (changed h differ) = differ (given.done h).same
 
--- A call that wants a file gives no false answer.
+-- If `WantsFile` holds for the answer of a call on the file at `path`, no case of `IsBadFinding` holds for it.
 pub no_bad_finding : {A : Type 0} (path : List ℕ) (old : DiskState) (answer : Result A DiskFault) →
     WantsFile path old answer → IsBadFinding path old answer → ⊥
 no_bad_finding {A = A} path old answer wants (done_on_none done h is none) =
@@ -145,7 +148,7 @@ no_bad_finding {A = A} path old answer wants (done_on_none done h is none) =
 no_bad_finding path old answer wants (none_at_a_file file h is stands) =
     none-some file (sym (wants.none h is) ∙ stands)
 
--- A read gives no false answer on the size of a file.
+-- If `IsLargeOnlyIf` holds for the answer of a read with `limit`, no case of `IsBadSize` holds for it.
 pub no_bad_size : {A : Type 0} (limit : ℕ) (path : List ℕ) (old : DiskState) (answer : Result A DiskFault) →
     IsLargeOnlyIf limit path old answer → IsBadSize limit path old answer → ⊥
 no_bad_size limit path old answer large (large_without_file h is none) =
@@ -155,7 +158,8 @@ no_bad_size limit path old answer large (large_within bytes h is found within) =
 
 -- ---- a new file that is written in part
 
--- A crash leaves a new file as if it had other bytes, since it is not flushed.
+-- Let a new file be not flushed. If a crash may leave `after` when the file has the bytes `some`, it may leave `after`
+-- when it has `bytes`.
 torn_left : (files : List File) (some bytes : List ℕ) (after : List File) →
     AreLeft (files ++ record { bytes = some; is_flushed = false } ∷ []) after →
     AreLeft (files ++ record { bytes = bytes; is_flushed = false } ∷ []) after
@@ -165,7 +169,8 @@ torn_left [] some bytes (g ∷ after) left =
 torn_left (e ∷ files) some bytes [] left = absurd left
 torn_left (e ∷ files) some bytes (g ∷ after) left = (left.0, torn_left files some bytes after left.1)
 
--- A crash while a new file is written may be one after it was written.
+-- If a crash may leave `after` when the bytes `some` of a new file are written, it may leave `after` when all `bytes`
+-- are.
 pub torn_is_made : (path some bytes : List ℕ) (d after : Disk) → Crash (after_create path some d) after →
     Crash (after_create path bytes d) after
 torn_is_made path some bytes d after crash = record {
@@ -176,7 +181,7 @@ torn_is_made path some bytes d after crash = record {
 
 -- ---- a disk with its past, when memory runs out
 
--- A change that failed at first has changed nothing.
+-- If a call that makes `change` fails on a whole disk, and `new` is `old`, it answers as it says (`Answers`).
 pub no_change : {E : Type 0} {change : Disk → Disk} {old new : DiskOverTime} {answer : Result (Unit {0}) E} → IsErr answer →
     IsWhole old.disk → new ≡ old → Answers (Changes change) (past_state old) answer (past_state new)
 no_change {answer = Ok done} is whole same = absurd (true≢false (sym is))
@@ -187,7 +192,7 @@ no_change {answer = Err fault} is whole same = record {
   honest = refl;
 }
 
--- If `create_new` fails before its first change, it answers as it says: with the disk as it was.
+-- If `create_new` fails on a whole disk, and `new` is `old`, it answers as it says (`Answers`): there is no new file.
 pub no_file : {E : Type 0} {path bytes : List ℕ} {old new : DiskOverTime} {answer : Result (Unit {0}) E} → IsErr answer →
     IsWhole old.disk → new ≡ old → Answers (Creates path bytes) (past_state old) answer (past_state new)
 no_file {answer = Ok done} is whole same = absurd (true≢false (sym is))
@@ -198,7 +203,7 @@ no_file {answer = Err fault} is whole same = record {
   honest = refl;
 }
 
--- A read that failed at first gives nothing, and has changed nothing.
+-- If a read of `path` fails on a whole disk, and `new` is `old`, it answers as it says (`Answers`).
 pub no_read : {X E : Type 0} {bytes_of : X → List ℕ} {path : List ℕ} {old new : DiskOverTime}
     {answer : Result (Option X) E} → IsErr answer → IsWhole old.disk → new ≡ old →
     Answers (Reads bytes_of path) (past_state old) answer (past_state new)

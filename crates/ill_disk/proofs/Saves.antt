@@ -12,27 +12,33 @@ use Rattle.ill_disk.proofs.Crashes.{in_first, left_length, left_first, left_byte
 use Rattle.ill_disk.proofs.Crashes.{change_left, flush_left, names_left, any_bytes_left}
 use Rattle.ill_disk.proofs.Memory.{value_or}
 
--- A new file changes no bytes that were found before.
+-- Let each of `names` give one of `files`. A new file `f` does not change the bytes of the file `found` at `path`.
 first_found : (files : List File) (f : File) (path : List ℕ) (names : List Name) (found : Option ℕ) →
     found_at path names ≡ found → AreMade (length files) names → bytes_of (files ++ f ∷ []) found ≡ bytes_of files found
 first_found files f path names None is made = refl
 first_found files f path names (Some k) is made = first_bytes files f k (made_found (length files) path names k made is)
 
+-- A save of `bytes` on the whole disk `d`: a new file is made at `aside`, flushed, and renamed to another path, `path`.
+-- Then the names are flushed.
 module _ (aside path bytes : List ℕ) (d : Disk) (whole : IsWhole d) (differ : aside ≡ path → ⊥) where
   -- The new file, before it is flushed.
   abbrev new_file : File
   new_file = record { bytes = bytes; is_flushed = false }
 
+  -- The disk after the new file is made at `aside`.
   abbrev created_disk : Disk
   created_disk = after_create aside bytes d
 
+  -- The disk after the new file is flushed.
   abbrev flushed_disk : Disk
   flushed_disk = after_flush aside created_disk
 
+  -- The disk after the new file is renamed to `path`.
   abbrev replaced_disk : Disk
   replaced_disk = after_rename aside path flushed_disk
 
-  -- If the path gives what it gave in a list that might stand, a crash might have left this content before.
+  -- Let `names` be a list that may stand on `d`, and let a crash leave the files of `after` once the new file is made.
+  -- If `path` gives one file in `names` and `after`, a crash of `d` may leave the content that `after` has at `path`.
   old_content : (after : Disk) (names : List Name) → In d.may_stand names →
       found_at path after.names ≡ found_at path names → AreLeft (d.files ++ new_file ∷ []) after.files →
       Leaves d path (content path after)
@@ -48,7 +54,7 @@ module _ (aside path bytes : List ℕ) (d : Disk) (whole : IsWhole d) (differ : 
             ∙ first_found parts.first parts.last path names (found_at path names) refl made),
       )
 
-  -- A crash after the new file is made leaves an old record.
+  -- If a crash leaves `after` once the new file is made, its content at `path` is one that a crash of `d` may leave.
   pub created_left : (after : Disk) → Crash created_disk after → Leaves d path (content path after)
   created_left after crash = ⊎_elim
       (λ stands. old_content after after.names stands refl crash.files)
@@ -56,15 +62,16 @@ module _ (aside path bytes : List ℕ) (d : Disk) (whole : IsWhole d) (differ : 
       (ap (found_at path) changed.2 ∙ found_with_other path aside (length d.files) changed.0 differ) crash.files)
       (change_left (with_name aside (length d.files)) (record d { files = d.files ++ new_file ∷ [] }) after crash)
 
-  -- The new file is found aside.
+  -- The new file is found at `aside`. It is the last file.
   found_aside : found_at aside flushed_disk.names ≡ Some (length d.files)
   found_aside = found_with aside (length d.files) d.names
 
-  -- The new file is flushed.
+  -- The flush of the file at `aside` is that of the last file.
   is_flushed : flushed_disk.files ≡ flush_found created_disk.files (Some (length d.files))
   is_flushed = ap (flush_found created_disk.files) (found_with aside (length d.files) d.names)
 
-  -- If the path gives the new file, a crash leaves the new record whole.
+  -- If a crash leaves the files of `after` once the new file is flushed, and `path` gives this file in `after`, the
+  -- content at `path` is `bytes`.
   new_content : (after : Disk) → found_at path after.names ≡ Some (length d.files) → AreLeft flushed_disk.files after.files →
       content path after ≡ Some bytes
   new_content after found left =
@@ -73,7 +80,8 @@ module _ (aside path bytes : List ℕ) (d : Disk) (whole : IsWhole d) (differ : 
       (subst (λ (l : List File). AreLeft l after.files) is_flushed left)
       ∙ last_bytes d.files new_file
 
-  -- A crash after the rename leaves an old record or the new one.
+  -- If a crash leaves `after` once the new file is renamed to `path`, its content at `path` is one that a crash of `d`
+  -- may leave, or `bytes`.
   replaced_left : (after : Disk) → Crash replaced_disk after → IsOldOr path d bytes (content path after)
   replaced_left after crash = ⊎_elim
       (λ stands. inl (created_left after (flush_left aside created_disk after
@@ -82,17 +90,19 @@ module _ (aside path bytes : List ℕ) (d : Disk) (whole : IsWhole d) (differ : 
       ∙ found_moved aside path (length d.files) changed.0 (found_at aside flushed_disk.names) found_aside) crash.files))
       (change_left (with_rename aside path (found_at aside flushed_disk.names)) flushed_disk after crash)
 
-  -- A crash after the save leaves the new record.
+  -- If a crash leaves `after` once the names are flushed too, its content at `path` is `bytes`.
   saved_left : (after : Disk) → Crash (after_flush_names replaced_disk) after → content path after ≡ Some bytes
   saved_left after crash = new_content after (ap (found_at path) (names_left replaced_disk after crash)
       ∙ found_moved aside path (length d.files) flushed_disk.names (found_at aside flushed_disk.names) found_aside) crash.files
 
-  -- The content is that of a crash that has P.
+  -- If P holds for the content at `path` of each disk that a crash of `x` may leave, it holds for each content `found`
+  -- that a crash of `x` may leave there.
   from_content : (P : Option (List ℕ) → Type 0) (x : Disk) → ((after : Disk) → Crash x after → P (content path after)) →
       (found : Option (List ℕ)) → Leaves x path found → P found
   from_content P x each found left = subst P left.2 (each left.0 left.1)
 
-  -- A crash at any moment of a save leaves what one before might have left, or the new record whole.
+  -- If a crash of one of the five disks on the way of the save leaves `found` at `path`, a crash of `d` may leave it,
+  -- or it is `bytes`. Each case is one of the five disks, in their order.
   pub save_moments : (x : Disk) → In (on_the_way aside path bytes d) x → (found : Option (List ℕ)) →
       Leaves x path found → IsOldOr path d bytes found
   save_moments x (inl is) found left = inl (subst (λ (y : Disk). Leaves y path found) is left)
@@ -111,11 +121,11 @@ module _ (aside path bytes : List ℕ) (d : Disk) (whole : IsWhole d) (differ : 
       (subst (λ (y : Disk). Leaves y path found) is left)
   save_moments x (inr (inr (inr (inr (inr none))))) found left = absurd none
 
-  -- Each crash after a save leaves the new record.
+  -- If a crash after the save leaves `found` at `path`, it is `bytes`.
   pub save_lasts : (found : Option (List ℕ)) → Leaves (after_save aside path bytes d) path found → found ≡ Some bytes
   save_lasts found left = from_content (λ f. f ≡ Some bytes) (after_flush_names replaced_disk) saved_left found left
 
-  -- A read after a save gives the new record.
+  -- After the save the content at `path` is `bytes`.
   pub save_is_read : content path (after_save aside path bytes d) ≡ Some bytes
   save_is_read =
       ap (bytes_of flushed_disk.files)
@@ -126,12 +136,12 @@ module _ (aside path bytes : List ℕ) (d : Disk) (whole : IsWhole d) (differ : 
 
 -- ---- what the flushes of a save are for
 
--- A new file is the last of all files.
+-- The place of a new file `f` is the number of the files before it.
 last_get : (files : List File) (f : File) → slice_get (files ++ f ∷ []) (length files) ≡ Some f
 last_get [] f = refl
 last_get (e ∷ files) f = last_get files f
 
--- A crash may leave a new file that is flushed after what it might have left before.
+-- If a crash may leave `after` of `files`, and a new file `f` is flushed, a crash may leave `after` and then `f`.
 left_new : (files : List File) (f : File) (after : List File) → AreLeft files after →
     AreLeft (flush_file (files ++ f ∷ []) (length files)) (after ++ record { bytes = f.bytes; is_flushed = true } ∷ [])
 left_new [] f [] left = (record { bytes = λ was. refl; flushed = refl }, tt)
@@ -139,7 +149,7 @@ left_new [] f (g ∷ after) left = absurd left
 left_new (e ∷ files) f [] left = absurd left
 left_new (e ∷ files) f (g ∷ after) left = (left.0, left_new files f after left.1)
 
--- Without the flush of the new file a crash may leave any bytes in the record.
+-- Without the flush of the new file a crash may leave any bytes `other` at `path`, even after the flush of names.
 pub unflushed_tears : (aside path bytes other : List ℕ) (d : Disk) →
     Leaves (after_flush_names (after_rename aside path (after_create aside bytes d))) path (Some other)
 unflushed_tears aside path bytes other d =
@@ -150,7 +160,8 @@ unflushed_tears aside path bytes other d =
     (found_with aside (length d.files) d.names))
     (last_get d.files (record { bytes = bytes; is_flushed = false })) refl
 
--- Without the flush of names a crash may leave each record that it might have left before the save.
+-- Without the flush of names a crash may leave at `path` each content `found` that a crash of `d` may leave.
+-- It leaves the names that the crash of `d` leaves, since they still may stand.
 pub unflushed_names_return : (aside path bytes : List ℕ) (d : Disk) (found : Option (List ℕ)) → IsWhole d →
     Leaves d path found → Leaves (after_rename aside path (after_flush aside (after_create aside bytes d))) path found
 unflushed_names_return aside path bytes d found whole left =
@@ -176,26 +187,26 @@ unflushed_names_return aside path bytes d found whole left =
           ∙ left.2,
     )
 
--- On the empty disk no crash leaves a record.
+-- No crash of the empty disk leaves bytes `other` at `path`.
 pub empty_leaves_none : (path other : List ℕ) → Leaves empty_disk path (Some other) → ⊥
 empty_leaves_none path other left =
     none-some other (sym (ap (λ (n : List Name). bytes_of left.0.files (found_at path n))
     (⊎_elim (λ is. is) (λ none. absurd none) left.1.names)) ∙ left.2)
 
--- On the empty disk an old record or a new one is the new one.
+-- If `d` is the empty disk, bytes `other` that are old or new (`IsOldOr`) are the new ones, `bytes`.
 pub empty_is_new : (path bytes other : List ℕ) → IsOldOr path empty_disk bytes (Some other) → other ≡ bytes
 empty_is_new path bytes other (inl old) = absurd (empty_leaves_none path other old)
 empty_is_new path bytes other (inr new) = ap (value_or other) new
 
 -- ---- what reads give after each call
 
--- A new file gives its bytes.
+-- After a file of `bytes` is made at `path`, the content at `path` is `bytes`.
 pub create_is_read : (path bytes : List ℕ) (d : Disk) → content path (after_create path bytes d) ≡ Some bytes
 create_is_read path bytes d =
     ap (bytes_of (d.files ++ record { bytes = bytes; is_flushed = false } ∷ [])) (found_with path (length d.files) d.names)
     ∙ last_bytes d.files (record { bytes = bytes; is_flushed = false })
 
--- A new file changes nothing at another path.
+-- On a whole disk a new file at `path` does not change the content at another path, `other`.
 pub create_elsewhere : (path other bytes : List ℕ) (d : Disk) → IsWhole d → (path ≡ other → ⊥) →
     content other (after_create path bytes d) ≡ content other d
 create_elsewhere path other bytes d whole differ =
@@ -203,32 +214,33 @@ create_elsewhere path other bytes d whole differ =
     ap (bytes_of (d.files ++ f ∷ [])) (found_with_other other path (length d.files) d.names differ)
     ∙ first_found d.files f other d.names (found_at other d.names) refl (whole.made d.names whole.now)
 
--- A path that was removed gives nothing.
+-- After `path` is removed, it has no content.
 pub remove_is_read : (path : List ℕ) (d : Disk) → content path (after_remove path d) ≡ None
 remove_is_read path d = ap (bytes_of d.files) (found_without path d.names)
 
--- A removed path changes nothing at another.
+-- Removing `path` does not change the content at another path, `other`.
 pub remove_elsewhere : (path other : List ℕ) (d : Disk) → (path ≡ other → ⊥) →
     content other (after_remove path d) ≡ content other d
 remove_elsewhere path other d differ = ap (bytes_of d.files) (found_without_other other path d.names differ)
 
--- After a rename the new path gives what the old one gave.
+-- If a file stands at `from`, the content at `to` after the rename is that at `from` before.
 pub rename_is_read : (from to : List ℕ) (d : Disk) (file : ℕ) → found_at from d.names ≡ Some file →
     content to (after_rename from to d) ≡ content from d
 rename_is_read from to d file found =
     ap (bytes_of d.files) (found_moved from to file d.names (found_at from d.names) found ∙ sym found)
 
--- After a rename the old path gives nothing.
+-- If a file stands at `from`, and `to` is another path, `from` has no content after the rename.
 pub rename_is_gone : (from to : List ℕ) (d : Disk) (file : ℕ) → found_at from d.names ≡ Some file →
     (from ≡ to → ⊥) → content from (after_rename from to d) ≡ None
 rename_is_gone from to d file found differ =
     ap (bytes_of d.files) (gone_moved from to file d.names (found_at from d.names) found differ)
 
--- A rename changes nothing at a third path.
+-- A rename from `from` to `to` does not change the content at a third path, `other`.
 pub rename_elsewhere : (from to other : List ℕ) (d : Disk) → (from ≡ other → ⊥) → (to ≡ other → ⊥) →
     content other (after_rename from to d) ≡ content other d
 rename_elsewhere from to other d not_from not_to =
     ap (bytes_of d.files) (elsewhere (found_at from d.names)) where
+      -- The file at `other` is found as before, if a file stands at `from` (`found`) or none.
       elsewhere : (found : Option ℕ) → found_at other (with_rename from to found d.names) ≡ found_at other d.names
       elsewhere None = refl
       elsewhere (Some file) = found_with_other other to file (without from d.names) not_to

@@ -11,37 +11,38 @@ use Rattle.ill_disk.specs.declared.memory_disk.Change.TheVariants.{Make, Remove,
 use Rattle.ill_disk.proofs.Names.{IsBelow, below_found}
 use Rattle.ill_disk.proofs.Crashes.{in_append, in_second, in_map, in_mapped, left_length}
 
--- Names of files that were made stay so when more files are made.
+-- Let `more` be at least `count`. If each of `names` gives one of the first `count` files, it gives one of the first
+-- `more` files.
 made_more : (count more : ℕ) (names : List Name) → count ≤ more → AreMade count names → AreMade more names
 made_more count more [] le made = tt
 made_more count more (name ∷ names) le made = (omega (arith, le, made.0), made_more count more names le made.1)
 
--- A test between two lists of names of files that were made gives one.
+-- If the names of both lists give one of the first `count` files each, so do those that the test `b` chooses.
 made_if : (count : ℕ) (b : Bool) (first second : List Name) → AreMade count first → AreMade count second →
     AreMade count (if b then first else second)
 made_if count true first second one two = one
 made_if count false first second one two = two
 
--- Names without one path are of files that were made.
+-- If each of `names` gives one of the first `count` files, so does each without the one of `path`.
 pub made_without : (count : ℕ) (path : List ℕ) (names : List Name) → AreMade count names → AreMade count (without path names)
 made_without count path [] made = tt
 made_without count path (name ∷ names) made =
     let rest = made_without count path names made.1 in
     made_if count (bytes_eq path name.path) (without path names) (name ∷ without path names) rest (made.0, rest)
 
--- Names with one more file that was made are of files that were made.
+-- If `file` and the files of `names` are among the first `count` files, so are those of `names` with `file` at `path`.
 pub made_with : (count : ℕ) (path : List ℕ) (file : ℕ) (names : List Name) → file < count → AreMade count names →
     AreMade count (with_name path file names)
 made_with count path file names lt made = (lt, made_without count path names made)
 
--- Names after a rename are of files that were made.
+-- If `found` and the files of `names` are among the first `count` files, so are those of `names` after a rename.
 made_moved : (count : ℕ) (from to : List ℕ) (found : Option ℕ) (names : List Name) → IsBelow count found →
     AreMade count names → AreMade count (with_rename from to found names)
 made_moved count from to None names below made = made
 made_moved count from to (Some file) names below made =
     made_with count to file (without from names) below (made_without count from names made)
 
--- A change of names keeps a disk whole if it keeps names to files that were made.
+-- If `change` keeps all names to files that were made, a whole disk `d` is whole after `change`.
 pub change_whole : (change : List Name → List Name) (d : Disk) →
     ((names : List Name) → AreMade (length d.files) names → AreMade (length d.files) (change names)) →
     IsWhole d → IsWhole (after_change change d)
@@ -77,13 +78,13 @@ rename_whole from to d whole = change_whole (with_rename from to (found_at from 
     (λ names made. made_moved (length d.files) from to (found_at from d.names) names
     (below_found (length d.files) from d.names (whole.made d.names whole.now)) made) whole
 
--- A flush makes no file and loses none.
+-- A flush of the file at place `k` keeps the number of files.
 flush_length : (files : List File) (k : ℕ) → length (flush_file files k) ≡ length files
 flush_length [] k = refl
 flush_length (f ∷ files) zero = refl
 flush_length (f ∷ files) (suc k) = ap suc (flush_length files k)
 
--- The flush of a file that may be found makes no file and loses none.
+-- A flush of the file `found`, if any, keeps the number of files.
 flush_found_length : (files : List File) (found : Option ℕ) → length (flush_found files found) ≡ length files
 flush_found_length files None = refl
 flush_found_length files (Some k) = flush_length files k
@@ -123,13 +124,13 @@ empty_whole = record {
   now = inl refl;
 }
 
--- On a whole disk a file that is found was made.
+-- If `file` is found at `path` on a whole disk `d`, it is a place of the files of `d`.
 pub found_made : (d : Disk) (path : List ℕ) (file : ℕ) → IsWhole d → found_at path d.names ≡ Some file →
     file < length d.files
 found_made d path file whole found = subst (IsBelow (length d.files)) found
     (below_found (length d.files) path d.names (whole.made d.names whole.now))
 
--- A whole disk is whole after a change in memory by a file that was made.
+-- If the file of a `change` in memory was made (`IsMadeBy`), a whole disk `d` is whole after `change`.
 pub change_by_whole : (change : Change) (d : Disk) → IsMadeBy (length d.files) change → IsWhole d →
     IsWhole (after_change (names_after change) d)
 change_by_whole (Make path file) d lt whole = change_whole (with_name path.now file) d

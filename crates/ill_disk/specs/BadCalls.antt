@@ -5,7 +5,8 @@ use Rattle.ill_disk.specs.Calls.{DiskState}
 use Rattle.ill_disk.specs.declared.disk.DiskFault.{DiskFault}
 use Rattle.ill_disk.specs.declared.disk.DiskFault.TheVariants.{NotFound, TooLarge}
 
--- A disk cannot answer a call that makes this change so, and be in the state `new` after it.
+-- `answer` and `new` are wrong for a call that makes `change` in the state `old`. The cases are: a success without the
+-- change, another change, a disk that is not whole, a past without the disk before, and another `is_honest`.
 pub data IsBadAnswer {E : Type 0} (change : Disk → Disk) (old : DiskState) (answer : Result (Unit {0}) E) (new : DiskState)
     : Type 0 where
   not_changed : (done : Unit {0}) → old.is_honest ≡ true → answer ≡ Ok done → (new.now ≡ change old.now → ⊥) →
@@ -17,21 +18,23 @@ pub data IsBadAnswer {E : Type 0} (change : Disk → Disk) (old : DiskState) (an
       (new.past ≡ Some (before ++ old.now ∷ []) → ⊥) → IsBadAnswer change old answer new
   turned : (new.is_honest ≡ old.is_honest → ⊥) → IsBadAnswer change old answer new
 
--- A disk cannot answer a read of this path so, and be in the state `new` after it.
+-- `answer` and `new` are wrong for a read of `path` in the state `old`. The cases are: other bytes, and a change.
 pub data IsBadRead {X E : Type 0} (bytes_of : X → List ℕ) (path : List ℕ) (old : DiskState) (answer : Result (Option X) E)
     (new : DiskState) : Type 0 where
   other_bytes : (found : Option X) → old.is_honest ≡ true → answer ≡ Ok found →
       (option_map bytes_of found ≡ content path old.now → ⊥) → IsBadRead bytes_of path old answer new
   changed : old.is_honest ≡ true → (new.now ≡ old.now → ⊥) → IsBadRead bytes_of path old answer new
 
--- A disk cannot answer a call on the file at this path so.
+-- `answer` is wrong for a call on the file at `path`. The cases are: a success although no file stands there, and
+-- `NotFound` although one does.
 pub data IsBadFinding {A : Type 0} (path : List ℕ) (old : DiskState) (answer : Result A DiskFault) : Type 0 where
   done_on_none : (done : A) → old.is_honest ≡ true → answer ≡ Ok done → found_at path old.now.names ≡ None →
       IsBadFinding path old answer
   none_at_a_file : (file : ℕ) → old.is_honest ≡ true → answer ≡ Err NotFound →
       found_at path old.now.names ≡ Some file → IsBadFinding path old answer
 
--- A disk cannot answer a read of the file at this path, with this limit, so.
+-- `answer` is wrong for a read of `path` with `limit`. The cases are: `TooLarge` although no file stands there, and
+-- although its bytes are at most `limit`.
 pub data IsBadSize {A : Type 0} (limit : ℕ) (path : List ℕ) (old : DiskState) (answer : Result A DiskFault) : Type 0 where
   large_without_file : old.is_honest ≡ true → answer ≡ Err TooLarge → content path old.now ≡ None →
       IsBadSize limit path old answer

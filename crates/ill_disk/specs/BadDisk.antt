@@ -3,7 +3,8 @@
 use Rattle.std.specs.Prelude.{◌≡◌, ℕ, true, false, List, length, slice_get, Some, None}
 use Rattle.ill_disk.specs.Disk.{In, File, Name, Disk, found_at}
 
--- A crash of the disk `before` cannot leave the disk `after`.
+-- A crash of the disk `before` cannot leave the disk `after`. The cases are: names that may not stand, other bytes in a
+-- flushed file, other names that may stand, a file that is not flushed, and another number of files.
 pub data IsBadCrash (before after : Disk) : Type 0 where
   other_names : (In before.may_stand after.names → ⊥) → IsBadCrash before after
   other_bytes : (file : ℕ) (f g : File) → slice_get before.files file ≡ Some f → slice_get after.files file ≡ Some g →
@@ -13,7 +14,8 @@ pub data IsBadCrash (before after : Disk) : Type 0 where
       IsBadCrash before after
   other_count : (length after.files ≡ length before.files → ⊥) → IsBadCrash before after
 
--- The names stand at neither or both of the paths of a rename of this file, or the new path gives another file.
+-- `names` are not those after a rename of `file`. The cases are: `from` still gives a file, `to` gives none, and `to`
+-- gives another file.
 pub data IsHalfRenamed (from to : List ℕ) (file : ℕ) (names : List Name) : Type 0 where
   still_there : (other : ℕ) → found_at from names ≡ Some other → IsHalfRenamed from to file names
   not_there : found_at to names ≡ None → IsHalfRenamed from to file names

@@ -16,7 +16,8 @@ pub record DiskState : Type 0 where
 abbrev pub followed_by : Option (List Disk) → List Disk → Option (List Disk)
 followed_by past during = option_map (λ disks. disks ++ during) past
 
--- A read that is done gives the bytes at the path. It changes nothing, done or failed.
+-- A read that is done gives the bytes at `path`, which `bytes_of` takes from its answer. It changes nothing, done or
+-- failed.
 pub record Reads {X E : Type 0} (bytes_of : X → List ℕ) (path : List ℕ) (old : Disk) (answer : Result (Option X) E)
     (new : Disk) : Type 0 where
   pub bytes : IfOk answer (λ found. option_map bytes_of found ≡ content path old)
@@ -31,7 +32,7 @@ Changes change old (Err fault) new = (new ≡ old) ⊎ (new ≡ change old)
 abbrev pub unchanged : Disk → Disk
 unchanged d = d
 
--- If the call succeeds, there is a new file with these bytes. If it fails, there is none, or one with any bytes.
+-- If the call succeeds, `path` has a new file with `bytes`. If it fails, there is none, or one with any bytes.
 abbrev pub Creates : {E : Type 0} → List ℕ → List ℕ → Disk → Result (Unit {0}) E → Disk → Type 0
 Creates path bytes old (Ok done) new = new ≡ after_create path bytes old
 Creates path bytes old (Err fault) new = (new ≡ old) ⊎ ((some : List ℕ) × (new ≡ after_create path some old))
@@ -58,7 +59,7 @@ pub record WantsFile {A : Type 0} (path : List ℕ) (old : DiskState) (answer : 
 abbrev pub WantsNoFile : {A E : Type 0} → List ℕ → DiskState → Result A E → Type 0
 WantsNoFile path old answer = old.is_honest ≡ true → OnOk answer (found_at path old.now.names ≡ None)
 
--- A file was found, and it has more bytes than this.
+-- A file was found, and it has more than `limit` bytes.
 abbrev pub IsLonger : ℕ → Option (List ℕ) → Type 0
 IsLonger limit None = ⊥
 IsLonger limit (Some bytes) = limit < length bytes

@@ -2,7 +2,7 @@
 use Rattle.std.specs.Prelude.{◌≡◌, ◌⊎◌, ℕ, zero, suc, ◌<◌, Bool, true, false, if◌then◌else◌, List, [], ◌∷◌, ◌++◌, length, map}
 use Rattle.std.specs.Prelude.{slice_get, bytes_eq, Option, Some, None, option_map}
 
--- The element stands in the list.
+-- The element `x` stands in the list.
 abbrev pub In : {X : Type 0} → List X → X → Type 0
 In [] x = ⊥
 In (y ∷ ys) x = (x ≡ y) ⊎ In ys x
@@ -23,7 +23,7 @@ pub record Disk : Type 0 where
   pub names : List Name
   pub may_stand : List (List Name)
 
--- Returns the file that stands at a path.
+-- Returns the file that stands at `path`, if there is one, as a place in the list of all files.
 abbrev pub found_at : List ℕ → List Name → Option ℕ
 found_at path [] = None
 found_at path (name ∷ names) = if bytes_eq path name.path then Some name.file else found_at path names
@@ -37,7 +37,7 @@ without path (name ∷ names) = if bytes_eq path name.path then without path nam
 abbrev pub with_name : List ℕ → ℕ → List Name → List Name
 with_name path file names = record { path = path; file = file } ∷ without path names
 
--- Returns the bytes of a file.
+-- Returns the bytes of the file at a place of `files`, if there is one.
 abbrev pub bytes_of : List File → Option ℕ → Option (List ℕ)
 bytes_of files None = None
 bytes_of files (Some file) = option_map (λ f. f.bytes) (slice_get files file)
@@ -61,7 +61,7 @@ after_create path bytes d = after_change (with_name path (length d.files))
 abbrev pub after_remove : List ℕ → Disk → Disk
 after_remove path d = after_change (without path) d
 
--- Returns the names after the file of one path is put at another. This is one change.
+-- Returns the names after the file found at `from`, if any, is put at `to`. This is one change.
 abbrev pub with_rename : List ℕ → List ℕ → Option ℕ → List Name → List Name
 with_rename from to None names = names
 with_rename from to (Some file) names = with_name to file (without from names)
@@ -70,13 +70,13 @@ with_rename from to (Some file) names = with_name to file (without from names)
 abbrev pub after_rename : List ℕ → List ℕ → Disk → Disk
 after_rename from to d = after_change (with_rename from to (found_at from d.names)) d
 
--- Returns the files after one of them is flushed.
+-- Returns `files` after the one at place `file` is flushed, if there is one.
 abbrev pub flush_file : List File → ℕ → List File
 flush_file [] file = []
 flush_file (f ∷ files) zero = record f { is_flushed = true } ∷ files
 flush_file (f ∷ files) (suc file) = f ∷ flush_file files file
 
--- Returns the files after the one that was found is flushed.
+-- Returns `files` after the one that was found, if any, is flushed.
 abbrev pub flush_found : List File → Option ℕ → List File
 flush_found files None = files
 flush_found files (Some file) = flush_file files file
@@ -109,13 +109,13 @@ pub record Crash (before after : Disk) : Type 0 where
   pub only : after.may_stand ≡ after.names ∷ []
   pub files : AreLeft before.files after.files
 
--- A crash may leave this content at a path.
+-- A crash of `d` may leave the content `found` at `path`.
 abbrev pub Leaves : Disk → List ℕ → Option (List ℕ) → Type 0
 Leaves d path found = (after : Disk) × Crash d after × (content path after ≡ found)
 
 -- ---- whole disks
 
--- Each name is of one of so many files.
+-- Each name gives one of the first `count` files.
 abbrev pub AreMade : ℕ → List Name → Type 0
 AreMade count [] = Unit {0}
 AreMade count (name ∷ names) = (name.file < count) × AreMade count names
@@ -145,6 +145,6 @@ abbrev pub after_save : List ℕ → List ℕ → List ℕ → Disk → Disk
 after_save aside path bytes d =
     after_flush_names (after_rename aside path (after_flush aside (after_create aside bytes d)))
 
--- The content is what a crash of the disk might have left, or it is these bytes.
+-- The content `found` is one that a crash of `d` may leave at `path`, or it is `bytes`.
 abbrev pub IsOldOr : List ℕ → Disk → List ℕ → Option (List ℕ) → Type 0
 IsOldOr path d bytes found = Leaves d path found ⊎ (found ≡ Some bytes)

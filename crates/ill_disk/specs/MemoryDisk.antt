@@ -19,7 +19,7 @@ pub record DiskOverTime : Type 0 where
 abbrev pub past_state : DiskOverTime → DiskState
 past_state over_time = record { now = over_time.disk; past = Some over_time.past; is_honest = true }
 
--- Returns the lists of names that are kept.
+-- Returns the lists of names that the lists in memory hold.
 abbrev pub lists_of : List (Vec Name Global) → List (List Name)
 lists_of lists = map (λ names. names.items) lists
 
@@ -33,7 +33,7 @@ names_after (Rename from to file) names = with_name to.now file (without from.no
 abbrev pub file_after_crash : File → File
 file_after_crash f = record { bytes = if f.is_flushed then f.bytes else []; is_flushed = true }
 
--- The file of the change is one of the first so many.
+-- The file that the change puts at a path, if any, is one of the first `count` files.
 abbrev pub IsMadeBy : ℕ → Change → Type 0
 IsMadeBy count (Make path file) = file < count
 IsMadeBy count (Remove path) = Unit {0}

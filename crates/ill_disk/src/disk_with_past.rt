@@ -17,6 +17,7 @@ pub struct DiskWithPast {
     past: Vec<MemoryDisk>,
 }
 
+/// In proofs it is the disk now, and the disks that it was.
 impl Model for DiskWithPast {
     ghost Value = { DiskOverTime };
 
@@ -49,7 +50,7 @@ impl DiskWithPast {
         &self.past
     }
 
-    /// Adds the disk now to the past.
+    /// Adds the disk now to the past. If memory runs out, nothing changes.
     fn keep(&mut self) -> Result<(), AllocError>
         ensures kept { OnOk result (self.new ≡ record self.old { past = self.old.past ++ self.old.disk ∷ [] }) }
         ensures failed { OnErr result (self.new ≡ self.old) }

@@ -84,6 +84,7 @@ enum OpenOne<F> {
     Flushed(Identity),
 }
 
+/// In proofs it is the path of the record alone. The path of the new file is that with `.new`.
 impl<'a, R: Files> Model for HostDisk<'a, R> {
     ghost Value = { HostDiskOf };
 

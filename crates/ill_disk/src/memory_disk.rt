@@ -57,6 +57,7 @@ pub struct MemoryDisk {
     may_stand: Vec<Vec<MemoryName>>,
 }
 
+/// In proofs it is a `Disk` of the model, and it is whole.
 impl Model for MemoryDisk {
     ghost Value = { disks.Disk };
 
@@ -76,7 +77,7 @@ impl MemoryFile {
         })
     }
 
-    /// Returns the bytes. More than `limit` are `TooLarge`.
+    /// Returns the bytes. More than `limit` are `TooLarge`. It never answers `Failed`.
     fn read(&self, alloc: Global, limit: usize) -> Result<Vec<u8>, DiskFault>
         ensures bytes { IfOk result (λ bytes. bytes.items ≡ self.now.bytes) }
         ensures within { IfOk result (λ bytes. length bytes.items ≤ limit) }
@@ -125,14 +126,14 @@ impl MemoryName {
         MemoryName::new(alloc, &self.path, self.file)
     }
 
-    /// Returns the file, if the name is at this path.
+    /// Returns true if the name is at this path.
     fn is_at(&self, path: &[u8]) -> bool
         ensures { result ≡ bytes_eq path.now self.now.path }
     {
         path == self.path.as_slice()
     }
 
-    /// Returns the file.
+    /// Returns the file that the name gives, as a place in the list of all files.
     fn file(&self) -> usize
         ensures { result ≡ self.now.file }
     {
@@ -140,7 +141,7 @@ impl MemoryName {
     }
 }
 
-/// Returns the file that stands at a path.
+/// Returns the file that `names` give at `path`, if there is one.
 fn find(names: &[MemoryName], path: &[u8]) -> Option<usize>
     ensures { result ≡ found_at path.now names.now }
 {
@@ -152,7 +153,7 @@ fn find(names: &[MemoryName], path: &[u8]) -> Option<usize>
     None
 }
 
-/// Adds copies of the names to others.
+/// Appends copies of `names` to `all`. If memory runs out, some may have been appended.
 fn add_names(
     alloc: Global,
     all: &mut Vec<MemoryName>,
@@ -166,7 +167,7 @@ fn add_names(
     Ok(())
 }
 
-/// Adds copies of the names without the one of a path to others.
+/// Appends copies of `names` without the one of `path` to `all`.
 fn add_without(
     alloc: Global,
     all: &mut Vec<MemoryName>,
@@ -183,7 +184,7 @@ fn add_without(
     Ok(())
 }
 
-/// Returns copies of the names with a file put at a path.
+/// Returns copies of `names` with `file` put at `path`.
 fn put(
     alloc: Global,
     names: &[MemoryName],
@@ -198,7 +199,7 @@ fn put(
     Ok(put)
 }
 
-/// Returns copies of the names without the one of a path.
+/// Returns copies of `names` without the one of `path`.
 fn take_out(alloc: Global, names: &[MemoryName], path: &[u8]) -> Result<Vec<MemoryName>, AllocError>
     ensures { IfOk result (λ rest. rest.items ≡ without path.now names.now) }
 {
@@ -207,7 +208,7 @@ fn take_out(alloc: Global, names: &[MemoryName], path: &[u8]) -> Result<Vec<Memo
     Ok(rest)
 }
 
-/// Returns copies of the names after a change.
+/// Returns copies of `names` after `change`.
 fn change_names(
     alloc: Global,
     names: &[MemoryName],
@@ -225,7 +226,7 @@ fn change_names(
     }
 }
 
-/// Adds copies of the lists to others.
+/// Appends copies of `lists` to `all`.
 fn add_lists(
     alloc: Global,
     all: &mut Vec<Vec<MemoryName>>,
@@ -241,7 +242,7 @@ fn add_lists(
     Ok(())
 }
 
-/// Adds copies of the lists after a change to others.
+/// Appends copies of `lists`, each after `change`, to `all`.
 fn add_changed(
     alloc: Global,
     all: &mut Vec<Vec<MemoryName>>,
@@ -257,7 +258,8 @@ fn add_changed(
     Ok(())
 }
 
-/// Returns the lists that may stand after a change: each as it is, and each with the change.
+/// Returns the lists that may stand after `change` if `lists` might stand before: each as it is, and each after
+/// `change`.
 fn both(
     alloc: Global,
     lists: &[Vec<MemoryName>],
@@ -272,7 +274,7 @@ fn both(
     Ok(all)
 }
 
-/// Returns a copy of the list at a place. Fails if there is none.
+/// Returns a copy of the list at place `which` of `lists`. If there is none, the fault is `Failed`.
 fn copy_list(
     alloc: Global,
     lists: &[Vec<MemoryName>],
@@ -300,7 +302,7 @@ fn one_list(alloc: Global, names: &[MemoryName]) -> Result<Vec<Vec<MemoryName>>,
     Ok(lists)
 }
 
-/// Flushes a file.
+/// Flushes the file at place `file` of `files`, if there is one.
 fn flush_at(files: &mut [MemoryFile], file: usize)
     ensures { files.new ≡ flush_found files.old (Some file) }
 {
@@ -346,7 +348,7 @@ fn crash_files(alloc: Global, files: &[MemoryFile]) -> Result<Vec<MemoryFile>, A
     Ok(after)
 }
 
-/// Returns the bytes of a file, if it was made. More than `limit` bytes are `TooLarge`.
+/// Returns the bytes of the file at place `file` of `files`, if there is one. More than `limit` bytes are `TooLarge`.
 fn read_at(
     alloc: Global,
     files: &[MemoryFile],

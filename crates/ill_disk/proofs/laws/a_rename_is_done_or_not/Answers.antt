@@ -1,3 +1,4 @@
+-- Proves the clause `never_half` of the law `laws::a_rename_is_done_or_not`: no names after a rename are half renamed.
 use Rattle.ill_disk.proofs.BadDisk.{none_half}
 use Rattle.ill_disk.proofs.laws.a_rename_is_done_or_not.Goals as goal
 

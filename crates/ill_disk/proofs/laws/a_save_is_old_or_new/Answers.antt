@@ -1,3 +1,5 @@
+-- Proves the law `laws::a_save_is_old_or_new`: a crash during a save leaves an old record or the new one.
+-- A crash after the save leaves the new one.
 use Rattle.ill_disk.proofs.Saves.{save_moments, save_lasts}
 use Rattle.ill_disk.proofs.laws.a_save_is_old_or_new.Goals as goal
 

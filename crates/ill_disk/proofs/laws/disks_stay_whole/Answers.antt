@@ -1,3 +1,4 @@
+-- Proves two clauses of the law `laws::disks_stay_whole`: a whole disk stays whole if a file is made, or is flushed.
 use Rattle.ill_disk.proofs.Wholes.{create_whole, flush_whole}
 use Rattle.ill_disk.proofs.laws.disks_stay_whole.Goals as goal
 

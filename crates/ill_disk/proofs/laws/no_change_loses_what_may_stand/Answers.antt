@@ -1,3 +1,5 @@
+-- Proves the law `laws::no_change_loses_what_may_stand`: a list of names that might stand may stand after each change,
+-- with the change and without it.
 use Rattle.std.proofs.Common.{false, [], ◌∷◌, ◌++◌, length}
 use Rattle.ill_disk.specs.Disk.{after_create, found_at, with_rename, with_name, without}
 use Rattle.ill_disk.specs.BadDisk.{LosesNames, without_change, with_change}
@@ -8,6 +10,7 @@ pub returns-clause-created : goal.returns-clause-created
 returns-clause-created c path bytes d lost =
     none_lost (with_name path (length d.files))
     (record d { files = d.files ++ record { bytes = bytes; is_flushed = false } ∷ [] }) (still lost) where
+      -- `d` with the new file has the lists of names of `d`, so what `d` loses, it loses too.
       still : LosesNames (with_name path (length d.files)) d (after_create path bytes d) →
           LosesNames (with_name path (length d.files))
           (record d { files = d.files ++ record { bytes = bytes; is_flushed = false } ∷ [] }) (after_create path bytes d)

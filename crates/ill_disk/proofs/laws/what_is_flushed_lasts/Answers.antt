@@ -1,3 +1,4 @@
+-- Proves the clause `bytes` of the law `laws::what_is_flushed_lasts`: a crash leaves the bytes of a flushed file.
 use Rattle.ill_disk.proofs.Crashes.{flushes_last}
 use Rattle.ill_disk.proofs.laws.what_is_flushed_lasts.Goals as goal
 

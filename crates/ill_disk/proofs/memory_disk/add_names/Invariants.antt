@@ -2,6 +2,6 @@
 use Rattle.std.proofs.Common.{◌≡◌, ◌++◌, take}
 use Rattle.ill_disk.proofs.memory_disk.add_names.Given as goal
 
--- The names so far are added.
+-- `all` is the names that it had, followed by the first `name-index` of `names`.
 abbrev pub invariant-loop-name : goal.invariant-loop-name
 invariant-loop-name l = l.all.items ≡ l.initial.all.items ++ take l.name-index l.names

@@ -3,6 +3,6 @@ use Rattle.std.proofs.Common.{◌≡◌, ◌++◌, drop}
 use Rattle.ill_disk.specs.Disk.{without}
 use Rattle.ill_disk.proofs.memory_disk.add_without.Given as goal
 
--- The names that were added and those that are left are together all that are to be added.
+-- `all`, followed by the names from `name-index` on without `path`, is what `all` has to be at the end.
 abbrev pub invariant-loop-name : goal.invariant-loop-name
 invariant-loop-name l = l.all.items ++ without l.path (drop l.name-index l.names) ≡ l.initial.all.items ++ without l.path l.names

@@ -1,3 +1,4 @@
+-- Proves the contract of `DiskWithPast::create_new` if memory runs out for the past: no file is made.
 use Rattle.ill_disk.proofs.Moments.{no_file}
 use Rattle.ill_disk.proofs.disk_with_past.DiskWithPastDisk.create_new.Goals as goal
 

@@ -1,3 +1,4 @@
+-- Proves the contract of `DiskWithPast::flush` if memory runs out for the past: nothing is flushed.
 use Rattle.ill_disk.proofs.Moments.{no_change}
 use Rattle.ill_disk.proofs.disk_with_past.DiskWithPastDisk.flush.Goals as goal
 

@@ -1,3 +1,4 @@
+-- Proves the contract of `DiskWithPast::flush_names` if memory runs out for the past: no names are flushed.
 use Rattle.ill_disk.proofs.Moments.{no_change}
 use Rattle.ill_disk.proofs.disk_with_past.DiskWithPastDisk.flush_names.Goals as goal
 

@@ -1,3 +1,4 @@
+-- Proves the contract of `DiskWithPast::read` if memory runs out for the past: nothing is read.
 use Rattle.ill_disk.proofs.Moments.{no_read}
 use Rattle.ill_disk.proofs.disk_with_past.DiskWithPastDisk.read.Goals as goal
 

@@ -1,3 +1,4 @@
+-- Proves the contract of `DiskWithPast::remove` if memory runs out for the past: nothing is removed.
 use Rattle.ill_disk.proofs.Moments.{no_change}
 use Rattle.ill_disk.proofs.disk_with_past.DiskWithPastDisk.remove.Goals as goal
 

@@ -1,3 +1,4 @@
+-- Proves the contract of `DiskWithPast::rename` if memory runs out for the past: nothing is renamed.
 use Rattle.ill_disk.proofs.Moments.{no_change}
 use Rattle.ill_disk.proofs.disk_with_past.DiskWithPastDisk.rename.Goals as goal
 

@@ -1,3 +1,4 @@
+-- Proves the invariant and the clause `crash` of `MemoryDisk::after_crash`.
 use Rattle.std.proofs.Common.{◌≡◌, [], ◌∷◌, map, rules, slice_get, Some}
 use Rattle.ill_disk.specs.Disk.{Disk, IsWhole}
 use Rattle.ill_disk.specs.MemoryDisk.{file_after_crash, lists_of}
@@ -5,6 +6,7 @@ use Rattle.ill_disk.proofs.Wholes.{crash_whole}
 use Rattle.ill_disk.proofs.Memory.{memory_crash}
 use Rattle.ill_disk.proofs.memory_disk.MemoryDisk.after_crash.Goals as goal
 
+-- The disk that is returned is one that a crash of a whole disk leaves, so it is whole.
 pub invariant_of-result : goal.invariant_of-result
 invariant_of-result c =
     let stands : slice_get c.args.self.now.may_stand c.args.which ≡ Some c.in_ok-names.names.items = search rules in
@@ -18,6 +20,7 @@ invariant_of-result c =
     } in
     crash_whole c.args.self.now after (memory_crash c.args.self.now after c.args.which stands only files) whole
 
+-- The disk that is returned is one that a crash may leave.
 pub returns-clause-crash : goal.returns-clause-crash
 returns-clause-crash c =
     let stands : slice_get c.args.self.now.may_stand c.args.which ≡ Some c.in_ok-names.names.items = search rules in

@@ -1,3 +1,4 @@
+-- Proves that `MemoryDisk::change` keeps the disk whole, since the file of the change was made.
 use Rattle.std.proofs.Common.{◌≡◌, rules, subst, sym}
 use Rattle.ill_disk.specs.Disk.{Disk, IsWhole, after_change}
 use Rattle.ill_disk.specs.MemoryDisk.{lists_of, names_after}

@@ -1,3 +1,4 @@
+-- Proves that `create_new` of a disk in memory keeps the disk whole: it is then `after_create` of a whole disk.
 use Rattle.std.proofs.Common.{◌≡◌, rules, subst, sym}
 use Rattle.ill_disk.specs.Disk.{Disk, IsWhole, after_create}
 use Rattle.ill_disk.specs.MemoryDisk.{lists_of}

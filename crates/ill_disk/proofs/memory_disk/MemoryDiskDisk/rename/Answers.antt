@@ -1,3 +1,4 @@
+-- Proves that the call of `change` in `rename` may be made: the file that is found on a whole disk was made.
 use Rattle.std.proofs.Common.{◌≡◌, rules, Some}
 use Rattle.ill_disk.specs.Disk.{IsWhole, found_at}
 use Rattle.ill_disk.proofs.Wholes.{found_made}

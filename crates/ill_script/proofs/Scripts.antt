@@ -1,4 +1,4 @@
--- A script is read line by line, for any meaning of its lines.
+-- Lemmas on the reading of a script, line by line, for any meaning of its lines.
 use Rattle.std.proofs.Common.{arith, ◌≡◌, ℕ, ◌+◌, ◌<◌, ◌≤◌, Bool, true, false, ◌&&◌, nat_le, if◌then◌else◌, cond, ◌==◌, List, []}
 use Rattle.std.proofs.Common.{◌∷◌, ◌++◌, length, Some, refl, sym, ap, ◌∙◌, length-append}
 use Rattle.std.specs.List.{onto_first}
@@ -38,6 +38,7 @@ within n bytes few short = both_true (nat_le n 100000) (nat_le (length bytes) 10
 too_long : (n : ℕ) (bytes : List ℕ) → 1025 ≤ length bytes → is_within n bytes ≡ false
 too_long n bytes long = go (nat_le n 100000) (nat_le (length bytes) 1024) (le_false (length bytes) 1024 (omega (arith, long)))
   where
+    -- By cases of the first test: if the second is false, both together are.
     go : (a b : Bool) → b ≡ false → (a && b) ≡ false
     go true b none = none
     go false b none = refl
@@ -134,6 +135,7 @@ module _ {W E C : Type 0} (play : Play W E C) where
       → reading_from play (end_reading play) c n (byte ∷ text) ≡ only_bad n
   says_too_many c n byte text many = go (byte == 10) (some_line text)
     where
+      -- By cases of the first byte: an LF closes an empty line, and another byte begins one.
       go : (is_lf : Bool) → ((first : List ℕ) × (more : List (List ℕ)) × (lines_in text ≡ first ∷ more))
           → says_from play (end_reading play) c n (cond is_lf ([] ∷ lines_in text) (onto_first byte (lines_in text))) ≡ only_bad n
       go true some = ap (λ parts. says_from play (end_reading play) c n ([] ∷ parts)) some.2

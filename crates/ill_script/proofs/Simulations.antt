@@ -35,6 +35,7 @@ module _ {W E C : Type 0} (play : Play W E C) where
 
 -- ---- the trace of a run, one event after another
 
+-- `run` gives the world after a list of events. `none` says so of no event, and `next` of one event and more.
 module _ {W E C : Type 0} (play : Play W E C) (run : W → List E → W) (none : (w : W) → run w [] ≡ w)
     (next : (w : W) (event : E) (events : List E) → run w (event ∷ events) ≡ run (play.next w event) events) where
   -- The trace of `events ++ more` is the trace of `events`, and then that of `more`.

@@ -23,6 +23,7 @@ lf_stands [] rest from None is = refl
 lf_stands [] rest from (Some at) is = search rules
 lf_stands (byte ∷ bytes) rest from place is = go (byte == 10) place refl is (lf_stands bytes rest (from + 1))
   where
+    -- By cases of the first byte, which is an LF or not, and of the index that is found.
     go : (is_lf : Bool) (place : Option ℕ) → (byte == 10) ≡ is_lf
         → cond is_lf (Some from) (position_from (λ b. b == 10) (from + 1) bytes) ≡ place
         → ((later : Option ℕ) → position_from (λ b. b == 10) (from + 1) bytes ≡ later → FirstLf bytes rest (from + 1) later)
@@ -136,6 +137,7 @@ pub some_line : (text : List ℕ) → (first : List ℕ) × (more : List (List �
 some_line [] = ([], [], refl)
 some_line (byte ∷ text) = begun byte (byte == 10) (lines_in text) (some_line text)
   where
+    -- By cases of the first byte: an LF closes an empty line, and another byte begins the first line.
     begun : (byte : ℕ) (is_lf : Bool) (parts : List (List ℕ))
         → ((first : List ℕ) × (more : List (List ℕ)) × (parts ≡ first ∷ more))
         → (first : List ℕ) × (more : List (List ℕ)) × (cond is_lf ([] ∷ parts) (onto_first byte parts) ≡ first ∷ more)

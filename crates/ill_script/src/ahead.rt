@@ -18,6 +18,7 @@ pub struct Ahead {
     end: usize,
 }
 
+// The value of a buffer is the range of its piece from `start` to `end`.
 impl Model for Ahead {
     ghost Value = { List ℕ };
 
@@ -38,7 +39,7 @@ impl Ahead {
         }
     }
 
-    /// Returns the bytes.
+    /// Returns the bytes that are ahead.
     pub fn bytes(&self) -> &[u8]
         ensures { result.now ≡ self.now }
     {

@@ -23,6 +23,7 @@ pub enum SimFault {
     OutOfMemory,
 }
 
+// A failed allocation is the fault `OutOfMemory`.
 impl From<AllocError> for SimFault {
     ghost from_gives = { λ _ fault. fault ≡ OutOfMemory };
 
@@ -31,6 +32,7 @@ impl From<AllocError> for SimFault {
     }
 }
 
+// A failed allocation is the fault `OutOfMemory`, and the value that found no room is dropped.
 impl<T: Drop> From<AllocFailed<T>> for SimFault {
     ghost from_gives = { λ _ fault. fault ≡ OutOfMemory };
 

@@ -35,6 +35,7 @@ pub struct Simulation<T: Performer> {
 }
 
 impl<T: Performer> Simulation<T> {
+    /// Returns a simulation before line 1, with this performer and this value for the first line.
     pub fn new(alloc: Global, performer: T, carried: T::Carried) -> Simulation<T>
         ensures performer { result.performer ≡ performer }
         ensures carried { result.carried ≡ carried }

@@ -4,7 +4,7 @@ use Rattle.std.specs.Io.KnownBytes.{Consumes, prepend_known}
 use Rattle.ill_script.specs.Simulating.{IsLine}
 use Rattle.ill_script.proofs.lines.next_line.Given as goal
 
--- The bytes that were read are the first part of a line.
+-- `line` has the bytes that were read. They are the first part of a line: no LF, and within the limit.
 abbrev pub invariant-loop-ahead : goal.invariant-loop-ahead
 invariant-loop-ahead g l =
     IsLine l.line.items

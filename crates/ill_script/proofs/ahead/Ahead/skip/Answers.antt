@@ -15,6 +15,7 @@ fewer xs start end count there =
     ∙ sym (drop-take count (end - (start + count)) (drop start xs))
     ∙ ap (λ k. drop count (take k (drop start xs))) within
 
+-- The range of the buffer begins `count` later, and `view_is` turns it into the bytes.
 pub returns : goal.returns
 returns c =
     let old = c.self.inside in

@@ -7,6 +7,7 @@ use Rattle.ill_script.proofs.Simulations.{goes_on, ends_here}
 use Rattle.ill_script.proofs.Steps.{finds_end, counts_as_read}
 use Rattle.ill_script.proofs.simulation.Simulation.run.Goals as goal
 
+-- Before line 1 the rest of the script is the whole, and no event has happened.
 pub loop-before-init : goal.loop-before-init
 loop-before-init g c =
     let self = c.args.self in (
@@ -20,6 +21,7 @@ loop-before-init g c =
       omega (arith, c.requires.begins),
     )
 
+-- The step has ended the script, and all bytes ahead count as read.
 pub returns-in-Ok-false : goal.returns-in-Ok-false
 returns-in-Ok-false g c =
     let self = c.args.self in
@@ -28,6 +30,7 @@ returns-in-Ok-false g c =
     counts_as_read play (before_first self.carried self.performer) self.ahead c.step.new.self.ahead _ _ _ _
     (Ok c.step.new.self.count) c.requires.unread tt (c.loop-before.invariant.0 (Ok c.step.new.self.count) _ ends)
 
+-- The step has failed, and the script ends with its fault.
 pub returns-in-Err : goal.returns-in-Err
 returns-in-Err g c =
     let self = c.args.self in
@@ -35,6 +38,7 @@ returns-in-Err g c =
     (Err c.in-Err.fault) c.requires.unread c.in-Err.ensures.used
     (c.loop-before.invariant.0 (Err c.in-Err.fault) _ c.in-Err.ensures.steps)
 
+-- The step has performed a line, and the rest of the script performs the whole.
 pub loop-before-preserved : goal.loop-before-preserved
 loop-before-preserved g c =
     let old = c.loop-before in (
@@ -44,6 +48,7 @@ loop-before-preserved g c =
       omega (arith, old.invariant.1, c.in-Ok-true.ensures.few),
     )
 
+-- After line 100,000 the script ends as `end` finds.
 pub returns : goal.returns
 returns g c =
     let self = c.args.self in

@@ -8,12 +8,14 @@ use Rattle.ill_script.proofs.Steps.{fault_ends_step, not_read, line_stops, nothi
 use Rattle.ill_script.proofs.Steps.{begins_closed, begins_last}
 use Rattle.ill_script.proofs.simulation.Simulation.step.Goals as goal
 
+-- The line could not be read.
 pub returns-in_err-next_line-clause-steps : goal.returns-in_err-next_line-clause-steps
 returns-in_err-next_line-clause-steps g c =
     fault_ends_step g.T.Performer.play _ _ _ _ c.from_residual.result c.in_err-next_line.field-0.0 c.from_residual.ensures.1
     (not_read g.T.Performer.play _ _ _ _ c.next_line.new.line.items c.in_err-next_line.field-0.0 c.requires.number
     c.in_err-next_line.ensures.line)
 
+-- A line with its LF was read, and its performance failed.
 pub returns-in_err-perform_line-in-Line-clause-steps : goal.returns-in_err-perform_line-in-Line-clause-steps
 returns-in_err-perform_line-in-Line-clause-steps g c =
     let remaining = g.R.Read.remaining in
@@ -30,6 +32,7 @@ returns-in_err-perform_line-in-Line-clause-steps g c =
     (begins_closed g.T.Performer.play _ _ bytes _ read.0)
     c.in_err-perform_line-in-Line.ensures.performs)
 
+-- The last line has no LF, and its performance failed.
 pub returns-in_err-perform_line-in-Rest-2-clause-steps : goal.returns-in_err-perform_line-in-Rest-2-clause-steps
 returns-in_err-perform_line-in-Rest-2-clause-steps g c =
     let remaining = g.R.Read.remaining in
@@ -48,6 +51,7 @@ returns-in_err-perform_line-in-Rest-2-clause-steps g c =
     (begins_last g.T.Performer.play _ _ bytes _ read.0 some read.2)
     c.in_err-perform_line-in-Rest-2.ensures.performs)
 
+-- No byte follows the last LF, and the script has ended.
 pub returns-in-Rest-clause-steps : goal.returns-in-Rest-clause-steps
 returns-in-Rest-clause-steps g c =
     let remaining = g.R.Read.remaining in
@@ -58,6 +62,7 @@ returns-in-Rest-clause-steps g c =
     let none : length bytes ≡ 0 = grind arith in
     nothing_follows g.T.Performer.play _ _ _ _ bytes none read.1 read.2
 
+-- The last line has no LF, and was performed.
 pub returns-in_ok-perform_line-in-Rest-2-clause-steps : goal.returns-in_ok-perform_line-in-Rest-2-clause-steps
 returns-in_ok-perform_line-in-Rest-2-clause-steps g c =
     let remaining = g.R.Read.remaining in
@@ -72,6 +77,7 @@ returns-in_ok-perform_line-in-Rest-2-clause-steps g c =
     ended_with_line g.T.Performer.play _ _ _ bytes _ c.requires.number read.0 some
     read.1 read.2 c.in_ok-perform_line-in-Rest-2.ensures.performs
 
+-- The line is too long, and so it is bad.
 pub returns-in-TooLong-clause-steps : goal.returns-in-TooLong-clause-steps
 returns-in-TooLong-clause-steps g c =
     let remaining = g.R.Read.remaining in

@@ -15,7 +15,7 @@ use Rattle.ill_work.specs.Table.{kind_of_work}
 not_before_itself : (d : Date) → is_before d d ≡ false
 not_before_itself d = grind (arith, nat_tests)
 
--- A wrong answer is not the kind of work.
+-- A wrong answer is not the kind of work with the side. In each case the table gives another kind.
 is_no_kind : (today : Date) (ahead : ℕ) (side : Side) (work : Work) → MisjudgesWork today ahead side work
     → work ≡ kind_of_work today ahead side → ⊥
 is_no_kind today ahead _ _ (disturbs_reader x work due last at is_due not_past calendar is_later is) e = search rules

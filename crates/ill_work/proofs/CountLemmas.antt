@@ -9,13 +9,13 @@ use Rattle.ill_work.specs.Work.{all_work, is_work_among}
 use Rattle.ill_work.specs.Table.{kind_of_work}
 use Rattle.ill_work.specs.Order.{has_work, count_of}
 
--- The sum of two functions over a list is the sum of their sums.
+-- The sum of `f` and `g` together over a list is the sum of `f` and then that of `g`.
 sum_of_both : {X : Type 0} (f g : X → ℕ) (xs : List X) → sum_by (λ x. f x + g x) xs ≡ sum_by f xs + sum_by g xs
 sum_of_both f g [] = refl
 sum_of_both f g (x ∷ xs) =
     omega (arith, sum_by-cons (λ x. f x + g x) x xs, sum_by-cons f x xs, sum_by-cons g x xs, sum_of_both f g xs)
 
--- The sum of two equal functions over a list is equal.
+-- If `f` and `g` are equal at each element, their sums over a list are equal.
 sum_alike : {X : Type 0} (f g : X → ℕ) → ((x : X) → f x ≡ g x) → (xs : List X) → sum_by f xs ≡ sum_by g xs
 sum_alike f g same xs = ap (λ (h : _ → ℕ). sum_by h xs) (λ i x. same x i)
 
@@ -23,7 +23,7 @@ sum_alike f g same xs = ap (λ (h : _ → ℕ). sum_by h xs) (λ i x. same x i)
 once : (work : Work) → sum_by (λ kind. cond (is_work_among (kind ∷ []) work) 1 0) all_work ≡ 1
 once work = search rules
 
--- No kind of work counts a loan of an empty list.
+-- A list without loans adds 0 for each kind of work.
 none : (works : List Work) → sum_by (λ (work : Work). 0) works ≡ 0
 none [] = refl
 none (work ∷ works) = omega (arith, sum_by-cons (λ (w : Work). 0) work works, none works)

@@ -46,6 +46,7 @@ pressing_kept today ahead sides =
 below_alike : (a b : ℕ) → is_lt (nat_cmp a b) ≡ nat_lt a b
 below_alike a b = search rules
 
+-- The items `X` have values `Y` (`now`), and these have a number (`key`).
 module _ {X Y : Type 0} (now : X → Y) (key : Y → ℕ) where
   -- A stable sort by a number returns the items in the order of this number.
   pub sorted_by_number : (xs ys : List X) → IsSortedByKey (λ x. key (now x)) nat_cmp ys

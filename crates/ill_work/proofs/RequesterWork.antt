@@ -16,6 +16,8 @@ use Rattle.ill_work.specs.declared.work.Work.TheVariants as kinds
 use Rattle.ill_work.specs.Work.{work_verbs, wants_a_hand, is_work_among}
 use Rattle.ill_work.specs.Table.{requester_work_in}
 
+-- A requester is in the state `s`. The tests are those of `requester_work_in`, and `on` says how its dates stand to the
+-- day.
 module _ (s : State) (declined received checked_in : Bool) (on : Dates) where
   -- Each verb of the work is possible on each day.
   pub is_possible : (today : Date) (side : Side) (verb : Verb)

@@ -23,8 +23,10 @@ use Rattle.ill_work.specs.Dates.{may_name_due}
 use Rattle.ill_work.specs.Work.{work_verbs, wants_a_hand, is_work_among}
 use Rattle.ill_work.specs.Table.{responder_work_in, responder_work, dates_on, no_date_presses}
 
+-- A responder is in the state `s`. `received` says that it has the received mark, and `on` how its dates stand to the
+-- day.
 module _ (s : State) (received : Bool) (on : Dates) where
-  -- Each verb of the work is one of the responder's.
+  -- Each verb of the work is one of the responder's verbs in this state.
   verbs_do : (verb : Verb) → is_verb_among (work_verbs (responder_work_in s received on)) verb ≡ true
       → is_verb_among (responder_verbs_in s) verb ≡ true
   verbs_do verb is = search rules
@@ -37,8 +39,8 @@ module _ (s : State) (received : Bool) (on : Dates) where
   has_expired_for : is_verb_among (work_verbs (responder_work_in s received on)) verbs.Expire ≡ true → on.has_expired ≡ true
   has_expired_for is = search rules
 
-  -- Let `past` say that the deadline is past: the due date in SHIPPED or later, and else the expiry date. Then the turn is
-  -- the responder's if, and only if, its work wants a hand.
+  -- Let `past` say that the deadline is past: the due date in SHIPPED or later, and else the expiry date. Then the turn
+  -- is the responder's if, and only if, its work wants a hand. No work of a responder is `WithReader`.
   pub turn_alike : (past : Bool) → (is_among later s ≡ true → past ≡ on.is_overdue)
       → (is_among later s ≡ false → past ≡ on.has_expired)
       → is_turn Mine (if past && nat_lt 0 (length (responder_verbs_in s)) then Mine else responder_turn_in s)
@@ -58,8 +60,8 @@ pub is_possible_some_day : (y : ResponderRecord) (s : State) (received : Bool) (
     → is_verb_among (filter (is_allowed None (sides.Responder y)) (responder_verbs_in s)) verb ≡ true
 is_possible_some_day y s received verb is = search rules
 
--- A deed that is not `NotNow` is done if, and only if, it may name its due date. A number is left, and the date of an Overdue
--- or an Expire is past.
+-- Let a deed not be refused as `NotNow`, and a number be left. Let the date of an Overdue or an Expire be past. Then
+-- the deed is done if, and only if, it may name its due date.
 deed_done : (y : ResponderRecord) (deed : Deed) (today : Date) → is_now (acts y deed today) ≡ true
     → nat_lt (length y.issued) 255 ≡ true
     → (deed_verb deed ≡ verbs.Overdue → is_after_due today (due_of y) ≡ true)
@@ -75,8 +77,8 @@ deed_done y deeds.Recall today is few overdue expired = search rules
 deed_done y deeds.CheckIn today is few overdue expired = search rules
 deed_done y deeds.Expire today is few overdue expired = search rules
 
--- If the verbs of responder `y` are exact, a deed with a verb of its work is done if, and only if, it may name its due date.
--- A number is left.
+-- Let the verbs of responder `y` be exact, and a number be left. Then a deed of its work is done if, and only if, it
+-- may name its due date.
 pub work_done : (today : Date) (ahead : ℕ) (y : ResponderRecord) (deed : Deed)
     → is_verb_among (responder_verbs y) (deed_verb deed) ≡ is_now (acts y deed today)
     → is_verb_among (work_verbs (responder_work y (dates_on today ahead (sides.Responder y)))) (deed_verb deed) ≡ true

@@ -42,6 +42,7 @@ past_expiry today (Some due) expiry none = search rules
 due_fits : (y : ResponderRecord) → ResponderRules y → is_some (due_of y) ≡ is_among responders.later y.state
 due_fits y h = go (is_among responders.later y.state) refl
   where
+    -- By cases of `is_later`, which says if the state is SHIPPED or later.
     go : (is_later : Bool) → is_among responders.later y.state ≡ is_later → is_some (due_of y) ≡ is_later
     go true is =
         let counted = h.issued.shipped ∙ ap (λ b. if b then 1 else 0) is in
@@ -62,7 +63,7 @@ requester_agrees today ahead x h =
     (λ later. past_due today x.due _ (h.parts.due ∙ later))
     (λ open_still. past_expiry today x.due _ (h.parts.due ∙ open_still))
 
--- On each day a responder has the turn if, and only if, its work wants a hand.
+-- On each day a responder has the turn if, and only if, its work wants a hand. No work of a responder is `WithReader`.
 responder_agrees : (today : Date) (ahead : ℕ) (y : ResponderRecord) → ResponderRules y
     → is_turn Mine (turn_on (Some today) (sides.Responder y))
     ≡ (wants_a_hand (kind_of_work today ahead (sides.Responder y))

@@ -81,7 +81,7 @@ record IsNotBefore (a b : Date) : Type 0 where
   second : IsInMonth b
   order : is_before b a ≡ false
 
--- The days after two days are in their order.
+-- If `b` is not before `a`, the day after `b` is not before the day after `a`.
 next_keeps : (a b : Date) → IsNotBefore a b → IsNotBefore (next_day a) (next_day b)
 next_keeps a b h = record {
   first = next_in a (nat_lt a.day (days_in_month a.year a.month)) (nat_lt a.month 12) h.first refl refl;
@@ -91,7 +91,7 @@ next_keeps a b h = record {
       h.second.month_last h.first.month_first h.second.month_first h.first.day_first h.second.day_first h.order;
 }
 
--- The days that are `n` days after two days are in their order.
+-- If `b` is not before `a`, their order stays `n` days later.
 later_keeps : (n : ℕ) (a b : Date) → IsNotBefore a b → IsNotBefore (days_later n a) (days_later n b)
 unfolding days_later
 later_keeps zero a b h = h
@@ -137,13 +137,15 @@ pub record AreLater (on later : Dates) : Type 0 where
   pub overdue : on.is_overdue ≡ true → later.is_overdue ≡ true
   pub soon : on.is_due_soon ≡ true → later.is_due_soon ≡ true
 
--- The work of a requester is at least as pressing on the later day.
+-- Let each date that is past or soon by `on` be so by `later`. Then a requester's work is at least as pressing by
+-- `later`.
 pub requester_waits : (s : State) (declined received checked_in : Bool) (on later : Dates) → AreLater on later
     → urgency_of (requester_work_in s declined received checked_in later)
     ≤ urgency_of (requester_work_in s declined received checked_in on)
 requester_waits s declined received checked_in on later h = search (rules, h.expired, h.overdue, h.soon)
 
--- The work of a responder is at least as pressing on the later day.
+-- Let each date that is past or soon by `on` be so by `later`. Then a responder's work is at least as pressing by
+-- `later`.
 pub responder_waits : (s : State) (received : Bool) (on later : Dates) → AreLater on later
     → urgency_of (responder_work_in s received later) ≤ urgency_of (responder_work_in s received on)
 responder_waits s received on later h = search (rules, h.expired, h.overdue)
@@ -158,6 +160,7 @@ less_pressing_never today later ahead side from until order =
       soon = stays_soon today later ahead (due_date_of side) from until order;
     })
   where
+    -- By cases of the role of `side`.
     go : (side : Side) → AreLater (dates_on today ahead side) (dates_on later ahead side)
         → urgency_on later ahead side ≤ urgency_on today ahead side
     go (sides.Requester x) h = requester_waits x.state (is_declined x) (is_received_by x) x.checked_in _ _ h

@@ -166,6 +166,7 @@ impl Work {
     }
 }
 
+// A kind is displayed by its words, padded as the format asks.
 impl fmt::Display for Work {
     ghost output = { λ work. Some (work_words work) };
 

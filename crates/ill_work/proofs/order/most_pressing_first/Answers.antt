@@ -10,6 +10,7 @@ use Rattle.ill_work.specs.Order.{is_more_pressing, urgency_on}
 use Rattle.ill_work.proofs.OrderLemmas.{pressing_kept, sorted_by_number}
 use Rattle.ill_work.proofs.order.most_pressing_first.Goals as goal
 
+-- The sort by urgency is stable, so it returns what `ordered` returns over the order by deadlines.
 pub returns-clause-list : goal.returns-clause-list
 returns-clause-list c =
     let key : Side → ℕ = urgency_on c.args.today c.args.ahead in
@@ -19,11 +20,13 @@ returns-clause-list c =
     (sort.stable (λ side. key side.now) (always_returns_same _ _ _ (λ a r f k. search (rules, of_calls))))
     ∙ ap (ordered (is_more_pressing c.args.today c.args.ahead)) c.in_ok-ordered.ensures
 
+-- The list is the one of `returns-clause-list`, which has each loan.
 pub returns-clause-kept : goal.returns-clause-kept
 returns-clause-kept c =
     let sides = c.args.sides.now.sides in
     subst (IsPermutation sides) (sym (returns-clause-list c)) (pressing_kept c.args.today c.args.ahead sides)
 
+-- The sort leaves the loans in the order of their urgency.
 pub returns-clause-rises : goal.returns-clause-rises
 returns-clause-rises c =
     let key : Side → ℕ = urgency_on c.args.today c.args.ahead in

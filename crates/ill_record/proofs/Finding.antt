@@ -184,7 +184,8 @@ module _ {X Y : Type 0} (of_x : X → Qualifiers) (of_y : Y → Qualifiers) (f :
       ap (λ t. cond (is_same_txn txn t) (Some (f x)) (found_by of_y txn (map f xs))) (keeps x)
       ∙ ap (λ o. cond (is_same_txn txn (of_x x)) (Some (f x)) o) (found_mapped txn xs)
       ∙ mapped_first txn x (found_by of_x txn xs) (is_same_txn txn (of_x x))
--- Below, `f` keeps the transaction of an item (premise `keeps`).
+
+  -- Below, `f` keeps the transaction of an item (premise `keeps`).
 
   -- If `put_mapped` holds for the other items, it holds with `x` before them.
   put_first : (new x : X) (xs : List X) (same : Bool) → map f (put_by of_x new xs) ≡ put_by of_y (f new) (map f xs)

@@ -61,7 +61,7 @@ module _ {L K : Type 0} (effects : Effects L K) (key : K) where
     | inr memory ↦ subst (λ (f : ToolFault). RunsTrial effects key named now (Err f) now) (sym memory) (trial_unread named now)
   ]
 
--- Three statements that hold give the one that two truth values choose.
+-- If `Tried`, `Done` and `Told` hold, so does the one of them that `was_seen` and `is_trial` choose.
 each_holds : {Tried Done Told : Type 0} (was_seen is_trial : Bool) → Tried → Done → Told
     → IfSo was_seen (IfSo is_trial Tried Done) Told
 each_holds true true tried done told = tried
@@ -85,13 +85,14 @@ enters_nothing desks.NoSuchTransaction line now = refl
 enters_nothing desks.DeskFull line now = refl
 enters_nothing fault line now = inr refl
 
--- Whatever an action has entered, it may have entered after a fault of the writing.
+-- If `EntersDone` allows the diaries `old` and `new` for the answer `is_done`, it allows them for the answer `fault`.
 entered_or_not : (is_done : Bool) (fault : ToolFault) (line : List ℕ) (old new : DiaryState)
     → EntersDone (Ok is_done) line old new → EntersDone (Err fault) line old new
 entered_or_not true fault line old new enters = inl enters
 entered_or_not false fault line old new same = inr same
 
--- The line of an action tells if it was entered.
+-- If the diary changed as `outcome` says, and its words were written with `result`, the diary changed as `result`
+-- says.
 pub enters_told : (words : Words) (before after : Option (List ℕ)) (outcome : DeskOutcome) (now : Shown)
     (result : Result Bool ToolFault) (line : List ℕ) (old new : DiaryState)
     → WritesOutcome words before after outcome now result → EntersDone (Ok (is_fine outcome)) line old new
@@ -101,19 +102,20 @@ enters_told words before after outcome now (Ok fine) line old new writes enters 
 enters_told words before after outcome now (Err fault) line old new writes enters =
     entered_or_not (is_fine outcome) fault line old new enters
 
--- A fault before the action enters nothing.
+-- If the answer is a fault, `EntersUnlessTried` allows that nothing was entered.
 pub enters_unasked : (is_trial : Bool) (fault : ToolFault) (line : List ℕ) (now : DiaryState)
     → EntersUnlessTried is_trial (Err fault) line now now
 enters_unasked true fault line now = refl
 enters_unasked false fault line now = inr refl
 
--- A loan that was not seen as it is enters nothing.
+-- If the line of a change was told with `result`, `EntersUnlessTried` allows that nothing was entered.
 pub enters_unseen : (is_trial : Bool) (shown : Shown) (before after : Option (List ℕ)) (result : Result Bool ToolFault)
     (line : List ℕ) (now : DiaryState)
     → WritesChange shown before after result → EntersUnlessTried is_trial result line now now
 enters_unseen is_trial shown before after result line now writes =
     subst (λ (r : Result Bool ToolFault). EntersUnlessTried is_trial r line now now) (sym writes.2) (go is_trial writes.0)
   where
+    -- The answer `not_done written` is false or a fault, and both allow it.
     go : (is_trial : Bool) (written : Result (Unit {0}) ToolFault) → EntersUnlessTried is_trial (not_done written) line now now
     go true written = refl
     go false (Ok done) = refl

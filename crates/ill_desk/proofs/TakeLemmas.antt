@@ -53,7 +53,8 @@ record Stays (before after : BorrowedParts) : Type 0 where
 module _ {S : Type 0} (is_kept : Bool) (handles : Handles S ToolFault) (parts : S → BorrowedParts)
     (keeps : (s t : S) (apdu : Apdu) (r : Result (Unit {0}) ToolFault) → handles s apdu r t
     → KeepsBorrowed is_kept r (parts s) (parts t)) where
-  -- Handling `apdus` leaves the borrowed desk and file, and never lowers the count of failures.
+  -- Handling `apdus` leaves the borrowed desk and file, and never lowers the count of failures. `one` is for the
+  -- first APDU, and `on` for the others.
   handled_keeps : (before after : S) (apdus : List Apdu) → Handled handles before apdus after
       → Stays (parts before) (parts after)
   handled_keeps before after [] is =
@@ -75,7 +76,7 @@ module _ {S : Type 0} (is_kept : Bool) (handles : Handles S ToolFault) (parts : 
       }
 
   -- Reading an input leaves the borrowed desk and file. Unless `is_kept`, it counts a failure of the store that it
-  -- returns.
+  -- returns. After a fault the reading has stopped (`stops`), or the handling of an APDU has failed (`hand`).
   pub input_keeps : (old new : Option (List ℕ)) (before after : S) (result : Result ℕ ToolFault)
       → ReadsInput handles old new before result after → KeepsBorrowed is_kept result (parts before) (parts after)
   input_keeps old new before after (Ok n) is =
@@ -118,7 +119,7 @@ Under Holds handles s apdu r t = Holds s × handles s apdu r t
 -- `stays` says that each message keeps `Holds`.
 module _ {S : Type 0} (Holds : S → Type 0) (handles : Handles S ToolFault)
     (stays : (s t : S) (apdu : Apdu) (r : Result (Unit {0}) ToolFault) → Holds s → handles s apdu r t → Holds t) where
-  -- If `Holds` holds at first, it holds before each of the messages and after the last.
+  -- If `Holds` holds at first, it holds before each of the messages and after the last. `on` is for the later ones.
   handled_under : (before after : S) (apdus : List Apdu) → Holds before → Handled handles before apdus after
       → Handled (Under Holds handles) before apdus after × Holds after
   handled_under before after [] holds is = (is, subst Holds (sym is) holds)
@@ -135,7 +136,7 @@ module _ {S : Type 0} (Holds : S → Type 0) (handles : Handles S ToolFault)
     | inr fails ↦ inr (fails.0, fails.1, fails.2, fails.3, (holds, fails.4))
   ]
 
-  -- If `Holds` holds at first, the input is read under it.
+  -- If `Holds` holds at first, the input is read under it. `on` is for its handled messages.
   reads_under : (old new : Option (List ℕ)) (before after : S) (result : Result ℕ ToolFault) → Holds before
       → ReadsInput handles old new before result after → ReadsInput (Under Holds handles) old new before result after
   reads_under old new before after result holds is =
@@ -190,6 +191,7 @@ module _ {H S D A B C L N W : Type 0} (effects : Effects L N) (view : DeskOf H S
   TakesOn s apdu r t = TakesIn s.0.form s apdu r t × (t.0.form ≡ s.0.form) × KeepsIn s.0.form s apdu r t
 
   -- If an input is read by `TakesOn`, the command has taken it, and the borrowed desk and file stay.
+  -- The form stays that of `before` (`under`). So each message is taken in that form (`taken`), and counted (`keeps`).
   pub input_taken : (old new : Option (List ℕ)) (before after : TakesEach H S D A B C × W) (result : Result ℕ ToolFault)
       → before.0.all_fine ≡ true → ReadsInput TakesOn old new before result after
       → IsTaken (RunsTaking before.0.form.is_kept (wording before.0.form.is_long) effects

@@ -27,7 +27,7 @@ shown_whole : (role : Role) (txn : Qualifiers) (found : Option DeskEntry)
 shown_whole role txn (Some held) = refl
 shown_whole role txn None = idle_whole role txn
 
--- The entry of a transaction after a save is the saved entry of before.
+-- After a save the entry of `txn` is `whole_entry` of its entry before, if the desk holds one.
 found_whole : (txn : Qualifiers) (live : DeskContents)
     → found_by txn_held txn (many_sides.saves live).held ≡ option_map whole_entry (found_by txn_held txn live.held)
 found_whole txn live =
@@ -35,6 +35,7 @@ found_whole txn live =
     ∙ ap (option_map whole) (found_mapped txn_held txn_of (λ (held : DeskEntry). held.side) (λ held. refl) txn live.held)
     ∙ twice (found_by txn_held txn live.held)
   where
+    -- Mapping an entry to its side, and then by `whole`, equals mapping it by `whole_entry`.
     twice : (found : Option DeskEntry)
         → option_map whole (option_map (λ (held : DeskEntry). held.side) found) ≡ option_map whole_entry found
     twice (Some held) = refl

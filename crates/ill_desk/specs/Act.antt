@@ -18,7 +18,7 @@ abbrev pub ActsAndSaves : {L K : Type 0} → Effects L K → K → HeldAndLanded
 ActsAndSaves effects key old action result new =
     Performs effects (Unit {0}) old (acted old.live (effects.acts old.live key action)) result new
 
--- The fault of words that name no action, or of want of memory to read them.
+-- `fault` is `Arguments`, and the words name no action (`named` is none). Or `fault` is `OutOfMemory`.
 abbrev pub NamesNone : Option Action → ToolFault → Type 0
 NamesNone named fault = ((fault ≡ Arguments) × (named ≡ None)) ⊎ (fault ≡ OutOfMemory)
 
@@ -40,8 +40,8 @@ abbrev pub fine_of : Result DeskOutcome ToolFault → Result Bool ToolFault
 fine_of (Ok outcome) = Ok (is_fine outcome)
 fine_of (Err fault) = Err fault
 
--- An action with this answer was entered in a diary: its line, if it was done, and nothing if it was not. After a fault it
--- may have been entered, or not.
+-- An action with this answer leads a diary from `old` to `new`. If it was done, `line` is entered; if not, nothing is.
+-- After a fault `line` may have been entered, or not.
 abbrev pub EntersDone : Result Bool ToolFault → (line : List ℕ) → DiaryState → DiaryState → Type 0
 EntersDone (Ok true) line old new = Enters line old new
 EntersDone (Ok false) line old new = new ≡ old

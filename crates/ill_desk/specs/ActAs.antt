@@ -22,8 +22,8 @@ use Rattle.ill_desk.specs.Act.{EntersDone, RunsAct}
 use Rattle.ill_desk.specs.Actions.{action_named}
 use Rattle.ill_desk.specs.Telling.{Reports, once_saved, shown_at, side_line}
 
--- What a person asks of a loan: an action, in words; what was seen of the loan, if that is said; and true if the action is
--- only tried.
+-- An action that a person asks for: its loan, its day and its words; what was seen of the loan, if that is said; and
+-- true if it is only tried.
 pub record Asking : Type 0 where
   pub txn : Qualifiers
   pub today : Option Date
@@ -55,7 +55,8 @@ abbrev pub not_done : Result (Unit {0}) ToolFault → Result Bool ToolFault
 not_done (Ok done) = Ok false
 not_done (Err fault) = Err fault
 
--- The line of a side that is shown as `now`, and was not seen so, was written. The answer is false, or the fault of that.
+-- `changed_line now` was written, which leads the output from `before` to `after`. `result` is false, or the fault of
+-- the writing.
 abbrev pub WritesChange : Shown → Option (List ℕ) → Option (List ℕ) → Result Bool ToolFault → Type 0
 WritesChange now before after result =
     (written : Result (Unit {0}) ToolFault) × WritesText before after (changed_line now) written × (result ≡ not_done written)
@@ -95,7 +96,7 @@ RunsTrial effects key None old result new = RunsAct effects key None old result 
 
 -- ---- what a person asks
 
--- One of two statements, by a truth value.
+-- If the Bool is true, this is the statement `So`, else the statement `Otherwise`.
 abbrev pub IfSo : Bool → Type 0 → Type 0 → Type 0
 IfSo true So Otherwise = So
 IfSo false So Otherwise = Otherwise

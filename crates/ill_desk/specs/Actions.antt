@@ -18,8 +18,8 @@ abbrev pub deed_on : Option Date → List (List ℕ) → Option Action
 deed_on None words = None
 deed_on (Some today) words = option_map (λ deed. Deed deed today) (deed_of (Some today) words)
 
--- Returns the action that `words` name for this role. They are encoded as after the side in a line of a
--- script.
+-- Returns the action that `words` name for this role: a requester's wish, or a responder's deed. They are the words
+-- after the side in a line of a script.
 abbrev pub action_for : Role → Option Date → List (List ℕ) → Option Action
 action_for Requester today words = option_map Wish (wish_of words)
 action_for Responder today words = deed_on today words

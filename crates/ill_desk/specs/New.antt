@@ -64,7 +64,7 @@ pub record SavesFirst (bytes : List ℕ) (old : StoreState) (answer : Result (Un
   pub plan : (new.plan ≡ old.plan) ⊎ (new.plan ≡ plan_after_call old.plan)
 
 -- The beginning of a desk with the first record `bytes` leads from the store `old` to `new`, with this
--- answer.
+-- answer. Its first call of the store, the load, spends the plan.
 pub record BeginsIn (bytes : List ℕ) (old : StoreState) (answer : Result (Unit {0}) ToolFault) (new : StoreState)
     : Type 0 where
   pub landed : old.is_honest ≡ true → BeginsOver bytes old.plan old.landed answer new.landed

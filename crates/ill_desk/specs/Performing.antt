@@ -103,7 +103,7 @@ IsChange (Err fault) = ⊥
 
 -- An event with this outcome and these sides leads from `old` to `new`, with this result. It happened, and
 -- was saved if it is a change. Its record is read as these sides. Or it is a change, and the save failed. Or
--- memory ran out for the event, if it needs memory, or for the save.
+-- memory ran out for the event, if it needs memory (`WantsMemory`), or for the save.
 abbrev pub Performs : {L K : Type 0} → Effects L K → Type 0 → HeldAndLanded L → Result DeskOutcome ToolFault × L →
     Result DeskOutcome ToolFault → HeldAndLanded L → Type 0
 Performs effects WantsMemory old event (Ok outcome) new =

@@ -68,8 +68,9 @@ fn words_line(alloc: Global, view: &ActionView<'_>, issued: u8) -> Result<Vec<u8
     diary_line(alloc, &stamp, view.txn, verb, u32::from(issued) + 1)
 }
 
-/// Performs the action of `view`, as `run_desk_act` does. If it is done, `entry` is entered before the save. If `view` says what was seen, and the loan is shown otherwise
-/// now, nothing is done. Then a line with `changed` and what is shown is written, and the answer is false.
+/// Performs the action of `view`, as `run_desk_act` does. If it is done, `entry` is entered before the save. If
+/// `view` says what was seen, and the loan is shown otherwise now, nothing is done. Then a line with `changed` and
+/// what is shown is written, and the answer is false.
 ///
 /// If the action is only tried, its line is written as if it was done and saved, and nothing is saved. Let the desk go
 /// then: its sides in memory are those after the action.
@@ -96,7 +97,7 @@ pub fn run_desk_act_as<S: Store, D: Write, W: Write>(
     }
 }
 
-/// Performs the action of `view`, or tries it. The loan was seen as it is.
+/// Performs the action of `view`, or only tries it. The caller has found that the loan is as it was seen.
 fn act_or_try<S: Store, D: Write, W: Write>(
     alloc: Global,
     desk: &mut Desk<S>,
@@ -193,7 +194,8 @@ fn told(written: Result<(), ToolFault>) -> Result<bool, ToolFault>
     }
 }
 
-/// Tries the action of `view`, and writes its line.
+/// Performs the action of `view` in memory alone, and writes the line that it would have after a save. If the words
+/// name no action, the fault is `Arguments`.
 fn try_words<S: Store, W: Write>(
     alloc: Global,
     desk: &mut Desk<S>,
@@ -212,7 +214,7 @@ fn try_words<S: Store, W: Write>(
     }
 }
 
-/// Tries `action` in the transaction `txn`, and writes its line.
+/// Performs `action` in the transaction `txn` in memory alone, and writes the line that it would have after a save.
 fn try_action<S: Store, W: Write>(
     alloc: Global,
     desk: &mut Desk<S>,
@@ -231,7 +233,7 @@ fn try_action<S: Store, W: Write>(
     }
 }
 
-/// Performs `action` in memory alone.
+/// Performs `action` in the transaction `txn` in memory alone. The store is unchanged.
 fn act_unsaved<S: Store>(
     alloc: Global,
     desk: &mut Desk<S>,
@@ -247,7 +249,7 @@ fn act_unsaved<S: Store>(
     }
 }
 
-/// Writes the line of an action that was tried. `now` is shown of its side.
+/// Writes the line of an action that was tried, with this outcome. `now` has the shown parts of its side in memory.
 fn report_trial<W: Write>(
     alloc: Global,
     writer: &mut W,
@@ -259,7 +261,7 @@ fn report_trial<W: Write>(
     report(alloc, writer, outcome, tried_shown(outcome, now))
 }
 
-/// Returns what the line of an action shows that was tried. If it was done, all messages count as released.
+/// Returns the parts of a side that the line of a trial shows. If the action was done, all messages count as released.
 fn tried_shown(outcome: DeskOutcome, now: Shown) -> Shown
     ensures { result ≡ tried_shown outcome now }
 {

@@ -16,7 +16,8 @@ prefix_of_seen decides seen sought result is =
     let starts = starts_is decides seen sought result is in
     ((λ begins. (drop (length sought) seen, starts.0 begins)), λ begins. starts.1 begins.0 begins.1)
 
--- `starts_with` decides it also for `items` and `prefix`, if they equal `seen` and `sought`.
+-- If `items` and `prefix` equal `seen` and `sought`, `starts_with` also decides whether `prefix` is a prefix of
+-- `items`.
 pub prefix_decided : {A : Type 0} {equal : A → A → Bool} → ((a b : A) → IsTrue (equal a b) ↔ (a ≡ b))
     → (seen sought items prefix : List A) (result : Bool) → seen ≡ items → sought ≡ prefix
     → result ≡ starts_with equal seen sought → Decides result (IsPrefix prefix items)
@@ -33,7 +34,7 @@ one_of_all P (first ∷ sides) (suc place) side within all =
     one_of_all P sides place side (omega (arith, within))
     (All-tail P first.now (map (λ (side : Bor Side). side.now) sides) all)
 
--- If `own` lacks the loan of the side at `place`, it lacks one of all of `sides`.
+-- If `own` lacks the loan of `side`, it does not have the loans of all of `sides`. `side` is the one at `place`.
 pub lacks_one : (own : List Side) (sides : List (Bor Side)) (place : ℕ) (side : Bor Side) → place < length sides
     → side ≡ get_or sides place side → Decides false (HasLoan own side.now)
     → Decides false (All (HasLoan own) (map (λ (side : Bor Side). side.now) sides))

@@ -45,7 +45,7 @@ stream_has letters start bytes empty put =
     some_is _ _ (put ∙ ap (λ start. after_all (λ there letter. there ++ letter.bytes) letters (Some start)) empty
     ∙ streamed [] letters)
 
--- If the mails are gathered on an empty stream, and its bytes are written, the command has written the mails.
+-- If mails are put on an empty stream (`start`), and its bytes (`gathered`) are written, `StreamsOutbox` holds.
 pub stream_written : (asking : List ℕ) (held : List DeskEntry) (start bytes gathered : List ℕ) (count : ℕ)
     (before after : Option (List ℕ)) (result : Result (Unit {0}) ToolFault)
     → start ≡ [] → gathered ≡ bytes

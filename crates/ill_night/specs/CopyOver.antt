@@ -11,7 +11,7 @@ use Rattle.ill_night.specs.declared.copy.Copied.{Copied}
 use Rattle.ill_night.specs.declared.copy.Copied.TheVariants.{Done, HasMore, NoRecord}
 use Rattle.ill_night.specs.Copy.{Copies}
 
--- There is a side, and the messages of `copied` are its first ones.
+-- There is a side `own`, and its first messages are those of `copied`.
 abbrev pub Continues : Side → Option Side → Type 0
 Continues copied None = ⊥
 Continues copied (Some own) = IsPrefix (issued_of copied) (issued_of own)
@@ -24,23 +24,23 @@ HasLoan sides copied = Continues copied (side_with (txn_of copied) sides)
 abbrev pub Extends : SidesOf → SidesOf → Type 0
 Extends own copied = (own.role ≡ copied.role) × All (HasLoan own.sides) copied.sides
 
--- A copy of `own` replaces the sides `copied` if `own` extends them.
+-- The result of a copy of `own` over the sides `copied`. It is `Done` if `own` extends them, and `HasMore` if not.
 abbrev pub ReplacesSides : SidesOf → SidesOf → Copied → Type 0
 ReplacesSides own copied Done = Extends own copied
 ReplacesSides own copied HasMore = Extends own copied → ⊥
 ReplacesSides own copied NoRecord = ⊥
 
--- A copy of `own` replaces what was read as a record, if that is one which `own` extends.
+-- The result of a copy of `own` over bytes that were read as a record. If they are none, it is `NoRecord`.
 abbrev pub ReplacesRead : SidesOf → Result SidesOf RecordFault → Copied → Type 0
 ReplacesRead own (Ok copied) result = ReplacesSides own copied result
 ReplacesRead own (Err fault) result = result ≡ NoRecord
 
--- A copy of `own` replaces the content of a store, if there is none, or a record that `own` extends.
+-- The result of a copy of `own` over the content of a store. If there is none, it is `Done`.
 abbrev pub Replaces : SidesOf → Option (List ℕ) → Copied → Type 0
 Replaces own None result = result ≡ Done
 Replaces own (Some bytes) result = ReplacesRead own (records_at bytes) result
 
--- If the content of the store is known, a copy of `own` replaces it as `Replaces` says.
+-- If the content of the store is known, the result of a copy of `own` is as `Replaces` says.
 abbrev pub ReplacesKnown : SidesOf → Option (Option (List ℕ)) → Copied → Type 0
 ReplacesKnown own None result = Unit {0}
 ReplacesKnown own (Some content) result = Replaces own content result

@@ -25,7 +25,7 @@ der_word (ders.Length at) = codes "length"
 der_word (ders.Field at) = codes "field"
 der_word ders.OutOfMemory = codes "memory"
 
--- Returns the place of a fault in the bytes, if it has one.
+-- Returns the text of the offset of a fault in the bytes. If it has none, it is empty.
 abbrev pub place_text : Option ℕ → List ℕ
 place_text None = []
 place_text (Some at) = codes " at " ++ decimal at
@@ -45,7 +45,7 @@ delay_text delays.Record = codes "record"
 delay_text delays.NoSuchTransaction = desk_outcome_word seen.NoSuchTransaction
 delay_text delays.DeskFull = desk_outcome_word seen.DeskFull
 
--- Returns the line of a mail that is put aside or waits.
+-- Returns the line of the mail `name`, which is put aside or waits. `word` says which, and `reason` why.
 abbrev pub stays_line : List ℕ → List ℕ → List ℕ → List ℕ
 stays_line name word reason = escaped name ++ (word ++ (reason ++ codes "\n"))
 

@@ -21,17 +21,17 @@ use std::io::Write;
 /// The reason why a mail wants a person.
 #[derive(Clone, Copy, Debug, PartialEq, Eq, Hash)]
 pub(crate) enum Matter {
-    /// It was put aside.
+    /// The mail was put aside.
     Aside,
-    /// It cannot be read.
+    /// The mail cannot be read.
     NotRead,
-    /// It is the record of a desk.
+    /// The mail is the record of a desk.
     Record,
     /// A requester's desk has no such loan.
     NoSuchTransaction,
-    /// The desk has no room for its loan.
+    /// The desk has no room for the loan of the mail.
     DeskFull,
-    /// No loss, delay or repeat of mail explains its conflict.
+    /// The message of the mail is in conflict, which no loss, delay or repeat of mail explains.
     Conflict,
 }
 

@@ -67,39 +67,39 @@ impl Mail {
 /// The reason why no desk will ever take a mail.
 #[derive(Clone, Copy, Debug, PartialEq, Eq, Hash)]
 pub enum Unfit {
-    /// Its bytes are no message.
+    /// The bytes of the mail are no message.
     NoMessage(DerFault),
-    /// It has more bytes than a message.
+    /// The mail has more bytes than a message.
     TooLong,
-    /// It has further bytes after its message.
+    /// The mail has further bytes after its message.
     Trailing,
-    /// It is no letter that the other library has sealed with the key of the run.
+    /// The mail is no letter that the other library has sealed with the key of the run.
     NotSealed,
-    /// The desk refuses its message for good.
+    /// The desk refuses the message of the mail for good.
     Refused(Refusal),
 }
 
 /// The reason why a mail waits for the next run.
 #[derive(Clone, Copy, Debug, PartialEq, Eq, Hash)]
 pub enum Delay {
-    /// It cannot be read.
+    /// The mail cannot be read.
     NotRead,
-    /// It begins as the record of a desk does, and came into the folder by mistake.
+    /// The mail begins as the record of a desk does, and came into the folder by mistake.
     Record,
-    /// The desk has not begun the loan of its message.
+    /// The desk has not begun the loan of the mail's message.
     NoSuchTransaction,
-    /// The desk has no room for the loan of its message.
+    /// The desk has no room for the loan of the mail's message.
     DeskFull,
 }
 
 /// The verdict of a mail.
 #[derive(Clone, Copy, Debug, PartialEq, Eq, Hash)]
 pub enum Verdict {
-    /// The desk will do nothing more with it. Its file may be removed.
+    /// The desk will do nothing more with the mail. Its file may be removed.
     Done(DeskOutcome),
-    /// It is put aside, for a person.
+    /// The mail is put aside, for a person.
     Aside(Unfit),
-    /// It waits in its folder for the next run.
+    /// The mail waits in its folder for the next run.
     Left(Delay),
 }
 

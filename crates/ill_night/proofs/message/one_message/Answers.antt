@@ -1,4 +1,4 @@
--- Answers the contract of `one_message` (`src/inbox.rt`).
+-- Answers the contract of `one_message` (`src/message.rt`).
 use Rattle.std.proofs.Common.{rules, ◌+◌, ◌≤◌, length}
 use Rattle.ill_der.specs.ShortForm.{apdu_at}
 use Rattle.ill_night.proofs.MailsLemmas.{trailing_unfit}

@@ -1,4 +1,4 @@
--- Proves how the list of the deeds that a day asks for is split at a loan.
+-- Proves how the list of the deeds that a day makes due is split at a loan.
 use Rattle.std.proofs.Common.{◌≡◌, ℕ, zero, suc, ◌++◌, List, [], ◌∷◌, drop, Option, Some, None, refl}
 use Rattle.std.specs.Prelude.{slice_get}
 use Rattle.std.specs.Option.{option_to_list}

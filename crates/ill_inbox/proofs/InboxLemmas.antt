@@ -10,7 +10,8 @@ use Rattle.ill_inbox.specs.Inbox.{Arrived, EndedWell, RunsInbox, Sorting, answer
 use Rattle.ill_inbox.specs.Inbox.{tally_of}
 use Rattle.ill_inbox.specs.Objects.{told_tally}
 
--- If the counts are appended to what is told of sorted mails, the state is the concluded one.
+-- If `sorted` is `end`, and `told` is its text and then the counts, `sorted` with `told` is `concluded waiting end`.
+-- `tally` has the counts of its verdicts.
 pub concluded_is : {L : Type 0} (waiting : ℕ) (sorted end : Sorting L) (verdicts : List Verdict) (tally : Tally) (told : List ℕ)
     → sorted ≡ end → verdicts ≡ sorted.verdicts → tally ≡ tally_of verdicts
     → told ≡ sorted.told ++ told_tally sorted.form tally waiting

@@ -6,19 +6,20 @@ use Rattle.ill_record.specs.declared.role.Role.{Role}
 use Rattle.ill_record.specs.declared.role.Role.TheVariants.{Requester, Responder}
 use Rattle.ill_files.specs.ShelfNames.{AreDeskNames, IsDeskName, IsNamedOnShelf}
 
--- If `P` holds of some texts and of one more, it holds of all of them.
+-- If `P` holds of the texts of `old`, and of `name`, it holds of the texts of `new`. `new` is `old` and then `x`, whose
+-- text is `name`.
 pub one_more : {A : Type 0} (P : List ℕ → Type 0) (text : A → List ℕ) (old new : List A) (x : A) (name : List ℕ)
     → new ≡ old ++ x ∷ [] → text x ≡ name → P name → All P (map text old) → All P (map text new)
 one_more {A} P text old new x name more same is all =
     subst (λ (items : List A). All P (map text items)) (sym more)
     (subst (All P) (sym (map-append text old (x ∷ []))) (All-push P (map text old) (text x) all (subst P (sym same) is)))
 
--- The name of the desk of a group is one on a shelf.
+-- If `name` is the name of the desk of a group, it is one of the names on a shelf.
 named : (role : Role) (name : List ℕ) → IsDeskName role name → IsNamedOnShelf name
 named Requester name is = inr (inl is)
 named Responder name is = inr (inr is)
 
--- The name of a desk that was found at a place is one on a shelf.
+-- If all texts of `items` are names of desks, that of `item` is one of the names on a shelf. `item` is at `place`.
 pub named_at : {A : Type 0} (role : Role) (text : A → List ℕ) (items : List A) (place : ℕ) (item : A)
     → AreDeskNames role (map text items) → place < length items → item ≡ get_or items place item → IsNamedOnShelf (text item)
 named_at role text items place item are within at =

@@ -1,4 +1,4 @@
--- Proves what the names of a shelf's desks tell.
+-- Proves that the name of a desk tells its group, and decides which names are those of desks.
 use Rattle.std.proofs.Common.{arith, ◌≡◌, ℕ, ◌-◌, ◌<◌, ◌++◌, Bool, true, false, true≢false, List, All, length, take, codes}
 use Rattle.std.proofs.Common.{Result, Ok, Err, refl, ap, sym, subst, ◌∙◌}
 use Rattle.std.specs.Prelude.{Decides, bytes_eq, is_ok}
@@ -65,7 +65,8 @@ checked_ok : (checked : Result (Unit {0}) TextFault) → is_ok checked ≡ true 
 checked_ok (Ok done) is = refl
 checked_ok (Err fault) is = absurd (true≢false (sym is))
 
--- If the group in `name` is a qualifier, `name` is that of a desk if and only if it is that of the group's desk.
+-- If the group in `name` is a qualifier, `met` decides whether `name` is that of a desk. `met` is true if `name` is the
+-- name of the desk of that group.
 pub desk_decided : (role : Role) (name group : List ℕ) (met : Bool) → group ≡ group_in role name
     → is_ok (qualifier_check group) ≡ true → met ≡ bytes_eq (desk_name role group) name → Decides met (IsDeskName role name)
 desk_decided role name group met same is eq =

@@ -17,7 +17,7 @@ abbrev pub after_writing : Result (Unit {0}) ToolFault → Result Bool ToolFault
 after_writing (Ok done) answer = answer
 after_writing (Err fault) answer = Err fault
 
--- An answer satisfies `Answers`, and the result is true in its place, or its fault.
+-- `Answers` holds of some answer of a command. `result` is true in place of that answer, or its fault.
 abbrev pub GoesWell : {A : Type 0} → (Result A ToolFault → Type 0) → Result Bool ToolFault → Type 0
 GoesWell {A} Answers result = (answer : Result A ToolFault) × Answers answer × (result ≡ all_well answer)
 

@@ -23,7 +23,7 @@ own_path folder = folder ++ (codes "/" ++ codes ".shelf")
 abbrev pub group_in : Role → List ℕ → List ℕ
 group_in role name = percent_decode (take (length name - length (role_name role) - 1) name)
 
--- `name` is the name of the desk of a group.
+-- `name` is the name of the desk of `role` of some group.
 abbrev pub IsDeskName : Role → List ℕ → Type 0
 IsDeskName role name = (group : List ℕ) × IsQualifier group × (name ≡ desk_name role group)
 
@@ -31,7 +31,7 @@ IsDeskName role name = (group : List ℕ) × IsQualifier group × (name ≡ desk
 abbrev pub IsNamedOnShelf : List ℕ → Type 0
 IsNamedOnShelf name = (name ≡ codes ".shelf") ⊎ (IsDeskName Requester name ⊎ IsDeskName Responder name)
 
--- Each of `names` is the name of the desk of a group.
+-- Each of `names` is the name of the desk of `role` of some group.
 abbrev pub AreDeskNames : Role → (names : List (List ℕ)) → Type 0
 AreDeskNames role names = All (IsDeskName role) names
 

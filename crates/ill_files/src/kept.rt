@@ -48,7 +48,7 @@ impl Kept {
     }
 }
 
-/// The open file. A write appends to it, and a flush makes it durable.
+/// The open file beside a desk. A write appends to it, and a flush makes it durable.
 #[derive(Drop)]
 pub struct KeptFile<F> {
     file: F,

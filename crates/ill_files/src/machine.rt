@@ -1,4 +1,4 @@
-//! What every command has at hand.
+//! The files, the memory and the outputs that every command has at hand.
 
 ghost use Rattle.std.specs.Prelude.{◌≡◌};
 
@@ -7,7 +7,7 @@ use ill_text::warning::{warn, warn_of_fault};
 use std::alloc::Global;
 use std::io::Write;
 
-/// What every command has at hand: files and memory, and where it writes.
+/// The machine of a command: its files, its memory and its outputs.
 #[derive(Drop)]
 pub struct Machine<'a, T, W, E> {
     /// The runtime, which has the files.

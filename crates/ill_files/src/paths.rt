@@ -31,7 +31,7 @@ pub const BESIDE: [&str; 7] = [".new", ".lck", CAME, NOTES, DIARY, MAIL, RETIRED
 /// The number of bytes of names that are read from a folder at once. Any name fits.
 const NAMES: usize = 4096;
 
-/// The ending of the name of the folder, after the name of the desk's file.
+/// The ending of the name of the folder of mails, after the name of the desk's file.
 pub const MAIL: &str = ".mail";
 
 /// The ending of the name of the file that marks a retired group, after the name of its desk.

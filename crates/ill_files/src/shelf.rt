@@ -216,7 +216,7 @@ fn desk_in<'a>(
     }
 }
 
-/// Returns true if `name` is the name of the desk of a group.
+/// Returns true if `name` is the name of the desk of `role` of some group.
 pub(crate) fn is_desk_name(alloc: Global, role: Role, name: &str) -> Result<bool, OutOfMemory>
     ensures { IfOk result (λ is_name. Decides is_name (IsDeskName role name.now)) }
 {

@@ -11,7 +11,7 @@ use Rattle.ill_seal.specs.Letter.{sealed, opened}
 use Rattle.ill_text.specs.declared.fault.ToolFault.TheVariants.{NotSealed}
 use Rattle.ill_key.specs.Letter.{LeavesSealed, OpensLetter, own_sender, other_sender}
 
--- A letter of the other role opens with its key.
+-- If each letter opens for its sender (first premise), a desk of `role` opens those that `other` has sealed.
 pub of_other : ((key text : List ℕ) (sender : Sender) → opened key sender (sealed key sender text) ≡ Ok text)
     → (key text : List ℕ) (role other : Role) → own_sender other ≡ other_sender role
     → opened key (other_sender role) (sealed key (own_sender other) text) ≡ Ok text
@@ -19,7 +19,7 @@ of_other opens key text role other is =
     subst (λ (sender : Sender). opened key (other_sender role) (sealed key sender text) ≡ Ok text) (sym is)
     (opens key text (other_sender role))
 
--- No key opens a letter of the role itself.
+-- If no letter opens for another sender (first two premises), a desk of `role` opens no letter of that role.
 pub of_own : ((key other text : List ℕ) → opened key Requester (sealed other Responder text) ≡ Err faults.Sender)
     → ((key other text : List ℕ) → opened key Responder (sealed other Requester text) ≡ Err faults.Sender)
     → (key other text : List ℕ) (role : Role)
@@ -27,7 +27,7 @@ pub of_own : ((key other text : List ℕ) → opened key Requester (sealed other
 of_own responders requesters key other text roles.Requester = requesters key other text
 of_own responders requesters key other text roles.Responder = responders key other text
 
--- An input that gives messages opens, and gives these.
+-- If each letter opens for its sender (first premise), an input `bytes` from which `text` was taken opens as `text`.
 pub by_seal : ((key text : List ℕ) (sender : Sender) → opened key sender (sealed key sender text) ≡ Ok text)
     → (key bytes text : List ℕ) (sender : Sender) → OpensLetter key sender (Some bytes) (Some []) text
     → opened key sender bytes ≡ Ok text
@@ -35,7 +35,7 @@ by_seal opens key bytes text sender is =
     let all : bytes ≡ sealed key sender text = is.0 ∙ append-nil (sealed key sender text) in
     subst (λ (letter : List ℕ). opened key sender letter ≡ Ok text) (sym all) (opens key text sender)
 
--- No input within the limit is longer than it.
+-- If `bytes` has at most 1,048,613 bytes, and is `longer`, then `longer` cannot have more.
 not_longer : (bytes longer : List ℕ) → length bytes ≤ 1048613 → bytes ≡ longer ++ [] → 1048613 < length longer → ⊥
 not_longer bytes longer few is many =
     let same : bytes ≡ longer = is ∙ append-nil longer in
@@ -44,7 +44,8 @@ not_longer bytes longer few is many =
     let fits = all few in
     omega (arith, fits, many)
 
--- An input within the limit that is left as not sealed does not open.
+-- If `bytes` is within the limit and was refused with the fault `NotSealed`, it does not open.
+-- The reading cannot have stopped: `bytes` is not too long, and a failed read or want of memory is another fault.
 pub left_sealed : (key bytes : List ℕ) (sender : Sender) → length bytes ≤ 1048613
     → LeavesSealed key sender (Some bytes) (Some []) NotSealed → IsErr (opened key sender bytes)
 left_sealed key bytes sender few is = elim is [

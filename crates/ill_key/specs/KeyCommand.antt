@@ -60,7 +60,8 @@ ReadsKey left rest before after result =
     (IsErrAnd result (IsNoKeyText left rest) × (after ≡ before))
     ⊎ ((key : List ℕ) × IsKeyText left rest key × MakesKey before after result)
 
--- The command `key` has this result.
+-- The command `key` has this result for a deed. The input goes from `left` to `rest`, and the output from `before` to
+-- `after`.
 abbrev pub RunsKey : KeyDeed → Option (List ℕ) → Option (List ℕ) → Option (List ℕ) → Option (List ℕ) → Result Bool ToolFault →
     Type 0
 RunsKey deeds.Make left rest before after result = (rest ≡ left) × MakesKey before after result

@@ -17,7 +17,7 @@ use std::alloc::Global;
 use std::io::{Read, Write};
 use std::rt::Files;
 
-/// What the command does.
+/// A deed of the command `key`.
 #[derive(Clone, Copy)]
 pub enum KeyDeed {
     /// Make a key.

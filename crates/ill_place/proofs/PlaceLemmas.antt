@@ -16,7 +16,8 @@ has_landed : {S : Type 0} (landed : Option (List ℕ)) (plan : Option NextCall) 
 has_landed (Some bytes) plan desk begins = (bytes, refl, begins.0)
 has_landed None plan desk begins = absurd begins
 
--- A desk that starts over a store of a place starts at the place.
+-- If `store` is at `place`, and a load of it gives `desk` with all messages released, `desk` starts at `place`.
+-- If the store is honest after the load, it was honest before (`was`).
 pub started : {S : Type 0} (place : PlaceOf S) (store : S) (desk : DeskOf DeskContents S) → IsAt place store
     → ((place.state store).is_honest ≡ true
     → Begins {S = S} many_sides.read many_sides.begins (λ (desk : DeskOf DeskContents S). desk.live)
@@ -38,7 +39,8 @@ has_none : (landed : Option (List ℕ)) (plan : Option NextCall) → Creates lan
 has_none None plan creates = refl
 has_none (Some bytes) plan creates = absurd creates
 
--- A desk that is created over a store of a place begins at the place.
+-- If `store` is at `place`, and `desk` is created over it without sides, `desk` begins at `place`.
+-- If the store is honest after that, it was honest before (`was`).
 pub begun : {S : Type 0} (place : PlaceOf S) (role : Role) (store : S) (desk : DeskOf DeskContents S) → IsAt place store
     → ((place.state store).is_honest ≡ true → Creates (place.state store).landed (place.state store).plan (Ok tt))
     → desk.live ≡ no_sides role
@@ -52,13 +54,13 @@ begun place role store desk at creates empty loads = record {
   empty = empty;
 }
 
--- A desk that is begun at a place is opened there.
+-- If `result` is a desk that begins at `place`, it is a desk that is opened there.
 pub opens_begun : {S F : Type 0} (place : PlaceOf S) (result : Result (DeskOf DeskContents S) F)
     → IfOk result (λ (desk : DeskOf DeskContents S). (role : Role) × BeginsAt place role desk) → IfOk result (OpensAt place)
 opens_begun place (Ok desk) begins = inr begins
 opens_begun place (Err fault) begins = tt
 
--- No desk that is elsewhere starts at a place.
+-- If `desk` is elsewhere than `place`, it does not start there. Each case contradicts one field of `StartsAt`.
 pub none_elsewhere : {S : Type 0} (place : PlaceOf S) (desk : DeskOf DeskContents S) → IsElsewhere place desk
     → StartsAt place desk → ⊥
 none_elsewhere place desk (other_path path at differs) starts = differs (same_Some path place.path (sym at ∙ starts.path))

@@ -129,8 +129,8 @@ impl<D: DeskFiles> DeskPlace<'_, D> {
         Ok(LockedAt { desk, lock })
     }
 
-    /// Loads the desk under `lock`, the lock of its file. If it has no record and `role` is one, it begins a desk of that
-    /// role. Nothing of that desk is saved yet.
+    /// Loads the desk under `lock`, the lock of its file. If it has no record and there is a `role`, it begins a desk
+    /// of that role. Nothing of that desk is saved yet.
     pub fn open_or_begin(
         &self,
         alloc: Global,
@@ -158,7 +158,7 @@ fn start<S: Store + Drop>(alloc: Global, store: S) -> Result<Desk<S>, ToolFault>
     }
 }
 
-/// Loads the desk whose record `store` has. If it has none and `role` is one, it begins a desk of that role.
+/// Loads the desk whose record `store` has. If it has none and there is a `role`, it begins a desk of that role.
 #[tactic(auto, using(crate::proofs::PlaceLemmas::started))]
 fn start_or_begin<S: Store + Drop>(
     alloc: Global,

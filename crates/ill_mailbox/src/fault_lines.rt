@@ -8,15 +8,19 @@ use ill_text::fault::ToolFault;
 use std::io::Write;
 use std::rt::Files;
 
-/// The texts that follow the path of a file or folder that has failed.
+/// The text after the path of a desk whose folder of mail cannot be opened.
 pub const NO_BOX: &str = ".mail is no folder that its owner alone may enter";
 
+/// The text after the path of a desk in whose folder of mail a run can make no folder.
 pub const NO_RUN: &str = ".mail cannot be written";
 
+/// The text after the path of a folder from which no mails can be read.
 pub const NOT_READ: &str = " is no folder of mails that can be read";
 
+/// The text after the path of a mail that cannot be put into OUT.
 const NOT_SENT: &str = " is not written, so nothing more is sent";
 
+/// The text after a path at which there should be a folder.
 pub(crate) const NO_FOLDER: &str = " is no folder";
 
 /// Returns `sent`. If a mail could not be put into its folder, a line with its path goes to the errors.

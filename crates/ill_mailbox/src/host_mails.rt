@@ -169,7 +169,7 @@ impl<'r, T: Files> Disk for HostMails<'r, T> {
         Ok(fs::remove_file(self.rt, path_of(path)?)?)
     }
 
-    /// No folder has all names.
+    /// Fails, since no folder of the host's has all names.
     fn flush_names(&mut self) -> Result<(), DiskFault> {
         Err(DiskFault::Failed)
     }

@@ -39,9 +39,9 @@ pub struct HostRoom<'r, 'a, T: Files> {
 enum Giving {
     /// Mails of other desks have left that folder, too. So it is not flushed.
     Unflushed,
-    /// It is flushed, once the mails that have left it are durable.
+    /// The folder is flushed, once the mails that have left it are durable.
     First,
-    /// It is flushed.
+    /// The folder is flushed. The mails that have left it are durable already.
     Flushed,
 }
 

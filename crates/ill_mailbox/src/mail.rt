@@ -299,8 +299,8 @@ pub fn claim_mails<T: Files>(
     Ok(all_mails(rt, alloc, mail_box, source, Some(run))?)
 }
 
-/// Reads the mails that a shelf has sorted from the folder of `place` to the desk there. A carrier that opened a mail before the
-/// claim may still write to it. If its message is then for another desk, its bytes are hidden.
+/// Reads the mails that a shelf has sorted from the folder of `place` to the desk there. A carrier that opened a mail
+/// before the claim may still write to it. If its message is then for another desk, its bytes are hidden.
 pub fn sorted_mails<T: Files>(
     rt: &T,
     alloc: Global,

@@ -40,18 +40,24 @@ pub fn open_box<T: Files>(
 /// The folder of a desk's mail.
 #[derive(Drop)]
 pub struct MailBox {
+    /// Its path.
     path: String,
+    /// The path of the folder of the claimed mails in it.
     claimed: String,
+    /// The owner of all that is made in it.
     owner: Owner,
 }
 
 /// The file of a desk, the folder from which its mails come, and the folder of its mail.
 #[derive(Clone, Copy)]
 pub struct MailPaths<'a> {
+    /// The path of the desk's file.
     pub file: &'a str,
+    /// The path of the folder from which the mails come.
     pub folder: &'a str,
     /// Set if a shelf has sorted the mails of the folder.
     pub is_sorted: bool,
+    /// The folder of the desk's mail.
     pub mail_box: &'a MailBox,
 }
 

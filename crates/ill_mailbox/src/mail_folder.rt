@@ -17,6 +17,7 @@ use std::rt::Files;
 pub struct MailFolder<'r, 'a, R: Files> {
     rt: &'r R,
     alloc: Global,
+    /// The path of the folder.
     path: &'a str,
     /// The name of a mail that could not be put there.
     failed: Option<Vec<u8>>,
@@ -59,6 +60,7 @@ impl<'r, 'a, R: Files> MailFolder<'r, 'a, R> {
 impl<'r, 'a, R: Files> Outgoing for MailFolder<'r, 'a, R> {
     ghost Mails = { List Letter };
 
+    // The mails in the folder are not known, since others may put anything there.
     ghost mails = { λ _. None };
 
     ghost after = { λ there letter. there };

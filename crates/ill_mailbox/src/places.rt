@@ -13,13 +13,16 @@ use std::io::Write;
 use std::rt::Files;
 use std::{fs, io};
 
-/// The texts that follow the path of a folder or a file.
+/// The text after the path of a folder in which no mail may be.
 const RESERVED: &str = " is no folder for mails: it belongs to a desk or a shelf";
 
+/// The text after the path of a folder that is given twice.
 const BOTH: &str = " is IN as well as OUT";
 
+/// The text after the folder of a copy or of a sign of life, if it is IN or OUT.
 const AMONG_MAILS: &str = " lies in IN or OUT, where it would be a mail";
 
+/// The text after the path of a copy, if it leads to the desk or the shelf itself.
 const ORIGINAL: &str = " is the original, and no copy of it";
 
 /// The places of the desks of a run.

@@ -22,14 +22,15 @@ use Rattle.ill_room.specs.Letters.{file_verdict, file_verdicts, is_in, worse, wo
 use Rattle.ill_mail.specs.Rooms.{IsDone, IsDoneInSaved, OutState, SendsInRooms, SettlesSaved, TakesInRoom}
 use Rattle.ill_mail.specs.BadRooms.{IsBadTaking, unsaved, IsBadSending, uncopied, signed_early, no_outbox}
 
--- No taking is bad.
+-- If `TakesInRoom` allows a taking, `IsBadTaking` does not hold of it.
 pub none_takes : (mails : List Mail) (desk : HeldAndLanded DeskContents) (old new : RoomState)
     (taken : Result (List Verdict) ToolFault) → IsBadTaking mails desk old new → TakesInRoom mails desk old taken new → ⊥
 none_takes mails desk old new (Ok verdicts) (unsaved none moved) takes = none verdicts takes.saved
 none_takes mails desk old new (Err fault) (unsaved none moved) (inl same) = moved same
 none_takes mails desk old new (Err fault) (unsaved none moved) (inr (verdicts, takes)) = none verdicts takes.saved
 
--- No sending is bad.
+-- If `SendsInRooms` allows a sending, `IsBadSending` does not hold of it. Each case contradicts one field of
+-- `SendsInRooms`.
 pub none_sends : {M : Type 0} (Puts : Putting M) (asked : List ℕ) (desk : DeskContents) (old new : OutState M) →
     IsBadSending Puts asked desk old new → SendsInRooms Puts asked desk old new → ⊥
 none_sends Puts asked desk old new (uncopied honest wants other sent) sends =
@@ -46,7 +47,7 @@ abbrev is_gone : Option Place → Bool
 is_gone (Some places.Gone) = true
 is_gone place = false
 
--- Only a done mail is removed.
+-- If a claimed mail with the verdict `v` may be gone once it is settled, `v` is `Done`.
 gone_is_done : (v : Option Verdict) → MaySettle v (Some places.Claimed) (Some places.Gone) → IsDone v
 gone_is_done None same = absurd (true≢false (ap is_gone same))
 gone_is_done (Some (Done outcome)) moved = (outcome, refl)
@@ -70,7 +71,7 @@ has_done verdict = false
 left_is_not_done : (delay : Delay) → IsDone (Some (Left delay)) → ⊥
 left_is_not_done delay done = true≢false (sym (ap has_done done.1))
 
--- If the worse of two verdicts is that of a done mail, so is the first one.
+-- If the worse of the verdicts `first` and `other` is `Done`, so is `first`.
 worse_is_done : (first other : Verdict) → IsDone (Some (worse first other)) → IsDone (Some first)
 worse_is_done (Done outcome) other done = (outcome, refl)
 worse_is_done (Left delay) other done = done
@@ -78,13 +79,13 @@ worse_is_done (Aside unfit) (Left delay) done = absurd (left_is_not_done delay d
 worse_is_done (Aside unfit) (Aside other) done = done
 worse_is_done (Aside unfit) (Done outcome) done = done
 
--- The same holds if the other verdict counts only for some mails.
+-- A verdict is `first`, or the worse of `first` and `other` if `counts` is true. If it is `Done`, so is `first`.
 worse_if_is_done : (counts : Bool) (first other : Verdict) → IsDone (Some (if counts then worse first other else first)) →
     IsDone (Some first)
 worse_if_is_done true first other done = worse_is_done first other done
 worse_if_is_done false first other done = done
 
--- If the worst verdict in a letter is that of a done mail, so is the first one.
+-- If the worst of `first` and of the verdicts in the letter `number` is `Done`, so is `first`.
 worst_is_done : (number : ℕ) (mails : List (Mail × Verdict)) (first : Verdict) →
     IsDone (Some (fold (worse_if_in number) first mails)) → IsDone (Some first)
 worst_is_done number [] first done = done
@@ -92,13 +93,13 @@ worst_is_done number (mail ∷ mails) first done =
     worse_if_is_done (is_in number mail.0.letter) first mail.1
     (worst_is_done number mails (worse_if_in number first mail) done)
 
--- If the file of a mail is settled as that of a done mail, the mail is done.
+-- If the verdict for the file of a mail is `Done`, so is `verdict`, its own.
 file_is_done : (all : List (Mail × Verdict)) (letter : Option InLetter) (verdict : Verdict) →
     IsDone (Some (file_verdict all letter verdict)) → IsDone (Some verdict)
 file_is_done all None verdict done = done
 file_is_done all (Some letter) verdict done = worst_is_done letter.number all verdict done
 
--- The same holds of the mail with a number in the run.
+-- If the verdict for the file of the mail `number` in a run is `Done`, so is its own verdict.
 own_is_done : (all : List (Mail × Verdict)) (mails : List Mail) (verdicts : List Verdict) (number : ℕ) →
     IsDone (slice_get (map (λ mail. file_verdict all mail.0.letter mail.1) (zip mails verdicts)) number) →
     IsDone (slice_get verdicts number)
@@ -124,7 +125,8 @@ settled_gone mails verdicts desk old new answer mail settles honest was is = (
       ((settles.ends.done honest).each mail)))),
 )
 
--- What is gone has landed.
+-- If a claimed mail is gone after a taking, it was done in a run that is saved. If nothing was done in the room, no
+-- mail is gone.
 pub gone_has_landed : (mails : List Mail) (desk : HeldAndLanded DeskContents) (old new : RoomState)
     (taken : Result (List Verdict) ToolFault) (mail : ℕ) → TakesInRoom mails desk old taken new →
     old.is_honest ≡ true → place_of old mail ≡ Some places.Claimed → place_of new mail ≡ Some places.Gone →

@@ -1,9 +1,9 @@
--- Proves what commands on mails with a key and without one have in common.
+-- Proves that a command may do with a key what it does without one.
 use Rattle.std.proofs.Common.{ℕ, Bool, List, Option, None, Some, Result, inr}
 use Rattle.ill_text.specs.declared.fault.ToolFault.{ToolFault}
 use Rattle.ill_mail.specs.Keyed.{WithKey}
 
--- A command that does something without its key does it with the key, too.
+-- If `Does` holds of a command, so does `WithKey key Does`, whether there is a key or not.
 pub without_key : (key : Option (List ℕ)) (Does : Option (List ℕ) → Option (List ℕ) → Result Bool ToolFault → Type 0)
     (before after : Option (List ℕ)) (result : Result Bool ToolFault) → Does before after result
     → WithKey key Does before after result

@@ -5,20 +5,20 @@ use Rattle.ill_saved.specs.ManySides.{DeskContents}
 use Rattle.ill_place.specs.Place.{PlaceOf, StartsAt}
 use Rattle.ill_mail.specs.Nights.{AskedNight, ExchangesAtFile, InboxAtFile, OutboxAtFile}
 
--- No mail is taken there.
+-- If no desk starts at `place`, no `inbox` ends well there.
 pub takes_nowhere : {S : Type 0} (place : PlaceOf S) (is_well : Bool) (before after : Option (List ℕ))
     → ((desk : DeskOf DeskContents S) → StartsAt place desk → ⊥) → InboxAtFile place before after (Ok is_well) → ⊥
 takes_nowhere place is_well before after elsewhere (inl fails) = absurd fails.0
 takes_nowhere place is_well before after elsewhere (inr takes) = elsewhere takes.0 takes.2
 
--- No message is sent from there.
+-- If no desk starts at `place`, no `outbox` ends well there.
 pub sends_nowhere : {S : Type 0} (place : PlaceOf S) (has_folder is_well : Bool) (before after : Option (List ℕ))
     → ((desk : DeskOf DeskContents S) → StartsAt place desk → ⊥)
     → OutboxAtFile has_folder place before after (Ok is_well) → ⊥
 sends_nowhere place has_folder is_well before after elsewhere (inl fails) = absurd fails.0
 sends_nowhere place has_folder is_well before after elsewhere (inr sends) = elsewhere sends.0 sends.1
 
--- No night is performed there.
+-- If no desk starts at `place`, no `exchange` ends well there.
 pub exchanges_nowhere : {S : Type 0} (place : PlaceOf S) (asked : AskedNight) (is_well : Bool) (before after : Option (List ℕ))
     → ((desk : DeskOf DeskContents S) → StartsAt place desk → ⊥)
     → ExchangesAtFile asked place before after (Ok is_well) → ⊥

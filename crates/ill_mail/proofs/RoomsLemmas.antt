@@ -1,4 +1,4 @@
--- The copy of a desk, the sending of its messages and the sign of life, one after another.
+-- Proves the order at the end of a night: the copy of the desk, then its messages, then the sign of life.
 use Rattle.std.proofs.Common.{◌≡◌, ◌⊎◌, inl, inr, refl, sym, subst, ◌∙◌, ℕ, Bool, List, Option, Result, Ok, Err}
 use Rattle.ill_values.specs.Day.{Date}
 use Rattle.ill_saved.specs.ManySides.{DeskContents, sides_held}
@@ -14,19 +14,19 @@ use Rattle.ill_room.specs.Backup.{BackupState, CopiesDesk, HasCopy, IsSameWish, 
 use Rattle.ill_mail.specs.Nights.{AskedNight, ExchangesAt, FinishesNight, Night, TakesMails}
 use Rattle.ill_mail.specs.Rooms.{NightOver, OutState, PutsAsked, SendsInRooms, SendsThenSigns, TakesFound}
 
--- A copy that was there is there after what leaves it as it was.
+-- If `HasCopy` holds of `x`, and `y` has the copy and the wish of `x`, `HasCopy` holds of `y`.
 still_copied : (desk : DeskContents) (x y : BackupState) → y.copied ≡ x.copied → IsSameWish x y →
     HasCopy (sides_held desk) x → HasCopy (sides_held desk) y
 still_copied desk x y same wish (inl none) = inl (wish.copy ∙ none)
 still_copied desk x y same wish (inr there) = inr (same ∙ there)
 
--- A sign of life after a copy is one after the sending.
+-- Let `y` have the signs of `x`. If `z` has those of `y`, or `All` holds, then `z` has those of `x`, or `All` holds.
 signs_as_before : {All : Type 0} (x y z : BackupState) → y.signs ≡ x.signs → (z.signs ≡ y.signs) ⊎ All →
     (z.signs ≡ x.signs) ⊎ All
 signs_as_before x y z same (inl stays) = inl (stays ∙ same)
 signs_as_before x y z same (inr all) = inr all
 
--- After a copy the messages are sent.
+-- If the copy is done, and then messages are sent and signed (`SendsThenSigns`), both together are `SendsInRooms`.
 pub sends_copied : {M A : Type 0} (Puts : Putting M) (asked : List ℕ) (desk : DeskContents) (old new : OutState M)
     (copy : BackupState) (done : A) →
     Answers is_honest_backup (CopiesDesk (sides_held desk)) old.backup (Ok done) copy →
@@ -39,7 +39,7 @@ sends_copied Puts asked desk old new copy done copies sending = record {
       (sending.sign_last (copies.honest ∙ honest));
 }
 
--- If the copy fails, nothing is sent.
+-- If the copy fails, and nothing else changes, `SendsInRooms` holds: nothing was sent and no sign given.
 pub sends_nothing : {M : Type 0} (Puts : Putting M) (asked : List ℕ) (desk : DeskContents) (old : OutState M)
     (copy : BackupState) (fault : ToolFault)
     → Answers is_honest_backup (CopiesDesk {A = Unit {0}} (sides_held desk)) old.backup (Err fault) copy →
@@ -50,7 +50,7 @@ sends_nothing Puts asked desk old copy fault copies = record {
   sign_last = λ honest. inl (copies.done honest).signs;
 }
 
--- After all messages were sent, a sign of life is given, or that fails.
+-- If all messages were put, and then a sign of life was given, or that failed, `SendsThenSigns` holds.
 pub signs_after : {M A : Type 0} (Puts : Putting M) (asked : List ℕ) (desk : DeskContents) (old : OutState M)
     (sign : BackupState) (after : Option M) (done : A) → PutsAsked Puts asked desk old.out after (Ok done) →
     ((answer : Result (Unit {0}) ToolFault) × Answers is_honest_backup Signs old.backup answer sign) →
@@ -62,7 +62,7 @@ signs_after Puts asked desk old sign after done puts (answer, signs) = record {
   wish = λ honest. (signs.done honest).wish;
 }
 
--- If not all messages were sent, no sign of life is given.
+-- If the putting of messages failed, and nothing else changes, `SendsThenSigns` holds: no sign was given.
 pub signs_never : {M : Type 0} (Puts : Putting M) (asked : List ℕ) (desk : DeskContents) (old : OutState M)
     (after : Option M) (fault : ToolFault) → PutsAsked {A = Unit {0}} Puts asked desk old.out after (Err fault) →
     SendsThenSigns Puts asked desk old (record old { out = after })
@@ -75,12 +75,13 @@ signs_never Puts asked desk old after fault puts = record {
 
 -- ---- the commands
 
--- Mails that were found in a room are mails of a folder.
+-- If the mails that arrived were taken (`TakesFound`), `TakesMails` holds in their form.
 pub found_taken : (arrived : Arrived) (old new : CommandState DeskContents) (result : Result Night ToolFault) →
     TakesFound arrived old result new → TakesMails arrived.form old result new
 found_taken arrived old new result (answer, runs, settles) = inr (arrived.mails, arrived.waiting, answer, runs, settles)
 
--- Mails that were taken in a room, and told in this form, are mails of a folder. Before it and after it nothing was written.
+-- If the mails that arrived were taken, `TakesMails` holds in their form, with the output from `before` to `after`.
+-- Nothing was written before (`opened` is `before`) and after that (`after` is `told`).
 pub mails_taken : (arrived : Arrived) (form : Form) (old new : HeldAndLanded DeskContents)
     (before opened told after : Option (List ℕ)) (answer result : Result Night ToolFault) →
     TakesFound arrived (command_state old opened) answer (command_state new told) →
@@ -96,11 +97,12 @@ mails_taken arrived form old new before opened told after answer result takes in
     subst (λ (shown : Form). TakesMails shown (command_state old before) result (command_state new after)) in_form
     (found_taken arrived (command_state old before) (command_state new after) result answered)
 
--- Returns what a night over the mails that arrived is asked for.
+-- Returns the arguments of a night over the mails that arrived.
 abbrev pub asked_by_day : Arrived → Option (Date × Dates) → AskedNight
 asked_by_day arrived dates = record { form = arrived.form; dates = dates }
 
--- A night in rooms that keeps nothing is one of a desk. Before it and after it nothing was written.
+-- If a night over the mails that arrived was performed (`NightOver`), `ExchangesAt` holds, with the output from
+-- `before` to `after`. Nothing was written before (`opened` is `before`) and after that (`after` is `told`).
 pub night_opened : (arrived : Arrived) (dates : Option (Date × Dates)) (old new : HeldAndLanded DeskContents)
     (before opened told after : Option (List ℕ)) (answer result : Result Bool ToolFault) →
     NightOver arrived dates (command_state old opened) answer (command_state new told) →
@@ -121,7 +123,7 @@ night_opened arrived dates old new before opened told after answer result (met, 
           (command_state new told)) (sym same) finishes),
     )
 
--- If the mail of a desk cannot be opened, nothing is done.
+-- If the mail of a desk is not opened because of `fault`, and nothing is written, `ExchangesAt` allows that fault.
 pub night_unopened : (asked : AskedNight) (desk : HeldAndLanded DeskContents)
     (before after : Option (List ℕ)) (fault : ToolFault) → IsOpenFault fault → after ≡ before →
     ExchangesAt asked (command_state desk before) (Err fault) (command_state desk after)

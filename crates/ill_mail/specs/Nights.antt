@@ -156,12 +156,12 @@ abbrev pub AfterDeeds : Result (Unit {0}) ToolFault → Option (List ℕ) → Op
 AfterDeeds (Ok done) before after Sends result = Sends
 AfterDeeds (Err fault) before after Sends result = (result ≡ Err fault) × (after ≡ before)
 
--- What a night is asked for: the deeds of a day, if there are any, and the form in which all is told.
+-- The arguments of a night: the day and its deeds, if a day is given, and the form in which all is told.
 pub record AskedNight : Type 0 where
   pub form : Form
   pub dates : Option (Date × Dates)
 
--- Returns what a night of the code is asked for.
+-- Returns the arguments of a night of the code.
 abbrev pub asked_night : NightRun → AskedNight
 asked_night night = record { form = night.form; dates = night.dates }
 

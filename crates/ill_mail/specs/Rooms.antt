@@ -57,7 +57,7 @@ abbrev pub IsDoneInSaved : List Mail → HeldAndLanded DeskContents → ℕ → 
 IsDoneInSaved mails desk mail =
     (verdicts : List Verdict) × EndedWell mails verdicts desk × IsDone (slice_get verdicts mail)
 
--- Returns what the plan of a night asks for.
+-- Returns the arguments of the night of `plan`.
 abbrev pub asked_in : Plan → AskedNight
 asked_in plan = record { form = plan.batch.form; dates = plan.dates }
 
@@ -101,7 +101,8 @@ PutsAsked Puts asked desk before after (Ok done) = (count : ℕ) × RunsOutbox P
 PutsAsked Puts asked desk before after (Err fault) =
     (answer : Result ℕ ToolFault) × RunsOutbox Puts asked desk.held before after answer
 
--- The same messages leave, and then a sign of life is given. The copy stays.
+-- The messages of a desk that holds `desk` were put into the outlet, or some of them. A sign of life was given after
+-- all have left. The copy stays as it was.
 pub record SendsThenSigns {M : Type 0} (Puts : Putting M) (asked : List ℕ) (desk : DeskContents)
     (old new : OutState M) : Type 0 where
   pub sends : (new.out ≡ old.out)
@@ -132,7 +133,7 @@ NightInRooms Puts mails desk old new =
     (met : HeldAndLanded DeskContents) × (taken : Result (List Verdict) ToolFault)
     × TakesInRoom mails met old.mail taken new.mail × SendsAfter Puts mails taken desk.live old.leaving new.leaving
 
--- The same night at its desk: the mails that arrived were taken, and then the deeds of the day performed, and the messages
+-- A night at its desk: the mails that arrived were taken, and then the deeds of the day performed, and the messages
 -- of the desk sent. After the mails were taken nothing more is kept.
 abbrev pub NightOver : Arrived → Option (Date × Dates) → CommandState DeskContents → Result Bool ToolFault →
     CommandState DeskContents → Type 0

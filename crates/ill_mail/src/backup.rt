@@ -22,13 +22,16 @@ use std::path::Path;
 use std::rt::Files;
 use std::{fs, io};
 
-/// The texts that follow the path of a copy or of a sign of life.
+/// The text after the path of a copy that cannot be written.
 const NO_COPY: &str = " is not written, so nothing is sent";
 
+/// The text after the path of a copy that the desk does not extend.
 const HAS_MORE: &str = " holds what this desk has not: nothing is sent";
 
+/// The text after the path of a copy, if something else than a record is there.
 const NO_RECORD: &str = " is no record of a desk, and is not replaced: nothing is sent";
 
+/// The text after the path of a sign of life that cannot be written.
 const NO_BEAT: &str = " is not made anew";
 
 /// The copy of a desk in a file, and a sign of life.

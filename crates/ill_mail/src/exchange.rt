@@ -41,6 +41,7 @@ use std::alloc::Global;
 use std::io::Write;
 use std::rt::Files;
 
+/// The text after the path of a desk whose file of messages that came has failed.
 const NO_CAME: &str = ".came cannot be read or written";
 
 /// `ill inbox`: takes the mails of a folder.

@@ -65,10 +65,10 @@ pub struct Plan<'a> {
 /// Performs a night of `desk` in `rooms`: takes the mails of `plan`, performs the deeds of its day, copies the desk, sends
 /// its messages, and gives a sign of life.
 ///
-/// The mails of a letter share its file, which is settled by the worst of their verdicts. The file of a mail is removed, put
-/// aside or given back only after the desk is saved with all that the mails have
-/// brought. If the mails cannot be taken, nothing is sent. If the copy fails, nothing is sent. The sign of life is given
-/// only after all messages were sent. All this holds whichever call fails.
+/// The mails of a letter share its file, which is settled by the worst of their verdicts. The desk is saved with all
+/// that the mails have brought. Only then is the file of a mail removed, put aside or given back. If the mails
+/// cannot be taken, nothing is sent. If the copy fails, nothing is sent. The sign of life is given only after all
+/// messages were sent. All this holds whichever call fails.
 pub fn night_in<
     T,
     S: Store,
@@ -252,7 +252,7 @@ fn send_copied<T, S: Store, R: Room, B: Backup, O: Outgoing, D, W: Write, E: Wri
     }
 }
 
-/// What a sending is asked for.
+/// The arguments of a sending.
 #[derive(Clone, Copy)]
 pub(crate) struct Sending<'a> {
     /// The messages that ask, one after another.

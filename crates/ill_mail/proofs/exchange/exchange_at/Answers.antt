@@ -7,14 +7,15 @@ use Rattle.ill_mail.specs.Nights.{ExchangesAt, asked_night}
 use Rattle.ill_mail.proofs.RoomsLemmas.{night_opened, night_unopened}
 use Rattle.ill_mail.proofs.exchange.exchange_at.Goals as goal
 
--- The mail of the desk could not be opened.
+-- Proves the contract of `exchange_at` if the mail of the desk could not be opened.
 pub returns-in-Err : goal.returns-in-Err
 returns-in-Err g c =
     night_unopened (asked_night c.args.night.now) (view_of g.S.Store.state c.args.desk.now)
     (g.W.Write.contents c.args.machine.now.writer) (g.W.Write.contents c.open_mail.new.machine.writer)
     c.in-Err.fault c.in-Err.ensures.faults (ap (λ writer. g.W.Write.contents writer) c.in-Err.ensures.silent)
 
--- The night is that of `night_in`, told in the form that is asked for. All else writes nothing.
+-- Proves the contract of `exchange_at` if the mail is open. The night is that of `night_in`, told in the form of
+-- `night`. All else writes nothing.
 pub returns : goal.returns
 returns g c =
     let view = view_of g.S.Store.state in

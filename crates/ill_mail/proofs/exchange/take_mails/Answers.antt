@@ -15,7 +15,8 @@ use Rattle.ill_mail.proofs.exchange.take_mails.Goals as goal
 abbrev answer_of : List Verdict → ℕ → List Mail → Result Night ToolFault
 answer_of verdicts waiting mails = Ok (record { verdicts = verdicts; mails = mails; waiting = waiting })
 
--- The mails were taken. `take_in` takes those that `batch_of` has told of. All else writes nothing.
+-- Proves the contract of `take_mails` if the mails were taken. `take_in` takes those of the batch of `batch_of`. All
+-- else writes nothing.
 pub returns-in-Ok : goal.returns-in-Ok
 returns-in-Ok g c =
     let view = view_of g.S.Store.state in
@@ -32,7 +33,7 @@ returns-in-Ok g c =
     (ap (answer_of verdicts batch.waiting) c.batch_of-batch.ensures.mails
     ∙ ap (λ waiting. answer_of verdicts waiting found.mails.items) c.batch_of-batch.ensures.waiting)
 
--- The mails could not be taken. The fault is that of `take_in`.
+-- Proves the contract of `take_mails` if the mails could not be taken. The fault is that of `take_in`.
 pub returns : goal.returns
 returns g c =
     let view = view_of g.S.Store.state in

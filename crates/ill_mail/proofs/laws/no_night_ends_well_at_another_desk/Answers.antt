@@ -3,17 +3,19 @@ use Rattle.ill_place.specs.Place.{place_of}
 use Rattle.ill_mail.proofs.PlaceLaws.{exchanges_nowhere, sends_nowhere, takes_nowhere}
 use Rattle.ill_mail.proofs.laws.no_night_ends_well_at_another_desk.Goals as goal
 
--- Each clause is a lemma, of a place at which no desk starts.
+-- Proves the clause `takes` by `takes_nowhere`, since no desk starts at the place.
 pub returns-clause-takes : goal.returns-clause-takes
 returns-clause-takes g c = λ path is_well before after elsewhere.
     takes_nowhere (place_of g.S.Store.state path) is_well before after
     (λ desk. c.no_other_desk_starts_at_a_place.ensures path desk (elsewhere desk))
 
+-- Proves the clause `sends` by `sends_nowhere`, since no desk starts at the place.
 pub returns-clause-sends : goal.returns-clause-sends
 returns-clause-sends g c = λ path has_folder is_well before after elsewhere.
     sends_nowhere (place_of g.S.Store.state path) has_folder is_well before after
     (λ desk. c.no_other_desk_starts_at_a_place.ensures path desk (elsewhere desk))
 
+-- Proves the clause `exchanges` by `exchanges_nowhere`, since no desk starts at the place.
 pub returns-clause-exchanges : goal.returns-clause-exchanges
 returns-clause-exchanges g c = λ path asked is_well before after elsewhere.
     exchanges_nowhere (place_of g.S.Store.state path) asked is_well before after

@@ -3,6 +3,6 @@ use Rattle.ill_room.specs.Sealed.{PutsWith}
 use Rattle.ill_mail.proofs.BadRooms.{none_sends}
 use Rattle.ill_mail.proofs.laws.nothing_leaves_uncopied.Goals as goal
 
--- No sending into this outlet is bad.
+-- By `none_sends` no sending into the outlet is bad, sealed or not.
 pub returns : goal.returns
 returns g c sealing = none_sends (PutsWith g.O.Outgoing.after sealing)

@@ -7,7 +7,7 @@ use Rattle.ill_mail.specs.Nights.{FinishesNight}
 use Rattle.ill_mail.specs.Rooms.{asked_in, night_of}
 use Rattle.ill_mail.proofs.rooms.night_in.Goals as goal
 
--- The mails were taken. The rest of the night is that of `finish_in`.
+-- Proves the clause `over` of `night_in` if the mails were taken. The rest of the night is that of `finish_in`.
 pub returns-in-Ok-clause-over : goal.returns-in-Ok-clause-over
 returns-in-Ok-clause-over g c =
     let view = view_of g.S.Store.state in

@@ -8,7 +8,8 @@ use Rattle.ill_mail.specs.Rooms.{PutsAsked, out_state}
 use Rattle.ill_mail.proofs.RoomsLemmas.{signs_after}
 use Rattle.ill_mail.proofs.rooms.send_copied.Goals as goal
 
--- All messages were sent. What was written is of `put_asked`, since the sign of life writes nothing.
+-- Proves the clause `all` of `send_copied` if all messages were sent. `put_asked` has written all output, since the
+-- sign of life writes nothing.
 pub returns-in-Ok-put_asked-clause-all : goal.returns-in-Ok-put_asked-clause-all
 returns-in-Ok-put_asked-clause-all g c =
     let desk = c.args.desk.now.live in
@@ -27,7 +28,8 @@ returns-in-Ok-put_asked-clause-all g c =
           c.sign.ensures.ends,
     )
 
--- All messages were sent, and then a sign of life was given, or that failed.
+-- Proves the clause `sends` of `send_copied` if all messages were sent. Then a sign of life was given, or that
+-- failed.
 pub returns-in-Ok-put_asked-clause-sends : goal.returns-in-Ok-put_asked-clause-sends
 returns-in-Ok-put_asked-clause-sends g c =
     let desk = c.args.desk.now.live in

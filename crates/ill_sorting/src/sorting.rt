@@ -51,7 +51,8 @@ pub enum Route {
     Stray,
 }
 
-/// Returns the way of a mail.
+/// Returns the way of a mail, by the role of the shelf and the home of its message's group. `has_room` is set if this
+/// run may make further desks.
 pub fn route_of(role: Role, home: Home, is_request: bool, has_room: bool) -> Route
     ensures { result ≡ route_of role home is_request has_room }
 {
@@ -189,17 +190,22 @@ fn sort_found<T: LockFiles, W: Write, E: Write>(
     Ok(sorting.is_waiting)
 }
 
-/// The texts about a mail, or a desk.
+/// The text after the name of a mail that cannot be claimed or read now.
 const NOT_READ_NOW: &str = " left not-read";
 
+/// The text after the name of a claimed mail whose sorting has failed.
 const NOT_SORTED: &str = " is not sorted, and stays among the mails that were claimed";
 
+/// The text after the name of a mail that would make one desk too many.
 const NO_ROOM: &str = " left: mail has made 16 desks in this run, and makes no more";
 
+/// The text after the path of a lost desk.
 const LOST: &str = " is lost: mail for it is left, until it is there again";
 
+/// The text about a mail whose group is retired, and whose loan has no last word.
 const RETIRED_GROUP: &str = "removed: its group is retired";
 
+/// The text after the path of a desk that was made for a mail.
 const NEW_GROUP: &str = " is made: mail begins its group";
 
 /// The mails that one run of the shelf sorts to a desk from one folder.
@@ -220,6 +226,7 @@ struct Sorting<'a, T: LockFiles> {
     alloc: Global,
     shelf: Shelf<'a>,
     sources: Sources<'a>,
+    /// The folders into which this run has renamed mails.
     boxes: Vec<SortedBox>,
     /// The number of desks that were made.
     made: usize,

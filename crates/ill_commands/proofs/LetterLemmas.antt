@@ -16,7 +16,8 @@ use Rattle.ill_commands.specs.Streams.{Streams}
 abbrev Taking : Type 1
 Taking = Streams → Result Bool ToolFault → Streams → Type 0
 
--- If the messages `bytes` of a letter of the sender are taken, the letter is taken.
+-- If the input opens as a letter of `named` with `text`, and `Takes` takes `bytes`, which are `text`, `TakesLetter`
+-- holds. `named` is `sender`.
 pub took : (key : List ℕ) (sender named : Sender) (Takes : Taking) (old new : Streams) (text bytes : List ℕ)
     (unread : Option (List ℕ)) (result : Result Bool ToolFault)
     → named ≡ sender → OpensLetter key named old.unread new.unread text → bytes ≡ text
@@ -31,7 +32,7 @@ took key sender named Takes old new text bytes unread result is opens same takes
   ),
 )
 
--- If an input is left sealed, nothing is taken.
+-- If the input is left sealed with `fault`, and nothing is written, `TakesLetter` allows that fault.
 pub left_sealed : (key : List ℕ) (sender named : Sender) (Takes : Taking) (old new : Streams) (fault : ToolFault)
     → named ≡ sender → LeavesSealed key named old.unread new.unread fault → new.written ≡ old.written
     → TakesLetter key sender Takes old (Err fault) new
@@ -41,26 +42,27 @@ left_sealed key sender named Takes old new fault is leaves quiet = (
   (refl, quiet),
 )
 
--- What is opened may change.
+-- If the input opens as a letter, `OpensOrStays` holds, whatever `IsUnchanged` says.
 pub opened : (key : List ℕ) (sender named : Sender) (IsUnchanged : Type 0) (left rest : Option (List ℕ)) (text : List ℕ)
     → named ≡ sender → OpensLetter key named left rest text → OpensOrStays key sender IsUnchanged left rest
 opened key sender named IsUnchanged left rest text is opens =
     (Ok text, subst (λ (sender : Sender). OpensLetter key sender left rest text) is opens, tt)
 
--- What is left sealed is unchanged.
+-- If the input is left sealed, and `IsUnchanged` holds, `OpensOrStays` holds.
 pub stays : (key : List ℕ) (sender named : Sender) (IsUnchanged : Type 0) (left rest : Option (List ℕ)) (fault : ToolFault)
     → named ≡ sender → LeavesSealed key named left rest fault → IsUnchanged
     → OpensOrStays key sender IsUnchanged left rest
 stays key sender named IsUnchanged left rest fault is leaves unchanged =
     (Err fault, subst (λ (sender : Sender). LeavesSealed key sender left rest fault) is leaves, unchanged)
 
--- The messages of a letter that are taken at a desk of a place are taken at the place.
+-- If `before` starts at `place`, and a letter is taken at it, the letter is taken at `place` (`TakesAtFile`).
 pub taken_at : {S : Type 0} (place : PlaceOf S) (form : TakeForm) (before after : DeskOf DeskContents S) (key : List ℕ)
     (sender : Sender) (old : Streams) (result : Result Bool ToolFault) (new : Streams)
     → StartsAt place before
     → TakesLetter key sender (TakesHere form (view_of place.state before) (view_of place.state after)) old result new
     → TakesLetter key sender (TakesAtFile place form) old result new
 taken_at place form before after key sender old result new starts taken = (taken.0, taken.1, go taken.0 taken.2) where
+  -- The messages that were opened are taken at the place too. A fault of the opening stays.
   go : (opened : Result (List ℕ) ToolFault)
       → TakesOpened (TakesHere form (view_of place.state before) (view_of place.state after)) opened old result new
       → TakesOpened (TakesAtFile place form) opened old result new

@@ -56,7 +56,7 @@ SendsLetterAtFile {S} place message before after result =
     × GoesWell (RunsSendAs (sealed key (own_sender (many_sides.role desk.live)))
     (found_by txn_held message.txn desk.live.held) message.number before after) result)
 
--- The command `take`, with a key or without one. `Takes` is what it does without one.
+-- The command `take`, with a key or without one. Without a key `Takes` says its effect.
 abbrev pub TakesWith : (key : Option (List ℕ)) → (Takes : Streams → Result Bool ToolFault → Streams → Type 0) → Streams →
     Result Bool ToolFault → Streams → Type 0
 TakesWith None Takes old result new = Takes old result new

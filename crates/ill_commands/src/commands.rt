@@ -68,9 +68,9 @@ pub fn act<T: Files, D: DeskFiles, W: Write, E: Write>(
     act_at(machine, place.path, locked, view, is_long)
 }
 
-/// Performs or tries the action of `view` at `locked`, the desk in `file`, and then lets the desk and its lock go. If its day is
-/// given, it is entered in the diary beside `file`, which is made if it does not exist. An action that is refused makes
-/// none. Writes a line to the errors if the loan has few numbers left.
+/// Performs or tries the action of `view` at `locked`, the desk in `file`. Then it lets the desk and its lock go. If
+/// its day is given, it is entered in the diary beside `file`. The diary is made if it does not exist, but a refused
+/// action makes none. Writes a line to the errors if the loan has few numbers left.
 pub fn act_at<T: Files, D: DeskFiles, W: Write, E: Write>(
     machine: &mut Machine<'_, T, W, E>,
     file: &str,
@@ -140,7 +140,7 @@ fn tell_item<W: Write>(
     after_writing(write_item(alloc, side, writer), acted)
 }
 
-/// Writes to `errors` how many numbers the loan `txn` has left, if these are few.
+/// Writes to `errors` the count of the numbers that the loan `txn` has left, if these are few.
 fn tell_numbers_of<S: Store, E: Write>(
     alloc: Global,
     file: &str,

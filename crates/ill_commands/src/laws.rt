@@ -14,8 +14,8 @@ ghost use Rattle.ill_commands.specs.Streams.{Streams};
 use ill_place::place::no_other_desk_starts_at_a_place;
 use ill_saved::Store;
 
-/// If no desk was loaded from a place, no command at the place ends well: each desk has another path, or other sides than its
-/// record.
+/// If no desk was loaded from a place, no command at the place ends well: each desk has another path, or other sides
+/// than its record.
 pub fn no_command_ends_well_at_another_desk<S: Store>()
     ensures acts { (path : List ℕ) (asked : Asking) (is_long is_well : Bool) (before after : Option (List ℕ)) →
         AreElsewhere (place_of S.state path) →

@@ -81,7 +81,7 @@ fn keep_at<T: Files, W: Write, E: Write>(
 /// The text that follows the path of a desk whose file of notes ended within a line.
 const TORN: &str = ".notes ended within a line, which is cut off";
 
-/// Keeps the note of `view` in `notes`, and then writes its line.
+/// Keeps the note of `view` in `notes`, and then writes the line `done`.
 pub fn keep_note<F: Write, W: Write>(
     alloc: Global,
     notes: &mut F,

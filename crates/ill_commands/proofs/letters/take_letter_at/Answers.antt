@@ -7,7 +7,7 @@ use Rattle.ill_commands.specs.Streams.{streams_of}
 use Rattle.ill_commands.proofs.LetterLemmas.{left_sealed, opened, stays, took}
 use Rattle.ill_commands.proofs.letters.take_letter_at.Goals as goal
 
--- Proves that the messages are taken, if the letter opens.
+-- Proves the clause `taken` if the letter opens. Its messages are taken.
 pub returns-in-Ok-clause-taken : goal.returns-in-Ok-clause-taken
 returns-in-Ok-clause-taken g c =
     let old = streams_of (g.R.Read.remaining c.args.reader.now) (g.W.Write.contents c.args.machine.now.writer) in
@@ -18,12 +18,13 @@ returns-in-Ok-clause-taken g c =
     (c.other_sender-sender.ensures ∙ ap other_sender c.role.ensures) c.in-Ok.ensures.opens c.as_slice.ensures.value
     c.take_at.ensures
 
+-- Proves the clause `unchanged` if the letter opens. Then the desk may have changed.
 pub returns-in-Ok-clause-unchanged : goal.returns-in-Ok-clause-unchanged
 returns-in-Ok-clause-unchanged g c =
     opened c.args.letter.now.key.now (other_sender c.args.desk.now.live.role) c.other_sender-sender.result _ _ _
     c.in-Ok.text.items (c.other_sender-sender.ensures ∙ ap other_sender c.role.ensures) c.in-Ok.ensures.opens
 
--- Proves that nothing is taken, if it does not.
+-- Proves the clause `taken` if the letter does not open. Nothing is taken.
 pub returns-in-Err-clause-taken : goal.returns-in-Err-clause-taken
 returns-in-Err-clause-taken g c =
     let written = g.W.Write.contents c.args.machine.now.writer in
@@ -33,6 +34,7 @@ returns-in-Err-clause-taken g c =
     (streams_of (g.R.Read.remaining c.open_letter.new.reader) written) c.in-Err.fault
     (c.other_sender-sender.ensures ∙ ap other_sender c.role.ensures) c.in-Err.ensures.fault refl
 
+-- Proves the clause `unchanged` if the letter does not open. The desk is as it was.
 pub returns-in-Err-clause-unchanged : goal.returns-in-Err-clause-unchanged
 returns-in-Err-clause-unchanged g c =
     stays c.args.letter.now.key.now (other_sender c.args.desk.now.live.role) c.other_sender-sender.result _ _ _

@@ -1,4 +1,5 @@
-//! What lies beside a desk in a file, as it is shown: its notes, its diary, and the messages that came.
+//! The annex of a desk in a file, as it is shown: the notes, the diary, and the messages that came, in files beside
+//! it.
 #![tactic(auto)]
 
 ghost use Rattle.std.specs.Prelude.{IfErr};
@@ -33,7 +34,7 @@ pub fn open_with_annex<'a, T: Files, E: Write>(
     Ok((desk, annex))
 }
 
-/// Reads the annex of the desk in `file`.
+/// Reads the annex of the desk in `file`: its notes, its diary, and the messages that came. It has no news.
 pub fn read_annex<T: Files, E: Write>(
     rt: &T,
     alloc: Global,

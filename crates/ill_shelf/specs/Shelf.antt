@@ -61,7 +61,7 @@ is_headed (visits.Exchange night key) = is_lines night.form
 is_headed (visits.Outbox outlet) = is_some outlet
 is_headed visit = true
 
--- A visit has the effect of its command at one desk.
+-- The effect of a visit at the desk of a place: that of its command there.
 abbrev pub RunsVisit : {S : Type 0} → Visit → AtDesk S
 RunsVisit (visits.Status form) = λ place. ShowsFile place form
 RunsVisit (visits.Inbox folder) = InboxAtFile

@@ -101,8 +101,8 @@ pub fn act_on_shelf<T: Files, D: DeskFiles, W: Write, E: Write>(
     act_at(machine, desk.path, locked, view, is_long)
 }
 
-/// Opens the desk at `place` under the lock of its file. If the file is not there and `role` is one, it begins a desk of
-/// that role. Nothing of that desk is saved yet.
+/// Opens the desk at `place` under the lock of its file. If the file is not there and there is a `role`, it begins a
+/// desk of that role. Nothing of that desk is saved yet.
 fn open_or_begin<T: Files, D: DeskFiles>(
     rt: &T,
     alloc: Global,
@@ -416,7 +416,7 @@ fn at_each<'a>(night: &Night<'a>, incoming: &'a str) -> Night<'a>
     }
 }
 
-/// Returns the stamp.
+/// Returns a copy of `stamp`.
 fn same_stamp<'a>(stamp: &Option<Stamp<'a>>) -> Option<Stamp<'a>> {
     match stamp {
         Some(stamp) => Some(Stamp {
@@ -430,6 +430,7 @@ fn same_stamp<'a>(stamp: &Option<Stamp<'a>>) -> Option<Stamp<'a>> {
 /// The end of a night of a shelf.
 #[derive(Clone, Copy)]
 struct Ending<'a, 'b> {
+    /// The arguments of the night.
     night: &'b Night<'a>,
     /// The key of the letters in which messages leave, if there is one.
     key: Option<&'a Key>,
@@ -469,7 +470,7 @@ fn end_night<T: Files, W: Write, E: Write>(
     waiting(ending.is_waiting)
 }
 
-/// The text that follows the path of a folder of copies.
+/// The text after the path of a folder of copies into which a mark cannot be copied.
 const NO_MARKS: &str = " does not have the marks of all retired groups";
 
 /// Writes the mark of each retired group into `folder`, the folder of copies. It removes the copy of its desk there.

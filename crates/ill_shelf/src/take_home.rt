@@ -93,9 +93,12 @@ fn take_letter_on_shelf<T: LockFiles, D: DeskFiles, R: Read, W: Write, E: Write>
 /// A handler that takes each APDU at the desk of its group, and records if all went well.
 #[derive(Drop)]
 struct TakesHome<'a, 'b, 'c, D> {
+    /// The files in which the desks are kept.
     files: &'a D,
     shelf: Shelf<'a>,
+    /// The form in which each APDU is taken, and the stamp of the diary.
     view: TakeView<'b, 'c>,
+    /// Set if all went well so far.
     all_fine: bool,
 }
 

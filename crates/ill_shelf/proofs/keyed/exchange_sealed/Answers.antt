@@ -6,7 +6,8 @@ use Rattle.ill_shelf.specs.Shelf.{Headed, VisitsShelf, is_lines}
 use Rattle.ill_shelf.proofs.keyed.exchange_sealed.Goals as goal
 
 -- Proves the contract of `exchange_sealed`. `look_at_shelf` and `open_letters` write nothing, and `exchange_at_desks` visits
--- the desks. `graver` combines its answer with that of the letters.
+-- the desks (`visited`). These are on the shelf in the folder of `place` (`here`). `graver` combines its answer with
+-- that of the letters.
 pub returns : goal.returns
 returns g c =
     let done = c.exchange_at_desks-done.result in

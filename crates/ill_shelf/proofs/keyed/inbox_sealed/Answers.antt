@@ -6,7 +6,7 @@ use Rattle.ill_shelf.specs.Shelf.{Headed, VisitsShelf}
 use Rattle.ill_shelf.proofs.keyed.inbox_sealed.Goals as goal
 
 -- Proves the contract of `inbox_sealed`. `open_letters` writes nothing, and `take_at_desks` visits the desks. `graver`
--- combines its answer with that of the letters.
+-- combines its answer with that of the letters. The visits are on the shelf in the folder of `place` (`here`).
 pub returns : goal.returns
 returns g c =
     let done = c.take_at_desks-done.result in

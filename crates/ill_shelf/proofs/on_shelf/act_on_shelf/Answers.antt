@@ -20,7 +20,7 @@ returns g c =
     c.in_ok-locked.ensures.opens in
     (path, home, inr (c.in_ok-locked.locked.desk, c.act_at.ensures.0, opens, c.act_at.ensures.1))
 
--- If the shelf is not opened, no action is performed.
+-- Proves the contract if the shelf is not opened. Then no action is performed.
 pub returns-in_err-shelf : goal.returns-in_err-shelf
 returns-in_err-shelf g c =
     let result = c.from_residual.result in
@@ -28,7 +28,7 @@ returns-in_err-shelf g c =
     not_acted (shelf_of g.D.DeskStore.Store.state c.args.place.now.folder.now) (asking_of c.args.view.now) c.args.is_long _ result
     opens
 
--- If memory runs out for the path of the desk, no action is performed.
+-- Proves the contract if memory runs out for the path of the desk. Then no action is performed.
 pub returns-in_err-file : goal.returns-in_err-file
 returns-in_err-file g c =
     let result = c.from_residual-in_err-file.result in
@@ -36,7 +36,7 @@ returns-in_err-file g c =
     not_acted (shelf_of g.D.DeskStore.Store.state c.args.place.now.folder.now) (asking_of c.args.view.now) c.args.is_long _ result
     opens
 
--- If the desk is not opened, no action is performed.
+-- Proves the contract if the desk is not opened. Then no action is performed.
 pub returns-in_err-locked : goal.returns-in_err-locked
 returns-in_err-locked g c =
     let result = c.from_residual-in_err-locked.result in

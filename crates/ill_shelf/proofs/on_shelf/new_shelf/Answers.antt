@@ -6,7 +6,7 @@ use Rattle.ill_text.specs.declared.fault.ToolFault.TheVariants.{OutOfMemory}
 use Rattle.ill_files.proofs.OpenLemmas.{open_fault}
 use Rattle.ill_shelf.proofs.on_shelf.new_shelf.Goals as goal
 
--- If the folder is not made, no desk is begun.
+-- Proves the contract if the folder is not made. Then no desk is begun.
 pub returns-in_err-make_shelf_folder : goal.returns-in_err-make_shelf_folder
 returns-in_err-make_shelf_folder g c =
     inl (
@@ -15,7 +15,7 @@ returns-in_err-make_shelf_folder g c =
       refl,
     )
 
--- If memory runs out for the path of the desk, no desk is begun.
+-- Proves the contract if memory runs out for the path of the desk. Then no desk is begun.
 pub returns-in_err-own : goal.returns-in_err-own
 returns-in_err-own g c =
     inl (open_fault c.from_residual-in_err-own.result OutOfMemory c.from_residual-in_err-own.ensures.1 tt, refl)

@@ -7,7 +7,7 @@ use Rattle.ill_shelf.specs.Shelf.{Headed, VisitsAll}
 use Rattle.ill_shelf.proofs.on_shelf.outbox_of_shelf.Goals as goal
 
 -- Proves the contract of `outbox_of_shelf`. `visit_all` visits the desks, and `graver` combines its answer with that of
--- `send_words_to`, which writes nothing.
+-- `send_words_to`, which writes nothing. The paths are those of desks in the folder of `place` (`here`).
 pub returns : goal.returns
 returns g c =
     let paths = map (λ path. string_bytes path) c.deref.result.now in

@@ -18,7 +18,7 @@ returns g c = (
       c.as_str.ensures.value c.slip.ensures,
 )
 
--- If the desk of the group is not found, no slip is written.
+-- Proves the contract if the desk of the group is not found. Then no slip is written.
 pub returns-in_err-file : goal.returns-in_err-file
 returns-in_err-file g c =
     let result = c.from_residual.result in

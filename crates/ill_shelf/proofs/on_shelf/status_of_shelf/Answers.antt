@@ -5,7 +5,8 @@ use Rattle.ill_files.specs.ShelfNames.{AreOnShelf}
 use Rattle.ill_text.proofs.VisitsLemmas.{graver_well}
 use Rattle.ill_shelf.proofs.on_shelf.status_of_shelf.Goals as goal
 
--- Proves the contract of `status_of_shelf`. `visit_all` visits the desks, and nothing makes its answer graver.
+-- Proves the contract of `status_of_shelf`. `visit_all` visits the desks, and nothing makes its answer graver. The
+-- paths are those of desks in the folder of `place` (`here`).
 pub returns : goal.returns
 returns g c =
     let paths = map (λ path. string_bytes path) c.deref.result.now in

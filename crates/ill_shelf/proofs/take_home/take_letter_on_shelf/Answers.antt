@@ -17,7 +17,7 @@ returns-in-Ok g c =
     c.take_on_shelf.ensures in
     inr (_, _, (letter.0, letter.1, letter.2))
 
--- Proves that nothing changes, if it does not.
+-- Proves that nothing is taken, if the letter does not open.
 pub returns-in-Err : goal.returns-in-Err
 returns-in-Err g c =
     let written = g.W.Write.contents c.args.machine.now.writer in

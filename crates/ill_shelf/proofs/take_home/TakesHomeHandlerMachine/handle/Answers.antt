@@ -11,7 +11,7 @@ use Rattle.ill_shelf.specs.Shelf.{ShelfTaking}
 use Rattle.ill_shelf.proofs.take_home.TakesHomeHandlerMachine.handle.Goals as goal
 use Rattle.ill_shelf.proofs.take_home.TakesHomeHandlerMachine.handle.Goals.{then-self, else-self}
 
--- If no desk is found, none is opened.
+-- Proves the contract if no desk is found. None is opened, and `TakesAtHome` holds with the path of the own desk.
 pub returns-in-Err : goal.returns-in-Err
 returns-in-Err g c = (
   own_path c.args.self.now.shelf.folder.now,
@@ -20,12 +20,13 @@ returns-in-Err g c = (
   inl ((c.in-Err.ensures.faults, refl), refl),
 )
 
--- If memory runs out for the bytes, no desk is opened.
+-- Proves the contract if memory runs out for the bytes of the APDU. No desk is opened then either.
 pub returns-in-Err-encoded : goal.returns-in-Err-encoded
 returns-in-Err-encoded g c =
     (own_path c.args.self.now.shelf.folder.now, inr refl, Some (encoding c.args.apdu.now), inl ((tt, refl), refl))
 
--- If the desk answers with a fault, the APDU was taken at this path up to the fault.
+-- If the desk answers with a fault, the APDU was taken at `path` up to the fault (`took`). The desk there may take it
+-- (`here`).
 pub returns : goal.returns
 returns g c =
     let path = c.as_str.result.now in
@@ -41,7 +42,8 @@ returns g c =
     TakesAtFile place form (streams_of (Some (encoding c.args.apdu.now)) before) answer new) c.in-Err-take.is ran in
     (path, here, Some c.take.new.reader.now, took)
 
--- If the desk has taken the APDU, or refused it, so has the shelf.
+-- If the desk has taken the APDU, or refused it, so has the shelf (`took`). The desk may take it (`here`).
+-- `all_fine` stays true only if this went well.
 pub returns-in-Ok-take : goal.returns-in-Ok-take
 returns-in-Ok-take g c =
     let path = c.as_str.result.now in

@@ -67,7 +67,8 @@ mail_encodes prefix bytes a are is =
 
 -- ---- one reading
 
--- Encodings are read as their messages, and as no others.
+-- The encodings of `asking`, and then `rest`, are the encodings of `apdus`. If no message begins `rest`, both lists are
+-- equal.
 one_reading : ReadsAgain → (apdus asking : List Apdu) (rest : List ℕ) (new : FeedState) → AllByRecursion IsApdu apdus
     → AllByRecursion IsApdu asking → flat_map encoding apdus ≡ flat_map encoding asking ++ rest → Leaves rest new
     → asking ≡ apdus
@@ -76,6 +77,7 @@ one_reading again [] [] rest new all encoded parts leaves = refl
 one_reading again [] (b ∷ asking) rest new all encoded parts leaves =
     absurd (never b (flat_map encoding asking) rest encoded.0 parts)
   where
+    -- Without bytes there is no message `b`.
     never : (b : Apdu) (more rest : List ℕ) → IsApdu b → [] ≡ (encoding b ++ more) ++ rest → ⊥
     never b more rest is parts =
         let read : apdu_at [] ≡ Ok (b, more ++ rest) =
@@ -84,6 +86,7 @@ one_reading again [] (b ∷ asking) rest new all encoded parts leaves =
 one_reading again (a ∷ apdus) [] rest new all encoded parts leaves =
     absurd (never new leaves (ap apdu_at (sym parts) ∙ again a (flat_map encoding apdus) all.0))
   where
+    -- In `rest` no message is left.
     never : (new : FeedState) → Leaves rest new → apdu_at rest ≡ Ok (a, flat_map encoding apdus) → ⊥
     never (Ok held) leaves read = absurd cc
     never (Err fault) leaves read = absurd cc
@@ -126,11 +129,12 @@ module _ (live : DeskContents) where
     found_encodes bytes (Err unfit) are is = (refl, tt)
     found_encodes bytes (Ok a) are is = go (of_over a)
       where
+        -- If the loan of the message is over, its bytes ask; if not, none do.
         go : (over : Bool) → Encode (if over then bytes else []) (cond over (a ∷ []) [])
         go true = let encodes = mail_encodes prefix bytes a are is in (encodes.1, (encodes.0, tt))
         go false = (refl, tt)
 
-    -- The same holds of a mail that could be read.
+    -- If a mail could be read, its bytes that ask are the encoding of its message, if it asks. If not, it has none.
     read_encodes : (bytes : Option (List ℕ)) → IsBytesOf bytes
         → Encode (asking_bytes_if_read live bytes) (filter of_over (message_if_read bytes))
     read_encodes None are = (refl, tt)
@@ -165,23 +169,26 @@ module _ (live : DeskContents) where
     abbrev is_its : Apdu → Bool
     is_its a = is_same_txn a.txn txn
 
-    -- A message of `txn` is so by either test.
+    -- If the test `is_same_txn txn a.txn` is `same`, so is the test `is_its a`.
     its : (a : Apdu) (same : Bool) → is_same_txn txn a.txn ≡ same → is_its a ≡ same
     its a true is = subst (λ t. is_same_txn t txn ≡ true) (same_is txn a.txn is) (same_self txn)
     its a false is = apart_back txn a.txn is
 
-    -- If mails are done with, a message of `txn` among theirs asks just if there is one.
+    -- Each message of `txn` is of a loan that is over (`over`). So one of `apdus` asks just if one is of `txn`.
     done_ask : (apdus : List Apdu) → not (list_any is_its (filter of_over apdus)) ≡ is_none (messages_for txn apdus)
     done_ask [] = refl
     done_ask (a ∷ apdus) = go (done_ask apdus) (is_same_txn txn a.txn) refl
       where
+        -- The further messages whose loans are over.
         others : List Apdu
         others = filter of_over apdus
 
+        -- A message of another transaction is not counted.
         kept : (keeps : Bool) → is_its a ≡ false → list_any is_its (cond keeps (a ∷ others) others) ≡ list_any is_its others
         kept true none = ap (λ own. own || list_any is_its others) none
         kept false none = refl
 
+        -- The first message is of `txn`, or the others decide.
         go : not (list_any is_its others) ≡ is_none (messages_for txn apdus) → (same : Bool) → is_same_txn txn a.txn ≡ same
             → not (list_any is_its (cond (of_over a) (a ∷ others) others))
             ≡ is_none (cond same (a ∷ messages_for txn apdus) (messages_for txn apdus))
@@ -196,7 +203,7 @@ module _ (live : DeskContents) where
     nothing_in [] none = refl
     nothing_in (a ∷ apdus) none = absurd none.0
 
-    -- A message of `txn` in a mail asks just if there is one, if the mail is done with.
+    -- If a mail with a message of `txn` is done with, one asks just if the mail has one.
     mail_asks : (mail : Mail) (verdict : Verdict) → Each (λ a. IsDone verdict) (messages_for txn (message_of mail))
         → not (list_any is_its (asks_of mail verdict)) ≡ is_none (messages_for txn (message_of mail))
     mail_asks mail (Done outcome) done = done_ask (message_of mail)
@@ -219,16 +226,18 @@ module _ (live : DeskContents) where
     none_left [] = refl
     none_left (mail ∷ mails) = refl
 
-    -- A message of `txn` in mails asks just if there is one, if the mails with one are done with.
+    -- If the mails with a message of `txn` are done with, one of `txn` asks just if there is one.
     mails_ask : (mails : List Mail) (verdicts : List Verdict) → AreDone txn mails verdicts
         → not (list_any is_its (asks_all mails verdicts)) ≡ is_none (messages_for txn (messages_of mails))
     mails_ask [] verdicts done = refl
     mails_ask (mail ∷ mails) verdicts done = go (mails_ask mails) verdicts done
       where
+        -- The messages of `txn` in all mails are those of the first, and then those of the others.
         parts : messages_for txn (messages_of (mail ∷ mails))
             ≡ messages_for txn (message_of mail) ++ messages_for txn (messages_of mails)
         parts = filter-append (λ (a : Apdu). is_same_txn txn a.txn) (message_of mail) (messages_of mails)
 
+        -- A mail without a verdict has no message of `txn` (`done`).
         go : ((verdicts : List Verdict) → AreDone txn mails verdicts
             → not (list_any is_its (asks_all mails verdicts)) ≡ is_none (messages_for txn (messages_of mails)))
             → (verdicts : List Verdict) → AreDone txn (mail ∷ mails) verdicts
@@ -252,10 +261,12 @@ held_over live role txn over a same =
     subst (λ t. is_held_over (side_with t (sides_held live).sides) ≡ true) (same_is txn a.txn same)
     (go (side_with txn (sides_held live).sides) refl)
   where
+    -- The side that the desk shows for `txn` is over.
     shown : (found : Option Side) → side_with txn (sides_held live).sides ≡ found
         → is_over (found_or (idle_side live.role txn) found) ≡ true
     shown found is = ap (λ f. is_over (found_or (idle_side live.role txn) f)) (sym is) ∙ ap is_over (side_of_held txn live) ∙ over
 
+    -- A responder's idle side is not over, so the desk holds one.
     go : (found : Option Side) → side_with txn (sides_held live).sides ≡ found → is_held_over found ≡ true
     go (Some side) is = shown (Some side) is
     go None is = absurd (true≢false (sym (ap (λ r. is_over (idle_side r txn)) (sym role) ∙ shown None is)))

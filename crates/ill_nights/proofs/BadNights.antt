@@ -46,6 +46,7 @@ none_held_back txn after asking left (not_silent held a file silent one) (own, r
     ∙ ap (λ b. if b then issued_of (side_for txn held) else []) silent in
     empty (subst (λ apdus. IsOneOf apdus a) nothing one)
   where
+    -- An empty list has no item.
     empty : IsOneOf [] a → ⊥
     empty (n, there) = absurd cc
 
@@ -55,6 +56,7 @@ pub none_undone : (txn : Qualifiers) (mails : List Mail) (verdicts : List Verdic
 none_undone txn mails verdicts (undone n mail verdict a here judged one not_done) done =
     not_done (at mails verdicts n here judged done)
   where
+    -- If the mail at `n` has a message of `txn`, its verdict at `n` says that it is done with.
     at : (mails : List Mail) (verdicts : List Verdict) (n : ℕ) → slice_get mails n ≡ Some mail
         → slice_get verdicts n ≡ Some verdict → AreDone txn mails verdicts → IsDone verdict
     at [] verdicts n here judged done = absurd cc

@@ -63,7 +63,7 @@ use Rattle.ill_nights.proofs.Takings.{EachChanges}
 
 -- ---- a requester's side
 
--- A requester refuses each deed, so deeds leave its side.
+-- A requester refuses each deed, so its side stays as it was.
 requester_undone : (x : RequesterRecord) (deeds : List (Deed × Date))
     → after_deeds_of (sides.Requester x) deeds ≡ sides.Requester x
 unfolding after_deeds_of
@@ -87,7 +87,7 @@ sends_alike txn (sides.Responder y) sent was_asked stands = absurd stands
 
 -- ---- who was asked
 
--- No message was sent just if the side sends none, or has none.
+-- A side sends `issued` if it `wants` to. It sends none just if it does not want to, or if `issued` is empty.
 none_sent : (wants : Bool) (issued : List Apdu) → is_none (if wants then issued else []) ≡ not (wants && not (is_none issued))
 none_sent true [] = refl
 none_sent true (a ∷ apdus) = refl
@@ -100,11 +100,13 @@ same_under_not false false is = refl
 same_under_not true false is = absurd cc
 same_under_not false true is = absurd cc
 
--- If the messages that ask are right for a side for which the loan is over, it sends as if the requester asked.
+-- If the loan is over for `y`, `was_asked` says if `x` sends a message (premise). Then `y` sends as if it was asked
+-- just when `x` asks.
 asked_alike : (x y : Side) (was_asked : Bool) → (is_over y ≡ true → not was_asked ≡ is_none (sent_by false x))
     → sent_by was_asked y ≡ sent_by (asks x) y
 asked_alike x y was_asked right = go (is_over y) refl
   where
+    -- An open loan sends all in either case. If the loan is over, the premise says that `was_asked` is `asks x`.
     go : (over : Bool) → is_over y ≡ over → sent_by was_asked y ≡ sent_by (asks x) y
     go false is_open = ap (λ wants. if wants then issued_of y else [])
         (open_wants was_asked y is_open ∙ sym (open_wants (asks x) y is_open))
@@ -119,6 +121,7 @@ night_mails : (form : Form) (old met : CommandState DeskContents) (night : Night
 night_mails form old met night (inl failed) = absurd failed.0.0
 night_mails form old met night (inr took) = go took.2 took.4
   where
+    -- Only an inbox that succeeded settles to a night.
     go : (answer : Result (List Verdict) ToolFault) → SettlesRun took.0 took.1 answer (Ok night) → night.mails ≡ took.0
     go (Ok verdicts) settles = elim settles [
       | inl is ↦ (let same : night ≡ record { verdicts = verdicts; mails = took.0; waiting = took.1 } = cc in
@@ -143,7 +146,8 @@ module _ (projects : EachProjects) (reaches : EachReaches) (stand : EachStands) 
     deeds : List (Deed × Date)
     side : side_for txn held ≡ after_deeds_of (takes_all (side_for txn p.landed) (messages_for txn came)) deeds
 
-  -- If a command reached a side that has landed, its file has it.
+  -- If a command reached `desk`, whose landed record is its file, the file can be read. Its side of `txn` has taken
+  -- `came`, and then done the deeds.
   reached_took : (role : Role) (w : DeskParties) (after : Library) (came : List Apdu) (side : Side)
       (desk : HeldAndLanded DeskContents)
       → (reached : ReachedByDeeds projects reaches stand changes txn role w desk side)
@@ -175,7 +179,7 @@ module _ (projects : EachProjects) (reaches : EachReaches) (stand : EachStands) 
     abbrev landed : Side
     landed = side_for txn (party w role).landed
 
-    -- An inbox takes what came.
+    -- If an inbox succeeds (`night`), its file has the landed side of `txn` after the messages of its mails.
     inbox_took : (form : Form) (old new : CommandState DeskContents) (result : Result Night ToolFault) (night : Night)
         → result ≡ Ok night
         → Reached projects reaches stand changes txn role w old.desk landed → (taken : TakesMails form old result new)
@@ -192,7 +196,7 @@ module _ (projects : EachProjects) (reaches : EachReaches) (stand : EachStands) 
         }) refl content
     inbox_took form old new (Err fault) night is start taken bring content = absurd cc
 
-    -- A night whose outbox was put into a folder whole sends all.
+    -- A night reached `desk`, with the side of its file. If `left` is all that leaves `desk`, `Sent` holds of it.
     outbox_sent : (mails : List Mail) (night : Night) (asking left : List Apdu) → night.mails ≡ mails
         → (took : Took (party w role) after (messages_of mails)) (desk : HeldAndLanded DeskContents) (side : Side)
         (reached : Reached projects reaches stand changes txn role w desk side) → side ≡ side_for txn took.held
@@ -222,7 +226,8 @@ module _ (projects : EachProjects) (reaches : EachReaches) (stand : EachStands) 
               bytes done came (ap is_over (held_is ∙ is) ∙ over);
         }
 
-    -- The end of a night, after its mails, takes what came and sends all.
+    -- The mails led to `met`, and the due deeds then to `rested`. If `left` is all that leaves there, `Sent` holds of
+    -- it.
     rest_sent : (mails : List Mail) (asking left : List Apdu) (asked : AskedNight) (night : Night)
         → night.mails ≡ mails → (met rested : CommandState DeskContents) (done : Unit {0})
         → Reached projects reaches stand changes txn role w met.desk (takes_all landed (messages_for txn (messages_of mails)))
@@ -238,7 +243,8 @@ module _ (projects : EachProjects) (reaches : EachReaches) (stand : EachStands) 
         outbox_sent mails night asking left are took rested.desk (after_deeds_of side by_deeds.deeds) by_deeds.reached
         (sym took.side) asks leave
 
-    -- A whole night takes what came and sends all.
+    -- If a night is whole, and its file is what landed, `Sent` holds of its mails, verdicts and messages. Each case but
+    -- the last is of a night that is not whole.
     exchange_sent : (asking left : List Apdu) (asked : AskedNight) (old new : CommandState DeskContents)
         (result : Result Bool ToolFault) → Reached projects reaches stand changes txn role w old.desk landed
         → (exchange : ExchangesAt asked old result new) → Bring (IsOneOf others) (mails_of asked exchange)
@@ -259,7 +265,7 @@ module _ (projects : EachProjects) (reaches : EachReaches) (stand : EachStands) 
         deeds (subst (AreIn (night_asks rested.desk.live night)) whole.0 are) whole.1
         (ap (λ (d : HeldAndLanded DeskContents). d.landed) (sym same) ∙ content)
 
-    -- A whole night takes what came and sends all.
+    -- A whole night from `before` to `after` takes what came, and sends all of the side of `txn`, or none.
     pub night_sent : (night : IsNight others before after)
         → Sent role (party w role) after (mails_of night.command.runs.0 night.command.runs.2)
         (verdicts_of night.command.runs.0 night.command.runs.2) night.command.leaving night.asking
@@ -269,7 +275,7 @@ module _ (projects : EachProjects) (reaches : EachReaches) (stand : EachStands) 
         (starts_from projects reaches stand changes txn role w stands before command.old.desk at command.starts)
         command.runs.2 command.runs.3 night.whole command.landed
 
-    -- A library that takes all its mail takes what came.
+    -- A library that takes all its mail, by `inbox` or in a whole night, takes what came.
     pub all_took : (takes : TakesAll others before after) → Took (party w role) after (messages_of_all takes)
     all_took (by_night night) = (night_sent night).took
     all_took (by_inbox inbox) =
@@ -306,6 +312,8 @@ module _ (projects : EachProjects) (reaches : EachReaches) (stand : EachStands) 
 
   -- ---- a good night
 
+  -- Premises: each event keeps the invariant (`after_event`), and a night with people is enough (`enough`). A command
+  -- is events of its desk (`leads`), and a history is events of both (`follows`).
   module _ (after_event : (w : Parties) (event : Event) → Invariant txn w → Invariant txn (happens w event).1)
       (enough : (w : Parties) (people : List Event) → Invariant txn w → list_all is_by_responder people ≡ true
       → CanAnswer (run_of w (asked_and_worked people w)).responder.live
@@ -315,7 +323,8 @@ module _ (projects : EachProjects) (reaches : EachReaches) (stand : EachStands) 
       → LeadsTo role w after)
       (follows : (w : DeskParties) (now : Libraries) (later : List Libraries) → DesksInvariant w → AreAt now w
       → IsHistory now later → (events : List DeskEvent) × AreAt (libraries_after now later) (desks_run w events)) where
-    -- If both desks restart, the sides of a night from there are in step or at rest.
+    -- If both desks restart, a night from their landed sides ends in step or at rest. `answers` is the responder's side
+    -- after the requester's messages and `deeds`.
     restarted_step : (w : DeskParties) → DesksInvariant w → (deeds : List (Deed × Date))
         → let x = side_for txn w.requester.landed in
         let answers = after_deeds_of (takes_all (side_for txn w.responder.landed) (sent_by false x)) deeds in
@@ -334,12 +343,14 @@ module _ (projects : EachProjects) (reaches : EachReaches) (stand : EachStands) 
         (sides_in_step txn after_event (project txn both) stands_both deeds
         (λ people. enough (project txn both) people stands_both))
       where
+        -- States the conclusion for the requester's side `x` and the responder's side `y`.
         Ends : Side → Side → Type 0
         Ends x y =
             let answers = after_deeds_of (takes_all y (sent_by false x)) deeds in
             CanAnswer answers → InStepOrAtRest (takes_all x (sent_by (asks x) answers)) answers
 
-    -- After a good night the sides of `txn` in both files are in step or at rest.
+    -- After a good night the sides of `txn` in both files are in step or at rest. The world is `one` after the
+    -- requester's night, and `two` after the work of people.
     pub good_night : (w : DeskParties) → DesksInvariant w → (before after : Libraries) → AreAt before w
         → (good : IsGoodNight txn before after) → CanAnswerIn txn after.responder → AreInStepIn txn after
     good_night w stands before after at good can =
@@ -358,6 +369,7 @@ module _ (projects : EachProjects) (reaches : EachReaches) (stand : EachStands) 
         answered two (desks_stand_on stand one work.0 stands_one)
         (subst (λ (libraries : Libraries). AreAt libraries two) good.people.met_then work.1) first
       where
+        -- The responder's night leads from `two` to `three`. The requester then takes the answers.
         answered : (two : DeskParties) → DesksInvariant two → AreAt good.met two
             → Sent who.Requester w.requester good.asked (mails_of good.asks.command.runs.0 good.asks.command.runs.2)
             (verdicts_of good.asks.command.runs.0 good.asks.command.runs.2) good.asks.command.leaving good.asks.asking
@@ -377,9 +389,11 @@ module _ (projects : EachProjects) (reaches : EachReaches) (stand : EachStands) 
             ends two stands_two three still first second third
             (ap (λ (library : Library). records_at library.file) (sym good.people.requester) ∙ met_at.requester.file)
           where
+            -- The sides `x` and `y` are in step or at rest.
             Ends : Side → Side → Type 0
             Ends x y = InStepOrAtRest x y
 
+            -- By what the three commands took and sent, the files have the sides of `restarted_step`.
             ends : (one : DeskParties) → DesksInvariant one → (two : DeskParties) → two.requester ≡ one.requester
                 → Sent who.Requester w.requester good.asked (mails_of good.asks.command.runs.0 good.asks.command.runs.2)
                 (verdicts_of good.asks.command.runs.0 good.asks.command.runs.2) good.asks.command.leaving good.asks.asking

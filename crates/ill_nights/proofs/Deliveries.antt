@@ -57,17 +57,20 @@ pub fault_stays : (live : DeskContents) (a : Apdu) (fault : DeskFault) → (desk
     → (desk_takes live a).1 ≡ live
 fault_stays live a fault = go (is_own live.role a.body) (side_for_call live a.txn (is_ill_request a.body))
   where
+    -- If a side that the message reaches refuses it, the desk stays.
     took : (held : DeskEntry) (answer : Result Taking Refusal) (new : Side)
         → (contents_after_message live held (answer, new)).0 ≡ Err fault
         → (contents_after_message live held (answer, new)).1 ≡ live
     took held (Ok _) new is = absurd cc
     took held (Err refusal) new is = refl
 
+    -- The message reaches a side, or there is none for it.
     reached : (found : Result DeskEntry DeskFault) → (takes_reached live a found).0 ≡ Err fault
         → (takes_reached live a found).1 ≡ live
     reached (Ok held) is = took held (takes held.side a).0 (takes held.side a).1 is
     reached (Err missing) is = refl
 
+    -- If `own` is true, the message is one that only this desk sends.
     go : (own : Bool) (found : Result DeskEntry DeskFault)
         → (if own then (Err (faults.Core WrongRole), live) else takes_reached live a found).0 ≡ Err fault
         → (if own then (Err (faults.Core WrongRole), live) else takes_reached live a found).1 ≡ live
@@ -103,20 +106,24 @@ module _ (projects : EachProjects) (reaches : EachReaches) (stand : EachStands) 
     pub outcome_seen : (desks_happen w (desk_events.Deliver role of n)).0 ≡ taking_seen (desk_takes (party w role).live a).0
     outcome_seen = ap (λ found. (desk_receives (party w role) found).0) was
 
-    -- If the message is of `txn`, and its delivery reaches no side, the side that is shown does not change.
+    -- If the message is of `txn`, but its delivery reaches no side, a delivery between the parties changes nothing.
     missed_stays : is_same_txn txn of ≡ true
         → (desks_happen w (desk_events.Deliver role of n)).0 ≡ NoSuchTransaction
         → (happens (project txn w) (events.Deliver role n)).1 ≡ project txn w
     missed_stays same none = go role was (subst (λ t. found_by txn_held t (party w role).live.held ≡ None) (sym is) unheld.0)
       where
+        -- The message is of `txn`, so both are one transaction.
         is : txn ≡ of
         is = same_is txn of same
 
+        -- The desk holds no side for the message, and the message is not an ILL-Request.
         unheld : (found_by txn_held of (party w role).live.held ≡ None) × (is_ill_request a.body ≡ false)
         unheld = not_reached (is_ill_request a.body) _ (found_by txn_held of (party w role).live.held)
             (subst (Reaches (is_ill_request a.body) _ (found_by txn_held of (party w role).live.held)) none
             (reaches w (desk_events.Deliver role of n) stands a was))
 
+        -- A requester without a side was sent nothing. A responder without a side is idle, and takes only an
+        -- ILL-Request.
         go : (to : Role) → sent_message (sent_for of (party w (other to)).sent) n ≡ Some a
             → found_by txn_held txn (party w to).live.held ≡ None
             → (happens (project txn w) (events.Deliver to n)).1 ≡ project txn w
@@ -139,6 +146,7 @@ module _ (projects : EachProjects) (reaches : EachReaches) (stand : EachStands) 
     unfolding takes_all
     side_took = go (is_same_txn txn a.txn) refl
       where
+        -- If `same` is true, the message is of `txn`, and its delivery is seen there.
         go : (same : Bool) → is_same_txn txn a.txn ≡ same → side_at role next ≡ takes_all (side_at role w) (cond same (a ∷ []) [])
         go true e =
             let own : is_same_txn txn of ≡ true = ap (is_same_txn txn) sent_in ∙ e in

@@ -47,12 +47,13 @@ unfolding Each
 each_by_number P [] by = tt
 each_by_number P (a ∷ apdus) by = (by 1 a refl, each_by_number P apdus (λ n b at. by (suc n) b (later n b at)))
   where
+    -- Message n of `apdus` is message n + 1 after `a` is put before them.
     later : (n : ℕ) (b : Apdu) → message apdus n ≡ Some b → message (a ∷ apdus) (suc n) ≡ Some b
     later zero b at = search rules
     later (suc n) b at = at
 
 module _ (txn : Qualifiers) where
-  -- If each message is of `txn`, all are; if none is, none.
+  -- If each of `apdus` is of `txn` (`same` is true), `messages_for` returns all. If none is, it returns none.
   all_or_none : (same : Bool) (apdus : List Apdu) → Each (λ a. is_same_txn txn a.txn ≡ same) apdus
       → messages_for txn apdus ≡ (if same then apdus else [])
   unfolding Each
@@ -92,9 +93,11 @@ module _ (txn : Qualifiers) where
     own_or_none held same is own =
         all_or_none same (leaving held) (wanted (wants_sending (is_asked asking (txn_of held.side)) held.side))
       where
+        -- A message is of `txn` just if its side is.
         of_txn : (a : Apdu) → is_same_txn a.txn (txn_held held) ≡ true → is_same_txn txn a.txn ≡ same
         of_txn a its = ap (is_same_txn txn) (same_is a.txn (txn_held held) its) ∙ is
 
+        -- The messages that leave are the first ones of the side, or none.
         wanted : (wants : Bool) → Each (λ a. is_same_txn txn a.txn ≡ same) (if wants then released_of held else [])
         wanted true = each_take (λ a. is_same_txn txn a.txn ≡ same) held.released (issued_of held.side)
             (each_so (λ a. is_same_txn a.txn (txn_held held) ≡ true) (λ a. is_same_txn txn a.txn ≡ same) (issued_of held.side)
@@ -125,6 +128,7 @@ module _ (txn : Qualifiers) where
             absurd (true≢false (sym (subst (λ t. is_one_of t (map txn_held held) ≡ true)
             (same_is txn (txn_held first) same) there) ∙ apart.0))
 
+        -- If `first` is of `txn`, its messages alone leave. If not, none of its messages is of `txn`.
         go : (same : Bool) → is_same_txn txn (txn_held first) ≡ same
             → messages_for txn (leaving first) ++ leaving_if (found_by txn_held txn held)
             ≡ leaving_if (cond same (Some first) (found_by txn_held txn held))
@@ -176,6 +180,7 @@ each_owns w role stands =
     (ap (found_or (idle_held live.role (txn_held held))) found) (shown_owns w role stands (txn_held held)))
     (each_found live.held (apart_at w role stands))
   where
+    -- The sides that the desk holds live.
     live : DeskContents
     live = (party w role).live
 
@@ -187,6 +192,7 @@ released_leave : (txn : Qualifiers) (asking : List Apdu) (role : Role) (found : 
 released_leave txn asking role None is all =
     silent (wants_sending (is_asked asking txn) (idle_side role txn)) (issued_of (idle_side role txn)) (idle_issues role txn)
   where
+    -- A side without messages sends none, wanted or not.
     silent : (wants : Bool) (issued : List Apdu) → issued ≡ [] → [] ≡ (if wants then issued else [])
     silent true issued none = sym none
     silent false issued none = refl

@@ -44,7 +44,7 @@ unfolding takes_all
 takes_join side [] more = refl
 takes_join side (a ∷ apdus) more = takes_join (takes side a).1 apdus more
 
--- `takes_all` is the side after messages.
+-- `takes_all` and `after_messages` give the same side.
 pub takes_messages : (side : Side) (apdus : List Apdu) → takes_all side apdus ≡ after_messages side apdus
 unfolding takes_all
 takes_messages side [] = refl
@@ -150,7 +150,8 @@ module _ (txn : Qualifiers) (after : (w : Parties) (event : Event) → Invariant
           ap (λ (v : Parties). v.responder.live) whole ∙ second.0 ∙ now_is.1,
         )
 
-    -- A night in which people act is enough, by a law of `ill_progress`. So these two sides are in step or at rest.
+    -- If a night with any deeds of people is enough (first premise), this one is. So the sides of `morning_is` are in
+    -- step or at rest.
     pub sides_in_step : ((people : List Event) → list_all is_by_responder people ≡ true
         → CanAnswer (run_of w (asked_and_worked people w)).responder.live
         → AreInStepOrAtRest (run_of w (worked_night_of people w))) → CanAnswer answers

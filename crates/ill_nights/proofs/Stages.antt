@@ -70,6 +70,7 @@ requester_refuses : (live new : DeskContents) (txn : Qualifiers) (deed : Deed) (
 requester_refuses live new txn deed today is done =
     refused (is_same_role live.role who.Responder) (ap (λ r. is_same_role r who.Responder) is) _ done
   where
+    -- A desk of another role refuses the deed, so it is not done.
     refused : (own : Bool) → own ≡ false → (result : Result DeskContents DeskFault)
         → (if own then result else Err (faults.Core WrongRole)) ≡ Ok new → ⊥
     refused true is result done = absurd cc
@@ -90,7 +91,8 @@ module _ (projects : EachProjects) (reaches : EachReaches) (stand : EachStands) 
 
   -- ---- the start
 
-  -- A command starts from the side that has landed.
+  -- If a command at `library` starts from `desk`, a restart of the desk of `role` reaches it. Its side of `txn` is the
+  -- landed one.
   pub starts_from : (w : DeskParties) → DesksInvariant w → (library : Library) (desk : HeldAndLanded DeskContents)
       → IsAt library (party w role) → StartsFrom library.file desk → Reached w desk (side_for txn (party w role).landed)
   starts_from w stands library desk at starts =
@@ -113,7 +115,8 @@ module _ (projects : EachProjects) (reaches : EachReaches) (stand : EachStands) 
 
   -- ---- the save after many changes
 
-  -- The changes of a run lead on to the world `mid`. If they are saved, or there is none, their side has landed.
+  -- Changes lead from `start` to the world `mid`, with the live side `next`. If `has_changed`, they are saved; if not,
+  -- `txn` is as before. Either way `new` is reached, and `next` has landed.
   saved_reaches : (w : DeskParties) (old new : HeldAndLanded DeskContents) (side next : Side) (live : DeskContents)
       (start : Reached w old side) (mid : DeskParties) → DesksInvariant mid
       → party mid role ≡ record (party start.now role) { live = live } → party mid (other role) ≡ party start.now (other role)
@@ -159,7 +162,8 @@ module _ (projects : EachProjects) (reaches : EachReaches) (stand : EachStands) 
 
   -- ---- the mails
 
-  -- Mails that were taken and saved lead the side on by their messages, in order.
+  -- If a command took its mails (`taken`), and the other desk sent each of their messages, `met.desk` is reached. Its
+  -- side is `side` after their messages of `txn`, in order.
   pub mails_reach : (w : DeskParties) (form : Form) (old met : CommandState DeskContents) (night : Night) (side : Side)
       → Reached w old.desk side → (taken : TakesMails form old (Ok night) met)
       → Bring (WasSent (party w (other role)).sent) (mails_taken taken)
@@ -167,14 +171,17 @@ module _ (projects : EachProjects) (reaches : EachReaches) (stand : EachStands) 
   mails_reach w form old met night side start (inl failed) were = absurd failed.0.0
   mails_reach w form old met night side start (inr took) were = go took.2 took.3 took.4
     where
+      -- The mails that were taken.
       mails : List Mail
       mails = took.0
 
+      -- The mails lead from the start to the world `led.now`, by their messages of `txn`.
       led : Led projects reaches stand changes txn role start.now (after_mails many_sides form old.desk.live mails).live
           (messages_for txn (messages_of mails)) [] (after_mails many_sides form old.desk.live mails).kept
       led = mails_led projects reaches stand changes txn role start.now start.stands (unsorted form old.desk.live)
           (sym start.at.live) mails (subst (λ (p : DeskParty). Bring (WasSent p.sent) mails) (sym start.there) were)
 
+      -- The mails led to the world `led.now`; the save then lands its side. An inbox that failed gives no `night`.
       go : (answer : Result (List Verdict) ToolFault) → RunsInbox many_sides (arrived_in form mails took.1) old answer met
           → SettlesRun mails took.1 answer (Ok night)
           → Reached w met.desk (takes_all side (messages_for txn (messages_of mails)))
@@ -199,7 +206,7 @@ module _ (projects : EachProjects) (reaches : EachReaches) (stand : EachStands) 
     side : (party (project txn now) role).live ≡ after_deeds_of (party (project txn w) role).live deeds
     quiet : has_any end.done ≡ false → (project txn now ≡ project txn w) × (has_any old.done ≡ false)
 
-  -- No deed leads nowhere.
+  -- Without a deed the world stays `w`, and the state stays `old`.
   none_did : (role : Role) (w : DeskParties) → DesksInvariant w → (old : Doing DeskContents) → (party w role).live ≡ old.live
       → Did role w old old
   unfolding after_deeds_of
@@ -213,7 +220,7 @@ module _ (projects : EachProjects) (reaches : EachReaches) (stand : EachStands) 
     quiet = λ none. (refl, none);
   }
 
-  -- A deed and then further ones lead on by the deeds of both.
+  -- If deeds lead from `old` to `between`, and further ones to `end`, both together lead from `old` to `end`.
   then_did : (role : Role) (w : DeskParties) (old between end : Doing DeskContents) (first : Did role w old between)
       → Did role first.now between end → Did role w old end
   then_did role w old between end first second = record {
@@ -227,7 +234,8 @@ module _ (projects : EachProjects) (reaches : EachReaches) (stand : EachStands) 
     quiet = λ none. (let later = second.quiet none in let sooner = first.quiet later.1 in (later.0 ∙ sooner.0, sooner.1));
   }
 
-  -- An event of a deed is seen as this deed, or as none.
+  -- If the event of a deed is seen in `txn`, it leads the responder's side on by this deed. If it is not (`own` is
+  -- false), it leads on by none.
   seen_deed : (v new : Parties) (deed : Deed) (today : Date) (own : Bool) (outcome : DeskOutcome)
       → IsSeenAs own (happens v (events.Deed deed today)) v outcome new
       → (deeds : List (Deed × Date)) × (new.responder.live ≡ after_deeds_of v.responder.live deeds)
@@ -244,7 +252,8 @@ module _ (projects : EachProjects) (reaches : EachReaches) (stand : EachStands) 
   some_done [] due none = search rules
   some_done (first ∷ done) due none = search rules
 
-  -- A deed that is done leads on by it, or changes nothing in `txn`.
+  -- If the desk does a deed on the loan `of`, `end` is reached from `old`. The side of `txn` is led on by it, or by
+  -- none. A requester's desk does no deed.
   done_did : (role : Role) (w : DeskParties) → DesksInvariant w → (old end : Doing DeskContents)
       → (party w role).live ≡ old.live → (of : Qualifiers) (deed : Deed) (today : Date)
       → desk_acts old.live of (actions.Deed deed today) ≡ Ok end.live → (has_any end.done ≡ false → ⊥) → Did role w old end
@@ -267,7 +276,7 @@ module _ (projects : EachProjects) (reaches : EachReaches) (stand : EachStands) 
         quiet = λ none. absurd (some none);
       }
 
-  -- An attempt at a deed leads on by it, or nowhere.
+  -- If the desk answers a deed with `result`, the attempt leads on by the deed, or changes nothing.
   tried_did : (role : Role) (w : DeskParties) → DesksInvariant w → (old : Doing DeskContents) → (party w role).live ≡ old.live
       → (of : Qualifiers) (deed : Deed) (today : Date) (due : _) (result : Result DeskContents DeskFault)
       → desk_acts old.live of (actions.Deed deed today) ≡ result → Did role w old (after_act due result old)
@@ -275,7 +284,7 @@ module _ (projects : EachProjects) (reaches : EachReaches) (stand : EachStands) 
       done_did role w stands old (doing new (old.done ++ due ∷ [])) is of deed today done (some_done old.done due)
   tried_did role w stands old is of deed today due (Err fault) done = none_did role w stands old is
 
-  -- Attempts at deeds lead on, one after another.
+  -- Attempts at the deeds `dues`, one after another, lead on by those that were done.
   all_did : (role : Role) (w : DeskParties) → DesksInvariant w → (old : Doing DeskContents) → (party w role).live ≡ old.live
       → (today : Date) (dues : List _) → Did role w old (fold (after_deed many_sides today) old dues)
   all_did role w stands old is today [] = none_did role w stands old is
@@ -286,12 +295,13 @@ module _ (projects : EachProjects) (reaches : EachReaches) (stand : EachStands) 
       then_did role w old next (fold (after_deed many_sides today) next dues) first
       (all_did role first.now first.stands next (ap (λ (p : DeskParty). p.live) first.here) today dues)
 
-  -- The side of `txn` after some deeds is reached.
+  -- The state `desk` is reached, and its side of `txn` is `side` after some deeds.
   pub record ReachedByDeeds (role : Role) (w : DeskParties) (desk : HeldAndLanded DeskContents) (side : Side) : Type 0 where
     pub deeds : List (Deed × Date)
     pub reached : Reached projects reaches stand changes txn role w desk (after_deeds_of side deeds)
 
-  -- The deeds of the day lead the side on, if they were done and saved.
+  -- If the due deeds were done and saved, `met.desk` is reached, with `side` after some deeds. Without a day (`dates`)
+  -- no deed is due.
   pub deeds_reach : (role : Role) (w : DeskParties) (form : Form) (dates : Option (Date × Dates))
       (old met : CommandState DeskContents)
       (done : Unit {0}) (side : Side) → Reached projects reaches stand changes txn role w old.desk side

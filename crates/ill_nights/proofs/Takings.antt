@@ -40,7 +40,7 @@ use Rattle.ill_nights.specs.Nights.{messages_of}
 use Rattle.ill_nights.proofs.Deliveries.{side_at, desk_took, other_took, outcome_seen, side_took, fault_stays}
 use Rattle.ill_nights.proofs.SideNights.{takes_join}
 
--- Few outcomes change the projection to a transaction.
+-- An event changes the projection to a transaction only if its outcome is one of the few that may (`DeskMayChange`).
 abbrev pub EachChanges : Type 0
 EachChanges = (txn : Qualifiers) (w : DeskParties) (event : DeskEvent) → DesksInvariant w →
     DeskMayChange (desks_happen w event).0 (project txn w) (project txn (desks_happen w event).1)
@@ -63,7 +63,7 @@ unfolding apdu_at outer_at header_at
 has_bytes [] a found = absurd cc
 has_bytes (byte ∷ bytes) a found = search rules
 
--- If nothing was kept, a message with this answer has changed nothing.
+-- If nothing is kept after a message with this answer, it has changed nothing, and nothing was kept before it.
 nothing_taken : (answer : Taking) (old new : Parties) (kept bytes : List ℕ) → has_any bytes ≡ true
     → DeskMayChange (Plain (Answered answer)) old new
     → has_any (kept ++ kept_bytes (Plain (Answered answer)) bytes) ≡ false → (new ≡ old) × (has_any kept ≡ false)
@@ -75,8 +75,9 @@ nothing_taken (Conflict state) old new kept bytes some may none = (may, first_em
 -- ---- one mail after another
 
 module _ (projects : EachProjects) (reaches : EachReaches) (stand : EachStands) (changes : EachChanges) (txn : Qualifiers) where
-  -- Mails lead from the world `w` to the world `now`. The desk of `role` then has the sides `live`, and the other desk is
-  -- as before. The side of `txn` has taken `apdus`. If nothing was kept, no side of `txn` has changed.
+  -- Mails lead from the world `w` to the world `now`. The desk of `role` then has the sides `live`, and the other desk
+  -- is as before. The side of `txn` has taken `apdus`. The bytes kept are `before`, and then `kept`. If nothing was
+  -- kept, no side of `txn` has changed.
   pub record Led (role : Role) (w : DeskParties) (live : DeskContents) (apdus : List Apdu) (before kept : List ℕ) : Type 0 where
     pub now : DeskParties
     pub stands : DesksInvariant now
@@ -90,7 +91,7 @@ module _ (projects : EachProjects) (reaches : EachReaches) (stand : EachStands) 
     abbrev side : DeskParties → Side
     side w = side_at projects reaches stand txn role w
 
-    -- A mail that no desk takes leaves the world.
+    -- A mail that no desk takes changes nothing: the world stays `w`.
     stays_led : (w : DeskParties) → DesksInvariant w → (live : DeskContents) → (party w role).live ≡ live → (kept : List ℕ)
         → Led role w live [] kept kept
     unfolding takes_all
@@ -103,7 +104,7 @@ module _ (projects : EachProjects) (reaches : EachReaches) (stand : EachStands) 
       quiet = λ none. (refl, none);
     }
 
-    -- Mails and then further ones lead on by the messages of both.
+    -- If mails lead on by `apdus`, and further ones then by `more`, all lead on by `apdus ++ more`.
     then_led : (w : DeskParties) (first_live live : DeskContents) (apdus more : List Apdu) (before between kept : List ℕ)
         → (first : Led role w first_live apdus before between) → Led role first.now live more between kept
         → Led role w live (apdus ++ more) before kept
@@ -116,10 +117,12 @@ module _ (projects : EachProjects) (reaches : EachReaches) (stand : EachStands) 
       quiet = λ none. (let later = second.quiet none in let sooner = first.quiet later.1 in (later.0 ∙ sooner.0, sooner.1));
     }
 
+    -- A delivery leads from `w` to `next`: the other desk is as before, and the side of `txn` takes `apdus`. The
+    -- message is `a`, in a mail `name` with `bytes`.
     module _ (w next : DeskParties) (stands : DesksInvariant next) (there : party next (other role) ≡ party w (other role))
         (name bytes : List ℕ) (some : has_any bytes ≡ true) (a : Apdu) (apdus : List Apdu)
         (taken : side next ≡ takes_all (side w) apdus) (old : Sorting DeskContents) where
-      -- The state after a desk has answered the message of a mail so.
+      -- Returns the state of the inbox after the desk has answered the message with `result`, and then holds `new`.
       abbrev after : Result Taking DeskFault → DeskContents → Sorting DeskContents
       after result new = after_handing many_sides name bytes a (answered result, new) old
 
@@ -208,7 +211,7 @@ module _ (projects : EachProjects) (reaches : EachReaches) (stand : EachStands) 
         read_led unread name None were = stays_led w stands old.live is old.kept
         read_led unread name (Some bytes) were = found_led name bytes (message_in bytes) refl were
 
-    -- Mails lead on by all their messages, in order.
+    -- If the other desk has sent each message of `mails`, they lead on by all these messages, in order.
     pub mails_led : (w : DeskParties) → DesksInvariant w → (old : Sorting DeskContents) → (party w role).live ≡ old.live
         → (mails : List Mail) → Bring (WasSent (party w (other role)).sent) mails
         → Led role w (fold (after_mail many_sides) old mails).live (messages_for txn (messages_of mails)) old.kept

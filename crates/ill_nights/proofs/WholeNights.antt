@@ -17,7 +17,7 @@ use Rattle.ill_mail.specs.Nights.{AskedNight, ExchangesAt, Night, TakesMails, ni
 use Rattle.ill_runs.specs.Libraries.{Library}
 use Rattle.ill_nights.specs.Nights.{IsNight}
 
--- No bytes hold no message.
+-- Empty bytes encode an empty list of messages.
 none_in : AreIn [] []
 unfolding apdu_at outer_at header_at
 none_in = (Ok [], ([], record { encoded = tt; parts = refl }, (refl, refl)))

@@ -4,25 +4,25 @@ use Rattle.ill_record.specs.declared.role.Role.TheVariants as who
 use Rattle.ill_runs.specs.Libraries.{Commands, Happens, IsHistory, Libraries, Library, libraries_after}
 use Rattle.ill_nights.specs.Nights.{AreAtWork}
 
--- One further command prolongs a history.
+-- If `people` is a history from `now`, and a command then leads to `next`, `people` with `next` is one.
 prolonged : (now : Libraries) (people : List Libraries) (next : Libraries) → IsHistory now people
     → Happens (libraries_after now people) next → IsHistory now (people ++ next ∷ [])
 unfolding IsHistory libraries_after
 prolonged now [] next is happens = (happens, tt)
 prolonged now (first ∷ people) next is happens = (is.0, prolonged first people next is.1 happens)
 
--- A history ends with the libraries after its last command.
+-- A history whose last libraries are `next` leads from `now` to `next`.
 ends_with : (now : Libraries) (people : List Libraries) (next : Libraries) → libraries_after now (people ++ next ∷ []) ≡ next
 unfolding libraries_after
 ends_with now [] next = refl
 ends_with now (first ∷ people) next = ends_with first people next
 
--- People may do nothing.
+-- People may do nothing: their work then leads from `libraries` to the same.
 pub no_work : (libraries : Libraries) → AreAtWork libraries libraries
 unfolding IsHistory libraries_after
 no_work libraries = record { people = []; work = tt; met_then = refl; requester = refl }
 
--- A further command of the responder's library may be theirs.
+-- If people's work leads from `asked` to `met`, any command of the responder's library may follow, to `after`.
 pub further_work : (asked met : Libraries) (after : Library) → AreAtWork asked met
     → Commands met.requester.left met.responder after
     → AreAtWork asked (record { requester = met.requester; responder = after })

@@ -24,8 +24,8 @@ use Rattle.ill_nights.specs.Messages.{InStepOrAtRest, after_deeds_of, after_mess
 
 -- ---- what leaves in a night
 
--- A night was whole. Its mails were taken, its deeds were done, it was copied, and `left` are all messages of its outbox.
--- `asking` are the messages that ask.
+-- A night was whole. Its mails were taken, its deeds were done, it was copied, and `left` are all messages of its
+-- outbox. `asking` are the messages that ask: their mails are done with, and their loans are over at the desk.
 abbrev pub IsWhole : (asked : AskedNight) → {old new : CommandState DeskContents} →
     {result : Result Bool ToolFault} → ExchangesAt asked old result new → (asking left : List Apdu) → Type 0
 IsWhole asked (met, Err fault, taken, ends) asking left = ⊥
@@ -78,7 +78,7 @@ IsBytesOf (Some bytes) = IsBytes bytes
 abbrev pub AreBytes : List Mail → Type 0
 AreBytes mails = Each (λ (mail : Mail). IsBytesOf (option_map (λ bytes. bytes.items) mail.bytes)) mails
 
--- Returns the verdicts of the mails that a desk took in a night.
+-- Returns the verdicts of the mails that a desk took in a night. If the taking failed, they are none.
 abbrev pub verdicts_of : (asked : AskedNight) → {old new : CommandState DeskContents} →
     {result : Result Bool ToolFault} → ExchangesAt asked old result new → List Verdict
 verdicts_of asked (met, Err fault, taken, ends) = []
@@ -93,8 +93,8 @@ HasDone txn night =
 
 -- ---- what a night does to a loan
 
--- The file of the library can be read. The messages of the transaction among `left` are all that its side has issued, in
--- order. If the loan is over, and no message of it asks, they are none.
+-- The file of the library can be read. The messages of the transaction among `left` are all that its side has issued,
+-- in order, or none (`sent_by`). If the loan is open, they are all.
 abbrev pub LeftOf : Qualifiers → Library → List Apdu → List Apdu → Type 0
 LeftOf txn after asking left =
     (held : SidesOf) × (records_at after.file ≡ Ok held)

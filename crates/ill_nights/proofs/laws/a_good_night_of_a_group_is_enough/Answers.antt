@@ -1,4 +1,5 @@
--- Proves the contract of `a_good_night_of_a_group_is_enough` (`src/laws.rt`). The desks of a group have a history.
+-- Proves the contract of `a_good_night_of_a_group_is_enough` (`src/laws.rt`). The files of `group` have a history of
+-- two libraries (`own.history`), so `a_good_night_is_enough` holds of them.
 use Rattle.std.proofs.Common.{subst}
 use Rattle.ill_runs.specs.Libraries.{Libraries}
 use Rattle.ill_runs.specs.ShelfLibraries.{first_shelf_libraries, visits_of}

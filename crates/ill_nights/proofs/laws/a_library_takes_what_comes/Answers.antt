@@ -8,6 +8,8 @@ use Rattle.ill_runs.proofs.HistoryLemmas.{each_is_at}
 use Rattle.ill_nights.proofs.CommandNights.{took_of}
 use Rattle.ill_nights.proofs.laws.a_library_takes_what_comes.Goals as goal
 
+-- The history leads to two desks that stand (`w`). By these laws `took_of` shows that a side takes each message that
+-- came, in order.
 pub returns : goal.returns
 returns c =
     λ txn who later after takes history.

@@ -8,6 +8,8 @@ use Rattle.ill_runs.proofs.HistoryLemmas.{each_is_at}
 use Rattle.ill_nights.proofs.CommandNights.{left_of}
 use Rattle.ill_nights.proofs.laws.a_night_sends_all_or_none.Goals as goal
 
+-- The history leads to two desks that stand (`w`). By these laws `left_of` shows that all of a loan's messages leave,
+-- or none.
 pub returns : goal.returns
 returns c =
     λ txn who later after night history.

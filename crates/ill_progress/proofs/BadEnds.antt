@@ -14,7 +14,7 @@ use Rattle.ill_progress.specs.BadEnds.{checks_in, asks_to_cancel, accepts, renew
 use Rattle.ill_progress.specs.BadEnds.{reminds, recalls, saves, fails, sends, delivers, hears, restarts}
 use Rattle.ill_progress.specs.Ends.{is_act_to_end, CanEnd, HasNumbers}
 
--- The answer of `is_act_to_end` is right.
+-- If `says` is a wrong answer for `event`, it is not the answer of `is_act_to_end`.
 pub not_misjudged : (event : Event) (says : Bool) → MisjudgesAct event says → says ≡ is_act_to_end event → ⊥
 not_misjudged event says (asks expiry item) e = true≢false (sym e)
 not_misjudged event says declines e = true≢false (sym e)
@@ -40,7 +40,7 @@ not_misjudged event says (delivers who n) e = true≢false e
 not_misjudged event says (hears who bytes) e = true≢false e
 not_misjudged event says (restarts who) e = true≢false e
 
--- If the loan can be ended, some events bring both sides to rest.
+-- If the loan can be ended from `w`, some events bring both sides to rest. They are the acts, each with its night.
 pub ends_by_events : (days : ℕ) (w : Parties) (today : Date) → CanEnd days w → (events : List Event) × AreAtRest (run_of w events)
 unfolding CanEnd run_by
 ends_by_events zero w today rest = ([], rest)

@@ -9,7 +9,7 @@ use Rattle.ill_world.specs.World.{Parties, who_of}
 use Rattle.ill_progress.specs.NightWithPeople.{HasHeard, HaveLanded, is_by_responder}
 use Rattle.ill_progress.specs.BadNightWithPeople.{HasNotHeard, HasNotLanded, unheard, not_landed}
 
--- A record that has not heard all has not heard.
+-- If some message would change the responder's record (`HasNotHeard`), `HasHeard` does not hold.
 pub none_unheard : (x : RequesterRecord) (y : ResponderRecord) → HasNotHeard x y → HasHeard x y → ⊥
 none_unheard x y (unheard n a at changes) heard = changes (heard n a at)
 

@@ -43,10 +43,11 @@ cannot : (w : MarkedShelves) (e : ShelfEvent) → has_mark w (who_of (plain e.ev
 cannot w e marked none =
     ap (λ b. not b || is_last_word (w.shelves (home e)) e.event) marked ∙ none
 
--- If another number is not the last one, the test of both is false.
+-- If `n` is not `last`, the test of both numbers is false.
 not_last : (n last : ℕ) → (n ≡ last → ⊥) → (n == last) ≡ false
 not_last n last apart = go (n == last) refl
   where
+    -- If the test were true, the numbers would be equal.
     go : (same : Bool) → (n == last) ≡ same → same ≡ false
     go true same = absurd (apart (eqb-true n last same))
     go false same = refl
@@ -62,7 +63,7 @@ goes_if w e can = ap (after_if w e) can
 
 -- ---- retirements
 
--- Each loan of a list is over if each that it has is over.
+-- If each side that `all` has is over, the test of all sides is true.
 each_over : (all : List Side) → ((side : Side) → Has all side → is_over side ≡ true) → list_all is_over all ≡ true
 each_over [] over = refl
 each_over (side ∷ more) over =
@@ -73,24 +74,27 @@ each_over (side ∷ more) over =
 one_open : (before after : List Side) (side : Side) → is_over side ≡ false → list_all is_over (before ++ side ∷ after) ≡ false
 one_open [] after side is = go (is_over side) is
   where
+    -- The open `side` makes the test of the whole list false.
     go : (over : Bool) → over ≡ false → over && list_all is_over after ≡ false
     go true is = absurd (true≢false is)
     go false is = refl
 one_open (first ∷ before) after side is = go (is_over first) (one_open before after side is)
   where
+    -- The first side may be over or not: the open `side` is among those after it.
     go : (over : Bool) → list_all is_over (before ++ side ∷ after) ≡ false
         → over && list_all is_over (before ++ side ∷ after) ≡ false
     go true is = is
     go false is = refl
 
--- A group is itself.
+-- The test of a group with itself is true.
 self : (group : List ℕ) → bytes_eq group group ≡ true
 self group = (bytes_eq-Decides group group).1 refl
 
--- Another group is not this one.
+-- If `another` is not `group`, the test of both is false.
 apart_from : (another group : List ℕ) → (another ≡ group → ⊥) → bytes_eq another group ≡ false
 apart_from another group apart = go (bytes_eq another group) refl
   where
+    -- If the test were true, the groups would be equal.
     go : (same : Bool) → bytes_eq another group ≡ same → same ≡ false
     go true same = absurd (apart ((bytes_eq-Decides another group).0 same))
     go false same = refl
@@ -166,7 +170,7 @@ desk_there w role group =
     ap (λ b. party (if b then (desks_happen (w.shelves group) (events.Restart role)).1 else w.shelves group) role) (self group)
     ∙ own_desk role (w.shelves group)
 
--- A retirement does as the mark and the loans say.
+-- A retirement does as `retired_if` says of the mark (`marked`) and of the test of the landed loans (`over`).
 retires_as : (w : MarkedShelves) (role : Role) (group : List ℕ) (marked over : Bool) → has_mark w role group ≡ marked
     → are_loans_over (party (w.shelves group) role) ≡ over
     → retiring_happens w (retire role group) ≡ retired_if w role group marked over
@@ -174,14 +178,15 @@ retires_as w role group marked over is loans =
     ap (λ b. retired_if w role group b (are_loans_over (party (w.shelves group) role))) is
     ∙ ap (retired_if w role group marked) loans
 
--- A sum of truths is true.
+-- A disjunction with `true` is true.
 or_true : (b : Bool) → b || true ≡ true
 or_true true = refl
 or_true false = refl
 
 -- ---- all cases
 
--- No retiring event is mishandled.
+-- No retiring event is mishandled. Each case is against a lemma: on events that can happen (`stays_if`, `goes_if`), or
+-- on retirements (`retires_as`).
 pub none_mishandled : (w : MarkedShelves) (event : RetiringEvent)
     → IsMishandled w (retiring_happens w event).0 (retiring_happens w event).1 event → ⊥
 none_mishandled w _ (changes_retired e marked silent changed) =

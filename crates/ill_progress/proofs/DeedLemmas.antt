@@ -1,4 +1,4 @@
--- The messages of which `has_heard` holds at a responder, after a deed. Each message of the requester stays one.
+-- Proves that after a deed of the responder `has_heard` still holds there of each message of the requester.
 use Rattle.std.proofs.Common.{rules, arith, ◌≡◌, ◌⊎◌, inl, inr, ℕ, ◌+◌, ◌≤◌, ◌<◌, Bool, true, false, not, ◌&&◌, ◌||◌, nat_lt}
 use Rattle.std.proofs.Common.{List}
 use Rattle.std.proofs.Common.{[], ◌∷◌, length, length-append, Option, Some, None, is_some, Result, Ok, Err, if◌then◌else◌}
@@ -227,7 +227,7 @@ from_settled s next leads is = search rules
 
 -- ---- states
 
--- A side in CANCEL-PENDING or CANCELLED is in one of these three.
+-- A side in CANCEL-PENDING or CANCELLED is in PENDING, CANCEL-PENDING or CANCELLED.
 cancel_is_among : (s : State) → is_among (states.CancelPending ∷ states.Cancelled ∷ []) s ≡ true
     → is_among (states.Pending ∷ states.CancelPending ∷ states.Cancelled ∷ []) s ≡ true
 cancel_is_among states.CancelPending is = refl
@@ -252,7 +252,7 @@ renew_is_lent states.RenewPending is = (refl, refl)
 renew_is_lent states.RenewOverdue is = (refl, refl)
 renew_is_lent s is = search rules
 
--- A requester that is not in SHIPPED or later is in none of these states.
+-- A requester that is not in SHIPPED or later is in none of the states of these four lists.
 before_shipped : (s : State) → is_among later s ≡ false
     → (is_among (states.Recall ∷ states.Returned ∷ []) s ≡ false)
     × (is_among (states.RenewPending ∷ states.RenewOverdue ∷ []) s ≡ false) × (is_among (states.Returned ∷ []) s ≡ false)
@@ -273,16 +273,17 @@ equal_is : (n : ℕ) (o : Option ℕ) → is_equal_number n o ≡ true → o ≡
 equal_is n None is = search rules
 equal_is n (Some m) is = ap Some (sym (eqb-true n m is))
 
--- A number up to the value of an option is at most the option.
+-- If the option `o` has the value `m`, each number `k` up to `m` is at most `o`.
 at_most : (k m : ℕ) (o : Option ℕ) → o ≡ Some m → k ≤ m → is_at_most k o ≡ true
 at_most k m o is few = subst (λ (p : Option ℕ). is_at_most k p ≡ true) (sym is) (le-leb k m few)
 
--- A date that is absent is after no day.
+-- If there is no `due` date, it is not after `day`.
 no_due : (day : Date) (due : Option Date) → is_some due ≡ false → is_due_after day due ≡ false
 no_due day None none = refl
 no_due day (Some d) none = search rules
 
--- A number below the length of the list is not that of the last message.
+-- If the last number is outstanding in CONDITIONAL, it is that of the last message. So a number `c` below it is not
+-- outstanding.
 not_outstanding : (c : ℕ) (conditional : Bool) (apdus : List Apdu) → (conditional ≡ true → c < length apdus)
     → is_equal_number c (if conditional then (if is_none apdus then None else Some (length apdus)) else None) ≡ false
 not_outstanding c false apdus below = refl
@@ -290,18 +291,20 @@ not_outstanding c true [] below = refl
 not_outstanding c true (a ∷ apdus) below =
     false_from_ne_true _ (λ same. absurd (omega (arith, eqb-true c (length (a ∷ apdus)) same, below refl)))
 
--- A test holds if its premise does not, or its conclusion does.
+-- If the `premise` implies the `conclusion`, the test of the implication is true.
 holds_if : (premise conclusion : Bool) → (premise ≡ true → conclusion ≡ true) → (not premise || conclusion) ≡ true
 holds_if true conclusion has = has refl
 holds_if false conclusion has = refl
 
--- Some day is not before a due date, or there is no due date.
+-- For each `due`, a date or none, there is a day that it is not after.
 not_after : (due : Option Date) → (day : Date) × (is_due_after day due ≡ false)
 not_after None = (no_date, refl)
 not_after (Some due) = (due, itself_not_before due)
 
 -- ---- a requester's record and a responder's
 
+-- Premises: both records satisfy their invariants, and each has issued what it has sent (`issued`, `heeded`). The
+-- responder has heard each message of the requester (`heard`).
 module _ (txn : Qualifiers) (x : RequesterRecord) (y : ResponderRecord) (responder_sent requester_sent : List (Option Apdu))
     (borrower : RequesterInvariant txn x responder_sent) (lender : ResponderInvariant txn y requester_sent)
     (issued : AreIssued responder_sent y.issued) (heeded : AreIssued requester_sent x.issued)
@@ -318,7 +321,8 @@ module _ (txn : Qualifiers) (x : RequesterRecord) (y : ResponderRecord) (respond
 
   -- ---- CANCEL-PENDING
 
-  -- The last Cancel of a responder in CANCEL-PENDING is open at the requester.
+  -- The last Cancel of a responder in CANCEL-PENDING is open at the requester. If it were closed, the requester would
+  -- know a refusal. The responder has refused only earlier ones.
   cancel_waits : (c : ℕ) → is_among (states.CancelPending ∷ []) y.state ≡ true → y.last_cancel ≡ Some c
       → requester.is_open x c ≡ true
   cancel_waits c is last =
@@ -379,7 +383,8 @@ module _ (txn : Qualifiers) (x : RequesterRecord) (y : ResponderRecord) (respond
       let at = says_message is_returned x.issued (borrower.rules.issued.returned ∙ returned) in
       both_ways _ (returned_heard y at.1.number at.1.body at.3 (heard at.0 at.1 at.2)) (renew_is_lent y.state is).0)
 
-  -- The last Renew of the responder, if one waits there, waits for its answer at the requester.
+  -- The last Renew of the responder, if one waits there, waits for its answer at the requester. Otherwise the requester
+  -- would know an answer. The responder has answered only earlier ones.
   renew_waits : (m : ℕ) → is_among (states.RenewPending ∷ states.RenewOverdue ∷ []) y.state ≡ true → y.last_renew ≡ Some m
       → (is_awaiting_answer x m ≡ false → ⊥)
   renew_waits m is last over =
@@ -407,11 +412,12 @@ module _ (txn : Qualifiers) (x : RequesterRecord) (y : ResponderRecord) (respond
 
   -- ---- IN-PROCESS
 
-  -- A responder in IN-PROCESS faces a requester that has no due date.
+  -- If the responder is in IN-PROCESS, the requester is not in SHIPPED or later, so it has no due date.
   none_due : is_among (states.InProcess ∷ []) y.state ≡ true → is_among later x.state ≡ false
   none_due is = not_shipped (in_process y.state is).0
 
-  -- A responder in IN-PROCESS has answered each Renew of the requester.
+  -- A responder in IN-PROCESS has answered each Renew of the requester: none waits there, so the requester knows each
+  -- answer.
   renew_answered_before : (n : ℕ) (a : Apdu) → message x.issued n ≡ Some a → is_renew a.body ≡ true
       → is_among (states.InProcess ∷ []) y.state ≡ true → is_at_most a.number y.last_renew ≡ true
   renew_answered_before n a at says is =
@@ -440,7 +446,8 @@ module _ (txn : Qualifiers) (x : RequesterRecord) (y : ResponderRecord) (respond
       both_ways _ (before_shipped x.state (none_due is)).2
       (sym borrower.rules.issued.returned ∙ message_says is_returned x.issued n a at says)
 
-  -- If a responder in IN-PROCESS has a number left, each accepted number is that of a message that it has issued.
+  -- If a responder in IN-PROCESS has a number left, each accepted number is that of a message that it has issued. The
+  -- requester knows the conditions that it accepts.
   accepted_before : (n c : ℕ) (a : Apdu) → message x.issued n ≡ Some a → a.body ≡ types.ConditionalReply c true
       → is_among (states.InProcess ∷ []) y.state ≡ true → nat_lt (length y.issued) 255 ≡ true → c ≤ length y.issued
   accepted_before n c a at body is left =
@@ -458,7 +465,8 @@ module _ (txn : Qualifiers) (x : RequesterRecord) (y : ResponderRecord) (respond
 
   -- ---- after a deed
 
-  -- After a transition `has_heard` holds of each message of the requester.
+  -- If a deed leads to the state after `t`, `has_heard` then holds of each message of the requester. A number was left
+  -- (`left`). Each case is one kind of message. It looks at the states from which a deed leads there.
   heard_then : (t : Transition) → Leads y t.next → nat_lt (length y.issued) 255 ≡ true → (n : ℕ) (a : Apdu)
       → message x.issued n ≡ Some a → (body : Body) → a.body ≡ body → records.has_heard (record_after y t) a.number body ≡ true
   heard_then t leads_to_it left n a at (types.IllRequest expiry item) is = ap not (not_idle y.state t.next leads_to_it)
@@ -499,7 +507,7 @@ module _ (txn : Qualifiers) (x : RequesterRecord) (y : ResponderRecord) (respond
       ]))
   heard_then t leads_to_it left n a at body is = refl
 
-  -- After a deed `has_heard` holds of each message of the requester.
+  -- If a deed is done, `has_heard` holds of each message of the requester in the record `new`.
   pub heard_after_deed : (deed : Deed) (today : Date) (new : ResponderRecord) → acts y deed today ≡ Ok new → (n : ℕ) (a : Apdu)
       → message x.issued n ≡ Some a → records.has_heard new a.number a.body ≡ true
   heard_after_deed deed today new is n a at =

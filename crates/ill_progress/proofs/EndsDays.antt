@@ -1,4 +1,4 @@
--- An act towards the end and a night after it leave fewer acts to the end. So the loan can be ended.
+-- After an act towards the end, and a night, fewer acts are left: first of two records, then of two sides.
 use Rattle.std.proofs.Common.{rules, arith, ◌≡◌, ◌⊎◌, inl, inr, ℕ, ◌+◌, ◌≤◌, ◌<◌, Bool, true, false, ◌&&◌, List, [], ◌∷◌}
 use Rattle.std.proofs.Common.{length, Option, Result, Ok, Err, refl, sym, ap, ◌∙◌, subst}
 use Rattle.std.proofs.lemmas.Bool.{or_left, or_right}
@@ -117,19 +117,21 @@ pub record OneEach : Type 0 where
 unsupplied_none : (x : RequesterRecord) → x.state ≡ states.NotSupplied → acts_to_end x ≡ 0
 unsupplied_none x at = (none_left_at_the_end x).1 (ap (λ (s : State). requester_turn_in s (is_declined x) x.checked_in) at)
 
--- If the responder had issued at most one message more than `size`, its numbers count after the day. Or no act is left.
+-- The responder had issued at most `size` + 1 messages before the night. After it, its messages and the acts left are
+-- at most `size` and the acts left of `x`. Or no act is left.
 lent_counts : (x after : RequesterRecord) (new answered : ResponderRecord) (size : ℕ) → length new.issued ≤ size + 1
     → ResponderKept new answered → Settled (sides.Requester after) (sides.Responder answered) → acts_to_end after < acts_to_end x
     → (acts_to_end after + length answered.issued ≤ acts_to_end x + size) ⊎ (acts_to_end after ≡ 0)
 lent_counts x after new answered size few kept settled fewer = go kept.issued
   where
+    -- The responder has issued nothing in the night, or both sides are in NOT-SUPPLIED.
     go : (answered.issued ≡ new.issued) ⊎ (is_among (states.NotSupplied ∷ []) answered.state ≡ true)
         → (acts_to_end after + length answered.issued ≤ acts_to_end x + size) ⊎ (acts_to_end after ≡ 0)
     go (inl same) = inl (omega (arith, few, fewer, ap (λ (l : List Apdu). length l) same))
     go (inr is) = inr (unsupplied_none after
         (faces_unsupplied after.state answered.state (settled_faced after answered settled) is))
 
--- After a wish towards the end, and a night, fewer acts are left.
+-- If a wish towards the end leads to `new`, and a night then to `after` and `answered`, `SidesCount` holds.
 wish_records : OneEach → (x new after : RequesterRecord) (y answered : ResponderRecord) (wish : Wish) → is_wish_to_end wish ≡ true
     → requester_actions.acts x wish ≡ Ok new → RequesterKept new after → ResponderKept y answered → RequesterRules after
     → Settled (sides.Requester after) (sides.Responder answered)
@@ -142,7 +144,8 @@ wish_records one x new after y answered wish ends done kept waited fits settled 
       lent = lent_counts x after y answered (length y.issued) (omega arith) waited settled fewer;
     }
 
--- After a deed towards the end, and a night, fewer acts are left. `settles` says that a renewal lets no Renew wait.
+-- If a deed towards the end leads to `new`, and a night then to `after` and `answered`, `SidesCount` holds. `settles`
+-- says that a renewal lets no Renew wait.
 deed_records : OneEach → (x after : RequesterRecord) (y new answered : ResponderRecord) (deed : Deed) (today : Date)
     → is_deed_to_end deed ≡ true → responder_actions.acts y deed today ≡ Ok new → RequesterKept x after
     → ResponderKept new answered → InStep x y → RequesterRules x → RequesterRules after
@@ -159,6 +162,7 @@ deed_records one x after y new answered deed today ends done waited kept step fi
           fewer;
     }
   where
+    -- If the two are in step, `deed_counts` counts the acts. If they are at rest, none is left.
     go : DeedEnds y new → Settled (sides.Requester after) (sides.Responder answered) → acts_to_end after < acts_to_end x
     go it_ends (inl step_after) =
         deed_counts x after y new answered it_ends kept step step_after fits waited fits_after (settles step_after)
@@ -166,7 +170,8 @@ deed_records one x after y new answered deed today ends done waited kept step fi
 
 -- ---- one day, at both sides
 
--- After a wish towards the end, and a night, fewer acts are left.
+-- If a wish towards the end leads to `acted`, and a night then to `after` and `answered`, `SidesCount` holds. By the
+-- invariants no other roles are possible.
 pub wish_sides : OneEach → (txn : Qualifiers) (requester acted after responder answered : Side) (a b c d : List (Option Apdu))
     (wish : Wish) → is_wish_to_end wish ≡ true → acts requester (actions.Wish wish) ≡ Ok acted → SideKept acted after
     → SideKept responder answered → RequesterSideInvariant txn requester a → ResponderSideInvariant txn responder b
@@ -186,7 +191,8 @@ wish_sides one txn (sides.Requester x) acted (sides.Responder z) (sides.Responde
 wish_sides one txn (sides.Requester x) acted (sides.Requester after) (sides.Responder y) (sides.Requester z) a b c d wish ends
     done kept waited asker lender asker_after lender_after settled = absurd lender_after
 
--- After a deed towards the end, and a night, fewer acts are left.
+-- If a deed towards the end leads to `acted`, and a night then to `after` and `answered`, `SidesCount` holds. By the
+-- invariants no other roles are possible.
 pub deed_sides : OneEach → (txn : Qualifiers) (requester after responder acted answered : Side) (a b c d : List (Option Apdu))
     (deed : Deed) (today : Date) → is_deed_to_end deed ≡ true → acts responder (actions.Deed deed today) ≡ Ok acted
     → SideKept requester after → SideKept acted answered → RequesterSideInvariant txn requester a
@@ -242,6 +248,7 @@ deed_can txn (sides.Responder y) (sides.Responder new) a b deed today ends done 
     inl (ended_says new new.state refl lender_after.ends
     (deed_ended y new (subst (DeedEnds y) same (deed_ends y is.0 deed today ends is.1))))
   where
+    -- Equal sides have equal records.
     same_responder : (z w : ResponderRecord) → sides.Responder z ≡ sides.Responder w → z ≡ w
     same_responder z w equal = search rules
 deed_can txn (sides.Requester x) acted a b deed today ends done lender lender_after = absurd lender

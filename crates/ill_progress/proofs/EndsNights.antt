@@ -48,15 +48,22 @@ lends y a = (responder_deliveries.takes y a).1
 -- These facts of the tables are assumed here. A requester that takes a message issues nothing, and leads neither back to
 -- IDLE nor out of RETURNED. A responder issues nothing but an ILL-Answer unfilled, and stays in the state of an end.
 pub record RowsKeep : Type 0 where
+  -- A requester that takes a message issues nothing.
   pub requester_issues : (x : RequesterRecord) (a : Apdu) → (asks x a).issued ≡ x.issued
+  -- It does not go back to IDLE.
   pub requester_begun : (x : RequesterRecord) (a : Apdu) → is_among (states.Idle ∷ []) x.state ≡ false
       → is_among (states.Idle ∷ []) (asks x a).state ≡ false
+  -- It stays in CANCELLED, NOT-SUPPLIED and RETURNED.
   pub requester_final : (x : RequesterRecord) (a : Apdu)
       → is_among (states.Cancelled ∷ states.NotSupplied ∷ states.Returned ∷ []) x.state ≡ true → (asks x a).state ≡ x.state
+  -- A responder that takes a message issues nothing, or one ILL-Answer unfilled.
   pub responder_issues : (y : ResponderRecord) (a : Apdu) → IssuesUnfilled y a.body (lends y a)
+  -- If it issues a message that ends the request, it comes to the state of this message.
   pub responder_ends : (y : ResponderRecord) (a : Apdu) → Ends y (lends y a)
+  -- It stays in NOT-SUPPLIED, CANCELLED and CHECKED-IN.
   pub responder_final : (y : ResponderRecord) (a : Apdu)
       → is_among (states.NotSupplied ∷ states.Cancelled ∷ states.CheckedIn ∷ []) y.state ≡ true → (lends y a).state ≡ y.state
+  -- It stays in SHIPPED or later.
   pub responder_later : (y : ResponderRecord) (a : Apdu) → StaysLater y (lends y a)
 
 -- ---- states
@@ -195,6 +202,7 @@ module _ (txn : Qualifiers) (after : (w : Parties) (event : Event) → Invariant
       → Heard w (run_of w (night_of w))
   night_heard w stands rounds saves = go (is_over w.requester.live) refl
     where
+      -- An open loan has a round; a loan that is over has two saves.
       go : (over : Bool) → is_over w.requester.live ≡ over → Heard w (run_of w (night_of w))
       go false is = subst (λ (l : List Event). Heard w (run_of w l)) (sym (rounds is)) (round_heard w stands)
       go true is = subst (λ (l : List Event). Heard w (run_of w l)) (sym (saves is)) (saves_heard w)

@@ -28,7 +28,7 @@ use Rattle.ill_progress.specs.Ends.{last_refusal}
 none_next : (apdus : List Apdu) → length apdus ≡ 255 → next_number apdus ≡ Err NumbersUsed
 none_next apdus used = ap (λ (n : ℕ). if nat_lt n 255 then Ok (n + 1) else Err NumbersUsed) used
 
--- A wish without a number has its last refusal.
+-- If there is no number, a wish has the last refusal of its transition `found`.
 wish_by : (x : RequesterRecord) (found : Result Transition Refusal) → acts_by x found (Err NumbersUsed) ≡ Err (last_refusal found)
 wish_by x (Ok transition) = refl
 wish_by x (Err refusal) = refl
@@ -38,7 +38,7 @@ pub wish_refused : (x : RequesterRecord) (wish : Wish) → length x.issued ≡ 2
     → acts x wish ≡ Err (last_refusal (transition_of x wish))
 wish_refused x wish used = ap (acts_by x (transition_of x wish)) (none_next x.issued used) ∙ wish_by x (transition_of x wish)
 
--- A deed without a number has its last refusal.
+-- If there is no number, a deed has the last refusal of its transition `found`.
 deed_by : (y : ResponderRecord) (found : Result responder.Transition Refusal)
     → responder.acts_by y found (Err NumbersUsed) ≡ Err (last_refusal found)
 deed_by y (Ok transition) = refl

@@ -273,7 +273,7 @@ recalled_left : (s : State) (received checked_in : Bool) → is_among (states.Re
 recalled_left states.Recall false checked_in is open_still = refl
 recalled_left s received checked_in is open_still = search rules
 
--- In the other states in which the requester has the item two acts are left, or three.
+-- In the other states in which the requester has the item at least two acts are left.
 had_left : (s : State) (received checked_in : Bool)
     → is_among (states.Received ∷ states.RenewPending ∷ states.Overdue ∷ states.RenewOverdue ∷ []) s ≡ true
     → 2 ≤ acts_to_end_in s received checked_in
@@ -283,7 +283,7 @@ had_left states.Overdue received checked_in is = omega arith
 had_left states.RenewOverdue received checked_in is = omega arith
 had_left s received checked_in is = search rules
 
--- In RECALL two acts are left, if the item was received.
+-- In RECALL at least two acts are left, if the item was received.
 kept_left : (s : State) (received checked_in : Bool) → is_among (states.Recall ∷ []) s ≡ true → received ≡ true
     → 2 ≤ acts_to_end_in s received checked_in
 kept_left states.Recall true checked_in is has = omega arith
@@ -301,7 +301,8 @@ returned_left : (s : State) (received checked_in : Bool) → is_among (states.Re
 returned_left states.Returned received checked_in is = returned_few checked_in
 returned_left s received checked_in is = search rules
 
--- A requester that has issued a Conditional-Reply no, and has it not declined, is decided.
+-- If a requester outside IDLE has issued a Conditional-Reply no, and is not in CONDITIONAL (`undeclined`), it is
+-- decided. Its rules (`fits`) exclude the other undecided states.
 declined_decides : (s : State) (has_no : Bool) → has_no ≡ true → is_among (states.Idle ∷ []) s ≡ false
     → (is_among (states.Conditional ∷ []) s && has_no) ≡ false
     → implies has_no (not (is_among (states.Pending ∷ states.CancelPending ∷ states.Cancelled ∷ []) s)) ≡ true
@@ -323,7 +324,7 @@ request_counts x row idle leads after kept fits undeclined =
       begun_few after.state (is_received_by after) after.checked_in (kept.begun leads),
     )
 
--- After a Reply no fewer acts are left.
+-- After a Reply that declines the conditions, fewer acts are left.
 reply_counts : (x : RequesterRecord) (row : Transition) → is_among (states.Conditional ∷ []) x.state ≡ true
     → is_among (states.Idle ∷ []) row.next ≡ false → declines row.body ≡ true → Fewer x (record_after x row)
 reply_counts x row conditional leads says after kept fits undeclined =
@@ -451,7 +452,7 @@ waits_in_time s is = search rules
 waits_late : (s : State) → is_among (states.RenewOverdue ∷ []) s ≡ true → is_among renewing s ≡ true
 waits_late s is = search rules
 
--- If `P` holds of a transition, it holds of each one that its date allows.
+-- If `P` holds of the transition `here`, it holds of the `row` found when the date of `here` is allowed.
 allowed : (P : responder.Transition → Type 0) (is_allowed : Bool) (refusal : Refusal) (here row : responder.Transition) → P here
     → responder.if_allowed is_allowed refusal (Ok here) ≡ Ok row → P row
 allowed P true refusal here row there e = subst P (transition_is here row e) there
@@ -567,6 +568,7 @@ ended_stays : (old new : ResponderRecord) → ResponderKept old new
     → is_among (states.NotSupplied ∷ states.Cancelled ∷ states.Shipped ∷ []) old.state ≡ true → is_among ended new.state ≡ true
 ended_stays old new kept is = go old.state refl is
   where
+    -- An end without the item stays as it is, and a shipped item stays shipped.
     go : (s : State) → old.state ≡ s → is_among (states.NotSupplied ∷ states.Cancelled ∷ states.Shipped ∷ []) s ≡ true
         → is_among ended new.state ≡ true
     go states.NotSupplied at there =
@@ -575,6 +577,7 @@ ended_stays old new kept is = go old.state refl is
         ap (is_among ended) (kept.final (ap (is_among (states.NotSupplied ∷ states.Cancelled ∷ states.CheckedIn ∷ [])) at) ∙ at)
     go states.Shipped at there = later_ended new.state (kept.later (ap (is_among later) at))
       where
+        -- SHIPPED and each later state are states of an end.
         later_ended : (t : State) → is_among later t ≡ true → is_among ended t ≡ true
         later_ended t is = search rules
     go s at there = search rules
@@ -584,11 +587,12 @@ checked_in_stays : (old new : ResponderRecord) → ResponderKept old new → is_
     → is_among (states.CheckedIn ∷ []) new.state ≡ true
 checked_in_stays old new kept is = ap (is_among (states.CheckedIn ∷ [])) (kept.final (final_too old.state is)) ∙ is
   where
+    -- CHECKED-IN is a final state of a responder.
     final_too : (t : State) → is_among (states.CheckedIn ∷ []) t ≡ true
         → is_among (states.NotSupplied ∷ states.Cancelled ∷ states.CheckedIn ∷ []) t ≡ true
     final_too t is = search rules
 
--- A requester awaits the answer to a Renew exactly if the responder that it faces does.
+-- If the responder has a Renew to answer, the requester that faces it awaits the answer.
 pub faces_renewing : (s t : State) → is_among (faced_in s) t ≡ true → is_among renewing t ≡ true → is_among renewing s ≡ true
 faces_renewing s t faced is = search rules
 
@@ -663,10 +667,12 @@ deed_left x y new (inr (inr renewed)) step =
 pub deed_ended : (y new : ResponderRecord) → DeedEnds y new → is_among ended new.state ≡ true
 deed_ended y new (inl (was, is)) = go new.state is
   where
+    -- NOT-SUPPLIED, CANCELLED and SHIPPED are states of an end.
     go : (t : State) → is_among (states.NotSupplied ∷ states.Cancelled ∷ states.Shipped ∷ []) t ≡ true → is_among ended t ≡ true
     go t there = search rules
 deed_ended y new (inr (inl (was, is))) = go new.state is
   where
+    -- CHECKED-IN is a state of an end.
     go : (t : State) → is_among (states.CheckedIn ∷ []) t ≡ true → is_among ended t ≡ true
     go t there = search rules
 deed_ended y new (inr (inr renewed)) = renewed.1

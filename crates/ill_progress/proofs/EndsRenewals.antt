@@ -41,7 +41,8 @@ unsupplied_settled : {P : Type 0} (t : State) → is_among (states.NotSupplied �
 unsupplied_settled states.NotSupplied is waits = search rules
 unsupplied_settled t is waits = search rules
 
--- If a Renew waits at both sides, the responder's last one is the requester's last one.
+-- If a Renew waits at both sides, the responder's last one is the requester's last one. Otherwise the requester would
+-- know its answer, which the responder has not issued.
 pub last_waits : (txn : Qualifiers) (x : RequesterRecord) (y : ResponderRecord)
     (responder_sent requester_sent : List (Option Apdu))
     → RequesterInvariant txn x responder_sent → ResponderInvariant txn y requester_sent → AreIssued responder_sent y.issued

@@ -1,4 +1,4 @@
--- An act towards the end and a night after it leave fewer acts to the end of a loan. So the loan can be ended.
+-- In a world an act towards the end, and a night after it, leave fewer acts to the end. So the loan can be ended.
 use Rattle.std.proofs.Common.{arith, ◌≡◌, ◌⊎◌, inl, inr, ℕ, zero, suc, ◌+◌, ◌≤◌, ◌<◌, Bool, true, false, [], ◌∷◌, length}
 use Rattle.std.proofs.Common.{Result, Ok, Err, refl, sym, ap, ◌∙◌, subst}
 use Rattle.std.specs.Prelude.{IsOk}
@@ -64,9 +64,13 @@ Day w new = AreInStepOrAtRest new × SidesCount w.requester.live w.responder.liv
 
 -- These facts of a night are assumed here. It brings both sides in step or to rest, and is a round or two saves.
 pub record Nights (txn : Qualifiers) : Type 0 where
+  -- Each event keeps the invariant.
   pub after : (w : Parties) (event : Event) → Invariant txn w → Invariant txn (happens w event).1
+  -- If the responder can answer a Conditional-Reply no, a night brings both sides in step, or to rest.
   pub settles : (w : Parties) → Invariant txn w → CanAnswer w.responder.live → AreInStepOrAtRest (run_of w (night_of w))
+  -- If the loan is open for the requester, a night is a round.
   pub rounds : (w : Parties) → Invariant txn w → is_over w.requester.live ≡ false → night_of w ≡ round_of w
+  -- If the loan is over for the requester, a night is a save of each side.
   pub saves : (w : Parties) → Invariant txn w → is_over w.requester.live ≡ true
       → night_of w ≡ events.Save who.Requester ∷ events.Save who.Responder ∷ []
 
@@ -165,6 +169,7 @@ some_left : (requester responder : Side) → Facing InStep requester responder �
     → 0 < side_acts_to_end requester
 some_left (sides.Requester x) responder step is_open = go (acts_to_end x) refl
   where
+    -- If no act were left, the loan would be over.
     go : (n : ℕ) → acts_to_end x ≡ n → 0 < acts_to_end x
     go zero none = absurd (not_over (requester_turn x) is_open ((none_left_at_the_end x).0 none))
     go (suc n) some = omega (arith, some)
@@ -195,21 +200,24 @@ one_side_acts can (sides.Requester x) (sides.Requester z) step is_open asking le
 
 -- ---- the end of a loan
 
--- A side of the responder has numbers for the acts that are left, after a day.
+-- If the responder's side has numbers for the acts left before a day, it has enough for those left after.
 numbers_lent : (requester responder after answered : Side) → SidesCount requester responder after answered
     → HasNumbers (side_acts_to_end requester) responder → length (issued_of answered) ≤ 255
     → HasNumbers (side_acts_to_end after) answered
 numbers_lent requester responder after answered counts has few = go counts.lent
   where
+    -- If no act is left, no number is needed.
     go : (side_acts_to_end after + length (issued_of answered)
         ≤ side_acts_to_end requester + length (issued_of responder)) ⊎ (side_acts_to_end after ≡ 0)
         → HasNumbers (side_acts_to_end after) answered
     go (inl most) = omega (arith, most, has)
     go (inr none) = omega (arith, none, few)
 
+-- Premises: one of two sides in step can act (`can_act`). A loan over for the requester is at rest (`rests`).
 module _ (txn : Qualifiers) (one : OneEach) (keep : RowsKeep) (nights : Nights txn) (can_act : OneCanAct)
     (rests : (w : Parties) → Invariant txn w → is_over w.requester.live ≡ true → AreAtRest w) where
-  -- In such a world the loan can be ended in `days` days.
+  -- The loan can be ended from `w` in `days` days. Premises: the invariant, and sides in step or at rest. At most
+  -- `days` acts are left, and both sides have numbers for them.
   abbrev CanEndFrom : ℕ → Parties → Type 0
   CanEndFrom days w = Invariant txn w → AreInStepOrAtRest w → acts_left w ≤ days → HasNumbers (acts_left w) w.requester.live
       → HasNumbers (acts_left w) w.responder.live → CanEnd days w
@@ -233,6 +241,7 @@ module _ (txn : Qualifiers) (one : OneEach) (keep : RowsKeep) (nights : Nights t
   unfolding CanEnd
   one_more days next w stands settled few asking lending = go (is_over w.requester.live) refl
     where
+      -- If the loan is over, both sides are at rest. If not, one side acts, and a night follows.
       go : (over : Bool) → is_over w.requester.live ≡ over → CanEnd (suc days) w
       go true over = inl (rests w stands over)
       go false is_open =
@@ -261,6 +270,7 @@ module _ (txn : Qualifiers) (one : OneEach) (keep : RowsKeep) (nights : Nights t
   unfolding CanEnd
   none_more w stands settled few asking lending = go (is_over w.requester.live) refl
     where
+      -- If the loan were open, some act would be left.
       go : (over : Bool) → is_over w.requester.live ≡ over → AreAtRest w
       go true over = rests w stands over
       go false is_open =
@@ -271,7 +281,7 @@ module _ (txn : Qualifiers) (one : OneEach) (keep : RowsKeep) (nights : Nights t
                 (open_in_step w.requester.live w.responder.live settled is_open) is_open,
           ))
 
-  -- If both sides are in step, and have numbers left, the loan can be ended in `days` days.
+  -- From each world of `CanEndFrom` the loan can be ended in `days` days, by induction on `days`.
   pub can_end : (days : ℕ) (w : Parties) → CanEndFrom days w
   can_end zero w = none_more w
   can_end (suc days) w = one_more days (can_end days) w

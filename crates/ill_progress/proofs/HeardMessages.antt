@@ -20,7 +20,7 @@ use Rattle.ill_core.specs.ResponderDeliveries.{takes, take_message, answers_no}
 use Rattle.ill_core.specs.ResponderNotices.{has_heard, undecided, lent}
 use Rattle.ill_world.proofs.Pairs.{implied}
 
--- If each transition that may be the first to fit leaves the record, so does the answer.
+-- If `here` leaves the record when it `fits`, and the `others` do when not, the answer leaves the record.
 leaves : (y : ResponderRecord) (fits : Bool) (here others : Result Taking Refusal × ResponderRecord)
     → (fits ≡ true → here.1 ≡ y) → (fits ≡ false → others.1 ≡ y) → (if fits then here else others).1 ≡ y
 leaves y fits here others = cond_both fits here others (λ r. r.1 ≡ y)

@@ -67,7 +67,7 @@ last_get : (apdus : List Apdu) (a : Apdu) → slice_get (apdus ++ a ∷ []) (len
 last_get [] a = refl
 last_get (b ∷ apdus) a = last_get apdus a
 
--- The last message of a list is the one that was issued last.
+-- If `a` is put at the end of a list, it is the last message of the list.
 last_message : (apdus : List Apdu) (a : Apdu) → message (apdus ++ a ∷ []) (length (apdus ++ a ∷ [])) ≡ Some a
 last_message apdus a =
     let end : length (apdus ++ a ∷ []) ≡ suc (length apdus) = omega (arith, length-append apdus (a ∷ [])) in
@@ -111,7 +111,7 @@ acts_tell y new deed today =
     of_acts TellsEnd y new deed today
     (λ transition is issues. issues_tell y transition.body transition.next (transition_tells y transition is))
 
--- A message keeps that a record tells its end.
+-- If a record tells its end before a message, it does so after it.
 change_tells : (y new : ResponderRecord) (number : ℕ) (body : Body) → Change y number body new → TellsEnd y → TellsEnd new
 change_tells y _ number _ (moves.leaves body) tells = tells
 change_tells y _ number _ (moves.requests expiry item a is) tells = λ final. absurd (true≢false (sym final))
@@ -144,11 +144,13 @@ side_acts_tell : (old new : Side) (action : Action) (sent : List (Option Apdu)) 
     → SideTells old sent → SideTells new sent
 side_acts_tell (sides.Requester x) new (actions.Wish wish) sent e tells = go (requester_actions.acts x wish) e
   where
+    -- A requester's side satisfies `SideTells` in any case.
     go : (result : Result RequesterRecord Refusal) → done_by sides.Requester result ≡ Ok new → SideTells new sent
     go (Ok made) e = subst (λ side. SideTells side sent) (side_is (sides.Requester made) new e) tt
     go (Err refusal) e = search rules
 side_acts_tell (sides.Responder y) new (actions.Deed deed today) sent e tells = go (responder.acts y deed today) refl e
   where
+    -- A deed that is refused has no new side.
     go : (result : Result ResponderRecord Refusal) → responder.acts y deed today ≡ result
         → done_by sides.Responder result ≡ Ok new → SideTells new sent
     go (Ok made) is e =
@@ -211,6 +213,7 @@ pub ended_over : (txn : Qualifiers) (side : Side) (sent : List (Option Apdu)) �
     → is_among (NotSupplied ∷ Cancelled ∷ []) (state_of side) ≡ true → is_over side ≡ true
 ended_over txn (sides.Requester x) sent stands is = go x.state (is_declined x) x.checked_in is
   where
+    -- In CANCELLED and NOT-SUPPLIED nobody has the turn.
     go : (state : State) (declined checked : Bool) → is_among (NotSupplied ∷ Cancelled ∷ []) state ≡ true
         → is_nobodys (requester_turn_in state declined checked) ≡ true
     go state declined checked is = search rules
@@ -224,6 +227,7 @@ returned_over txn state held checked due issued is =
     subst (λ s. is_over (sides.Requester (take_checked_in (requester_of txn s held checked due issued)).1) ≡ true) (sym is)
     (base checked)
   where
+    -- A requester in RETURNED may have the mark before.
     base : (checked : Bool)
         → is_over (sides.Requester (take_checked_in (requester_of txn Returned held checked due issued)).1) ≡ true
     base true = refl

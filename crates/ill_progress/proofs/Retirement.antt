@@ -104,6 +104,7 @@ marks_kept w at of true over role group is = is
 marks_kept w at of false false role group is = is
 marks_kept w at of false true role group is = go (bytes_eq group of)
   where
+    -- If `same` is true, `group` is the group that retires.
     go : (same : Bool) → party (if same then with_party (w.marks group) at true else w.marks group) role ≡ true
     go true = set_stays (w.marks group) at role is
     go false = is
@@ -131,6 +132,7 @@ sends_same : (p : DeskParty) (txn : Qualifiers) (n : ℕ) (found : Option DeskEn
 sends_same p txn n None = (refl, refl)
 sends_same p txn n (Some held) = go (message (issued_of held.side) n) (nat_le n held.released)
   where
+    -- A Send changes at most what is sent.
     go : (issued : Option Apdu) (released : Bool)
         → SameSides p (sends_by p (λ a. record p { sent = with_sent_for txn p.sent n a }) issued released).1
     go None released = (refl, refl)
@@ -180,6 +182,7 @@ shelf_same : (w : MarkedShelves) (e : ShelfEvent) (role : Role) (group : List �
     → can_happen w e ≡ true → SameSides (party (w.shelves group) role) (party ((shelves_happen w.shelves e).1 group) role)
 shelf_same w e role group is can = go (bytes_eq group (home e)) refl
   where
+    -- If `same` is true, `group` is the home of the event; if not, its desks stay.
     go : (same : Bool) → bytes_eq group (home e) ≡ same
         → SameSides (party (w.shelves group) role)
         (party (if same then (desks_happen (w.shelves (home e)) e.event).1 else w.shelves group) role)
@@ -232,6 +235,7 @@ shelf_requester : (w : MarkedShelves) (e : ShelfEvent) (group : List ℕ) → ha
     → can_happen w e ≡ true → ((shelves_happen w.shelves e).1 group).requester ≡ (w.shelves group).requester
 shelf_requester w e group is can = go (bytes_eq group (home e)) refl
   where
+    -- If `same` is true, `group` is the home of the event; if not, its desks stay.
     go : (same : Bool) → bytes_eq group (home e) ≡ same
         → (if same then (desks_happen (w.shelves (home e)) e.event).1 else w.shelves group).requester
         ≡ (w.shelves group).requester
@@ -280,6 +284,7 @@ sends_silent : (p : DeskParty) (of : Qualifiers) (m : ℕ) (found : Option DeskE
 sends_silent p of m None txn n apart = refl
 sends_silent p of m (Some held) txn n apart = go (message (issued_of held.side) m) (nat_le m held.released)
   where
+    -- If `same` is true, `txn` is `of`, and only its message m is sent.
     by : (a : Apdu) (same : Bool) → is_same_txn txn of ≡ same
         → sent_message (if same then with_sent (sent_for of p.sent) m a else sent_for txn p.sent) n
         ≡ sent_message (sent_for txn p.sent) n
@@ -288,6 +293,7 @@ sends_silent p of m (Some held) txn n apart = go (message (issued_of held.side) 
         with_other (sent_for of p.sent) m n a (apart is) ∙ ap (λ t. sent_message (sent_for t p.sent) n) (sym is)
     by a false same = refl
 
+    -- Message m is sent only if it is issued and released.
     go : (issued : Option Apdu) (released : Bool)
         → sent_message (sent_for txn
         (sends_by {P = DeskParty} p (λ a. record p { sent = with_sent_for of p.sent m a }) issued released).1.sent) n
@@ -301,7 +307,7 @@ is_let_out : (marked last : Bool) → marked ≡ true → not marked || last ≡
 is_let_out true last is can = can
 is_let_out false last is can = absurd (true≢false (sym is))
 
--- The responder's desk has sent message n of `txn` before and after, or neither. Message n is no last word.
+-- Message n of `txn` that is sent at `new` is that of `old`, or neither desk has sent one.
 abbrev SameSent : Qualifiers → ℕ → DeskParty → DeskParty → Type 0
 SameSent txn n old new = sent_message (sent_for txn new.sent) n ≡ sent_message (sent_for txn old.sent) n
 
@@ -336,6 +342,7 @@ shelf_silent : (w : MarkedShelves) (e : ShelfEvent) (group : List ℕ) (txn : Qu
     → SameSent txn n (w.shelves group).responder ((shelves_happen w.shelves e).1 group).responder
 shelf_silent w e group txn n is apart can = go (bytes_eq group (home e)) refl
   where
+    -- If `same` is true, `group` is the home of the event; if not, its desks stay.
     go : (same : Bool) → bytes_eq group (home e) ≡ same
         → SameSent txn n (w.shelves group).responder
         (if same then (desks_happen (w.shelves (home e)) e.event).1 else w.shelves group).responder
@@ -373,12 +380,14 @@ event_leads : (w : MarkedShelves) (event : RetiringEvent) (more : List ShelfEven
 unfolding run_by
 event_leads w (on_shelf e) more = go (can_happen w e)
   where
+    -- The event happens, or leads nowhere.
     go : (happens : Bool) → shelves_run (after_if w e happens).1.shelves more
         ≡ shelves_run w.shelves ((if happens then e ∷ [] else []) ++ more)
     go true = refl
     go false = refl
 event_leads w (retire role group) more = go (has_mark w role group) (are_loans_over (party (w.shelves group) role))
   where
+    -- A retirement opens the desk if there is no mark, and all loans are over.
     go : (marked over : Bool) → shelves_run (retired_if w role group marked over).1.shelves more
         ≡ shelves_run w.shelves ((if marked then [] else if over then opens_desk role group ∷ [] else []) ++ more)
     go true over = refl
@@ -396,20 +405,22 @@ run_shelves w (event ∷ more) =
 
 -- ---- a group that neither library has retired
 
--- A group that is kept after an event was kept before it.
+-- If a library has no mark at `group` after an event, it had none before.
 unmarked_before : (w : MarkedShelves) (event : RetiringEvent) (role : Role) (group : List ℕ)
     → has_mark (retiring_happens w event).1 role group ≡ false → has_mark w role group ≡ false
 unmarked_before w event role group after = go (has_mark w role group) refl
   where
+    -- A mark before the event would stay (`mark_kept`).
     go : (marked : Bool) → has_mark w role group ≡ marked → marked ≡ false
     go true is = absurd (true≢false (sym (mark_kept role group w event is) ∙ after))
     go false is = refl
 
--- A group that is kept after further events is kept before them.
+-- If a library has no mark at `group` after further events, it has none before them.
 kept_before : (w : MarkedShelves) (all : List RetiringEvent) (role : Role) (group : List ℕ)
     → has_mark (retiring_run w all) role group ≡ false → has_mark w role group ≡ false
 kept_before w all role group after = go (has_mark w role group) refl
   where
+    -- A mark before the events would stay (`mark_stays`).
     go : (marked : Bool) → has_mark w role group ≡ marked → marked ≡ false
     go true is = absurd (true≢false (sym (mark_stays w all role group is) ∙ after))
     go false is = refl
@@ -420,13 +431,15 @@ kept_can : (w : MarkedShelves) (e : ShelfEvent) (role : Role) → IsKeptByBoth w
 kept_can w e who.Requester kept = ap (λ b. not b || is_last_word (w.shelves (home e)) e.event) kept.0
 kept_can w e who.Responder kept = ap (λ b. not b || is_last_word (w.shelves (home e)) e.event) kept.1
 
--- An event of shelves leads the desks of a kept group on by itself, if its home is there.
+-- If neither library has retired `group`, an event of shelves leads its desks on if its home is there. If not, they
+-- stay.
 kept_leads : (w : MarkedShelves) (e : ShelfEvent) (group : List ℕ) (more : List DeskEvent) → IsKeptByBoth w group
     → desks_run ((marked_shelves_happen w e).1.shelves group) more
     ≡ desks_run (w.shelves group) (if bytes_eq group (home e) then e.event ∷ more else more)
 unfolding run_by
 kept_leads w e group more kept = go (bytes_eq group (home e)) (can_happen w e) refl refl
   where
+    -- At its home the event can happen (`kept_can`); at another group it changes nothing.
     go : (same happens : Bool) → bytes_eq group (home e) ≡ same → can_happen w e ≡ happens
         → desks_run ((after_if w e happens).1.shelves group) more
         ≡ desks_run (w.shelves group) (if same then e.event ∷ more else more)
@@ -441,21 +454,24 @@ kept_leads w e group more kept = go (bytes_eq group (home e)) (can_happen w e) r
         ap (λ b. desks_run (if b then (desks_happen (w.shelves (home e)) e.event).1 else w.shelves group) more) same
     go false false same cannot = refl
 
--- A retirement leaves the desks of a group unchanged that is kept after it.
+-- If a library has no mark at `group` after it retires the group `of`, the desks of `group` are unchanged.
 kept_same : (w : MarkedShelves) (role : Role) (of group : List ℕ) → has_mark (retires w role of).1 role group ≡ false
     → (retires w role of).1.shelves group ≡ w.shelves group
 kept_same w role of group = go (has_mark w role of) (are_loans_over (party (w.shelves of) role))
   where
+    -- A mark that is set is there.
     set : (role : Role) (marks : TwoOf Bool) → party (with_party marks role true) role ≡ true
     set who.Requester marks = refl
     set who.Responder marks = refl
 
+    -- If `group` were the group `of`, its mark would be there.
     by : (same : Bool) → bytes_eq group of ≡ same
         → party (if same then with_party (w.marks group) role true else w.marks group) role ≡ false
         → (if same then (desks_happen (w.shelves of) (events.Restart role)).1 else w.shelves group) ≡ w.shelves group
     by true same unmarked = absurd (true≢false (sym (set role (w.marks group)) ∙ unmarked))
     by false same unmarked = refl
 
+    -- Only a retirement that is done may change desks: one without a mark before, all of whose loans are over.
     go : (marked over : Bool) → has_mark (retired_if w role of marked over).1 role group ≡ false
         → (retired_if w role of marked over).1.shelves group ≡ w.shelves group
     go true over unmarked = refl
@@ -478,6 +494,7 @@ kept_run w (retire role of ∷ more) group kept =
     ∙ ap (λ v. desks_run v (events_at group (events_named more)))
     (kept_same w role of group (unmarked next role kept))
   where
+    -- Library `role` has no mark before `more`, since it has none after.
     unmarked : (v : MarkedShelves) (role : Role) → IsKeptByBoth (retiring_run v more) group → has_mark v role group ≡ false
     unmarked v who.Requester kept = kept_before v more who.Requester group kept.0
     unmarked v who.Responder kept = kept_before v more who.Responder group kept.1

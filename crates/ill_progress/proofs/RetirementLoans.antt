@@ -46,7 +46,8 @@ module _ (test : DeskEntry → Bool) (passes : (side : Side) → is_over side �
       let parts = and_parts (is_over side) (list_all is_over more) over in
       and_from _ _ (passes side parts.0) (whole_pass more parts.1)
 
-  -- If a mark is new, the desk was opened, and all its entries pass the test.
+  -- If the mark of `role` is new, it is the library `at` that retires. The loans of its desk are over, so all entries
+  -- pass the test after the restart.
   opened_pass : (desks : DeskParties) (marks : TwoOf Bool) (at role : Role) → are_loans_over (party desks at) ≡ true
       → party marks role ≡ false → party (with_party marks at true) role ≡ true
       → AllPass (party (desks_happen desks (events.Restart at)).1 role)
@@ -65,12 +66,14 @@ module _ (test : DeskEntry → Bool) (passes : (side : Side) → is_over side �
   new_mark w (retire at of) role group unmarked after =
       go (has_mark w at of) (are_loans_over (party (w.shelves of) at)) refl after
     where
+      -- Only at the group `of` is the mark new.
       here : (same : Bool) → bytes_eq group of ≡ same → are_loans_over (party (w.shelves of) at) ≡ true
           → party (if same then with_party (w.marks group) at true else w.marks group) role ≡ true
           → AllPass (party (if same then (desks_happen (w.shelves of) (events.Restart at)).1 else w.shelves group) role)
       here true same over after = opened_pass (w.shelves of) (w.marks group) at role over unmarked after
       here false same over after = absurd (true≢false (sym after ∙ unmarked))
 
+      -- Only a retirement that is done sets a mark.
       go : (marked over : Bool) → are_loans_over (party (w.shelves of) at) ≡ over
           → has_mark (retired_if w at of marked over).1 role group ≡ true
           → AllPass (party ((retired_if w at of marked over).1.shelves group) role)
@@ -86,6 +89,7 @@ module _ (test : DeskEntry → Bool) (passes : (side : Side) → is_over side �
   pass_after : (w : MarkedShelves) (event : RetiringEvent) → PassAtMarks w → PassAtMarks (retiring_happens w event).1
   pass_after w event pass role group after = go (has_mark w role group) refl
     where
+      -- A marked desk keeps its sides; at a new mark `new_mark` holds.
       go : (marked : Bool) → has_mark w role group ≡ marked → AllPass (party ((retiring_happens w event).1.shelves group) role)
       go true is =
           subst (λ live. list_all test live.held ≡ true) (sym (step_same role group w event is).0) (pass role group is)
@@ -151,13 +155,13 @@ unfolding run_by
 shelf_marks w [] = refl
 shelf_marks w (e ∷ more) = shelf_marks (marked_shelves_happen w e).1 more ∙ marks_same w e (can_happen w e)
 
--- Events of shelves are all named.
+-- Of events of shelves alone, `events_named` returns all.
 all_named : (all : List ShelfEvent) → events_named (map on_shelf all) ≡ all
 unfolding events_named
 all_named [] = refl
 all_named (e ∷ more) = ap (λ l. e ∷ l) (all_named more)
 
--- If neither library has retired a group, its desks have each event of shelves.
+-- If neither library has retired a group, events of shelves lead its desks on as if there were no marks.
 pub shelf_runs_of_kept : (w : MarkedShelves) (all : List ShelfEvent) (group : List ℕ) → IsKeptByBoth w group
     → (retiring_run w (map on_shelf all)).shelves group ≡ shelves_run w.shelves all group
 shelf_runs_of_kept w all group kept =
@@ -167,7 +171,8 @@ shelf_runs_of_kept w all group kept =
     ∙ ap (λ l. desks_run (w.shelves group) (events_at group l)) (all_named all)
     ∙ sym (shelves_run_at w.shelves group all)
 
--- A night of a group that neither library has retired brings both sides of each transaction in step, or to rest.
+-- If a night is enough on shelves that retire nothing (first premise), it is for a group neither library has retired.
+-- The responder must be able to answer a Conditional-Reply no.
 pub night_of_kept : ((txn : Qualifiers) (all : List ShelfEvent) → let w = shelves_run first_shelves all in
     CanAnswer (project txn (w txn.group)).responder.live
     → let night = in_group txn.group (desk_night_of (w txn.group)) in

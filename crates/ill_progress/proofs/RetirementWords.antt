@@ -58,33 +58,40 @@ use Rattle.ill_progress.proofs.LastWords.{checked_in_over}
 
 -- ---- the message
 
--- A message that tells an end is one that ends the request, or a Checked-In.
+-- If a message tells the end in `state`, it ends the request, and settles its receiver in NOT-SUPPLIED or CANCELLED. Or
+-- it is a Checked-In, and `state` is CHECKED-IN.
 ends_or_is_back : (state : State) (body : Body) → tells_end state body ≡ true
     → ((is_end body ≡ true)
     × ((s : State) → is_among (settled_by body) s ≡ true → is_among (NotSupplied ∷ Cancelled ∷ []) s ≡ true))
     ⊎ ((body ≡ types.CheckedIn) × (state ≡ CheckedIn))
 ends_or_is_back Cancelled (types.CancelReply c true) is = inl (refl, λ s. second (NotSupplied) s)
   where
+    -- CANCELLED is among CANCELLED and another state.
     second : (other s : State) → is_among (Cancelled ∷ []) s ≡ true → is_among (other ∷ Cancelled ∷ []) s ≡ true
     second other s is = go (place_of other == place_of s) is
       where
+        -- The test of two states is true if the test of the second is.
         go : (b : Bool) → is_among (Cancelled ∷ []) s ≡ true → b || is_among (Cancelled ∷ []) s ≡ true
         go true is = refl
         go false is = is
 ends_or_is_back NotSupplied (types.IllAnswer answer) is =
     inl (ap (λ b. b || (is_cancelled (types.IllAnswer answer) || is_shipped (types.IllAnswer answer))) is, λ s. first s)
   where
+    -- NOT-SUPPLIED is among NOT-SUPPLIED and CANCELLED.
     first : (s : State) → is_among (NotSupplied ∷ []) s ≡ true → is_among (NotSupplied ∷ Cancelled ∷ []) s ≡ true
     first s is = go (place_of NotSupplied == place_of s) is
       where
+        -- The test of two states is true if the test of the first is.
         go : (b : Bool) → b || false ≡ true → b || is_among (Cancelled ∷ []) s ≡ true
         go true is = refl
         go false is = absurd (true≢false (sym is))
 ends_or_is_back NotSupplied types.Expired is = inl (refl, λ s. first s)
   where
+    -- NOT-SUPPLIED is among NOT-SUPPLIED and CANCELLED.
     first : (s : State) → is_among (NotSupplied ∷ []) s ≡ true → is_among (NotSupplied ∷ Cancelled ∷ []) s ≡ true
     first s is = go (place_of NotSupplied == place_of s) is
       where
+        -- The test of two states is true if the test of the first is.
         go : (b : Bool) → b || false ≡ true → b || is_among (Cancelled ∷ []) s ≡ true
         go true is = refl
         go false is = absurd (true≢false (sym is))
@@ -97,6 +104,7 @@ over_is_final : (state : State) (has_request has_accepted has_cancel has_renew i
     → is_nobodys (responder_turn_in state) ≡ true → is_among (NotSupplied ∷ Cancelled ∷ CheckedIn ∷ []) state ≡ true
 over_is_final state has_request has_accepted has_cancel has_renew is_marked none fit over = go state fit.role over
   where
+    -- By `role` the state is not one of a requester alone, so few states are left.
     go : (state : State) → is_among (Pending ∷ Received ∷ NotReceivedOverdue ∷ []) state ≡ false
         → is_nobodys (responder_turn_in state) ≡ true → is_among (NotSupplied ∷ Cancelled ∷ CheckedIn ∷ []) state ≡ true
     go state role over = search rules
@@ -151,7 +159,7 @@ back_over txn (sides.Requester x) (sides.Responder y) sent a stands says state o
 back_over txn (sides.Requester x) (sides.Requester y) sent a stands says state of body = absurd says
 back_over txn (sides.Responder x) y sent a stands says state of body = absurd stands
 
--- If an event reaches `txn`, and is one of it, the projection is the expected one.
+-- If an event reaches a side (`IsPlain`), and is of the transaction (`own`), the projection `new` is the expected one.
 seen_plain : (outcome : DeskOutcome) (own : Bool) (expected : Outcome × Parties) (old new : Parties) → IsPlain outcome
     → own ≡ true → IsSeenAs (if_reached outcome own) expected old outcome new → new ≡ expected.1
 seen_plain (Plain outcome) true expected old new is own seen = seen.1
@@ -171,6 +179,7 @@ delivered projects reaches txn w n a stands sent =
     (reached (desks_happen w event).0 (nat_lt (length w.requester.live.held) 1000) (found_by txn_held txn w.requester.live.held)
     refl (reaches w event stands a sent)) (same_self txn) (projects txn w event stands)
   where
+    -- A message of `txn` was sent, so the requester holds the loan, and the delivery reaches its side.
     reached : (outcome : DeskOutcome) (has_room : Bool) (found : Option DeskEntry)
         → found_by txn_held txn w.requester.live.held ≡ found → Reaches (is_ill_request a.body) has_room found outcome
         → IsPlain outcome
@@ -179,6 +188,9 @@ delivered projects reaches txn w n a stands sent =
 
 -- ---- the last word
 
+-- Each premise is a law. Events of desks project, reach what a desk holds, and keep the invariant (`projects`,
+-- `reaches`, `after`). Those of a world keep it too (`stand`), and a message that arrives settles its receiver
+-- (`arrives`). Both sides agree (`agree`), and if the loan is over for the requester, they are at rest (`rests`).
 module _ (projects : EachProjects) (reaches : EachReaches) (after : EachStands)
     (arrives : (txn : Qualifiers) (w : Parties) (event : Event) → Invariant txn w → Arrives w event)
     (stand : (txn : Qualifiers) (w : Parties) (event : Event) → Invariant txn w → Invariant txn (happens w event).1)
@@ -199,7 +211,8 @@ module _ (projects : EachProjects) (reaches : EachReaches) (after : EachStands)
             (agree txn v stands).says.live back.1 of back.0
       ]
 
-  -- If two desks have a loan that is over for the responder, its last message brings both sides to rest.
+  -- If a loan is over for the responder, with all messages released, the last one brings both sides to rest. The Send
+  -- leads to the desks `first`, and its delivery there ends the loan for the requester.
   desks_word : (txn : Qualifiers) (d : DeskParties) (held : DeskEntry) → DesksInvariant d → ResponderTells (project txn d)
       → found_by txn_held txn d.responder.live.held ≡ Some held → is_over held.side ≡ true
       → nat_le (length (issued_of held.side)) held.released ≡ true
@@ -238,12 +251,12 @@ module _ (projects : EachProjects) (reaches : EachReaches) (after : EachStands)
       (ap (λ (u : Parties). is_over u.requester.live) (delivered projects reaches txn first n a first_stands sent)
       ∙ word_over txn (project txn first) n a (first_stands.each txn) sent of word.2))
 
--- A sum with a truth is true.
+-- A disjunction with `true` is true.
 or_true : (b : Bool) → b || true ≡ true
 or_true true = refl
 or_true false = refl
 
--- The events of a last word happen at the desks of its group, if the responder's library has retired it alone.
+-- If the requester's library has not retired a group, both events of a last word happen at its desks.
 word_run : (w : MarkedShelves) (txn : Qualifiers) → has_mark w who.Requester txn.group ≡ false
     → let d = w.shelves txn.group in
     let n = length (issued_of (held_for txn d.responder.live).side) in
@@ -268,7 +281,7 @@ word_run w txn unmarked =
     ∙ ap (λ b. if b then (desks_happen (first.shelves group) deliver.event).1 else first.shelves group) self
     ∙ ap (λ u. (desks_happen u deliver.event).1) sent
 
--- The responder of each loan of two shelves tells its end.
+-- After any retiring events the last message of each responder in a final state tells the end.
 shelves_tell : RowsGrow → EachProjects → EachStands → DesksInvariant first_desks
     → ((txn : Qualifiers) → Invariant txn (first_world txn)) → (all : List RetiringEvent) (txn : Qualifiers) (group : List ℕ)
     → ResponderTells (project txn ((retiring_run first_marked_shelves all).shelves group))

@@ -73,6 +73,7 @@ nothing_taken y (a ∷ apdus) heard =
     ap (λ (r : ResponderRecord). takes_all (sides.Responder r) apdus) (heard 1 a refl)
     ∙ nothing_taken y apdus (λ n b at. heard (suc n) b (later n b at))
   where
+    -- Message n of `apdus` is message n + 1 after `a` is put before them.
     later : (n : ℕ) (b : Apdu) → message apdus n ≡ Some b → message (a ∷ apdus) (suc n) ≡ Some b
     later zero b at = search rules
     later (suc n) b at = at
@@ -119,7 +120,7 @@ half_lands true w =
     (kept.1 ∙ sym kept.0, kept.0)
 half_lands false w = (refl, refl)
 
--- After the requester's half of a round and a save of the responder come further events.
+-- The events `more` follow the requester's half of a round and a save of the responder. They lead on from this save.
 half_saved : (w : Parties) (more : List Event) → run_of w (half_of who.Requester w ++ events.Save who.Responder ∷ more)
     ≡ run_of (happens (run_of w (half_of who.Requester w)) (events.Save who.Responder)).1 more
 unfolding run_by
@@ -189,6 +190,7 @@ module _ (txn : Qualifiers) (known : NightFacts txn) where
       later_request i a (suc j) b there later =
           only_request b.body a.body (first_alone x.issued j b borrower.rules.request there)
 
+      -- Message i + 1 is heard when it is taken, and no later one reopens it.
       heard : (n : ℕ) (a : Apdu) → message x.issued n ≡ Some a
           → records.has_heard (taking (λ r b. (responder_deliveries.takes r b).1) y x.issued) a.number a.body ≡ true
       heard zero a at = search rules
@@ -221,6 +223,7 @@ module _ (txn : Qualifiers) (known : NightFacts txn) where
   asked_all w stands = half_passes who.Requester w
       (few w.requester.live w.responder.sent stands.requester.live) stands.requester.saved.places
     where
+      -- A requester's side has issued at most 255 messages.
       few : (side : Side) (sent : List (Option Apdu)) → RequesterSideInvariant txn side sent → length (issued_of side) ≤ 255
       few (sides.Requester x) sent is = is.few
       few (sides.Responder y) sent is = absurd is
@@ -231,6 +234,7 @@ module _ (txn : Qualifiers) (known : NightFacts txn) where
   answered_all w stands = half_passes who.Responder w
       (few w.responder.live w.requester.sent stands.responder.live) stands.responder.saved.places
     where
+      -- A responder's side has issued at most 255 messages.
       few : (side : Side) (sent : List (Option Apdu)) → ResponderSideInvariant txn side sent → length (issued_of side) ≤ 255
       few (sides.Responder y) sent is = is.few
       few (sides.Requester x) sent is = absurd is
@@ -253,7 +257,8 @@ module _ (txn : Qualifiers) (known : NightFacts txn) where
       let passed = asked_all w stands in
       (passed.live, passed.taken ∙ no_news w.requester.live w.responder.live heard)
 
-  -- If the responder has heard all, and can answer, its half of a round brings both in step.
+  -- If the responder has heard all, and can answer, its half of a round brings both in step. A whole round does so, and
+  -- its first half then changes nothing.
   answer_brings_in_step : (w : Parties) → Invariant txn w → ResponderHasHeard w → CanAnswer w.responder.live
       → AreInStep (run_of w (half_of who.Responder w))
   answer_brings_in_step w stands heard can =
@@ -273,7 +278,7 @@ module _ (txn : Qualifiers) (known : NightFacts txn) where
 
   -- ---- deeds
 
-  -- If a deed is done, `Hears` holds after it.
+  -- If a deed of the responder is done, `Hears` holds of its new side.
   deed_hears : (x y : Side) (responder_sent requester_sent : List (Option Apdu)) → RequesterSideInvariant txn x responder_sent
       → ResponderSideInvariant txn y requester_sent → AreIssued responder_sent (issued_of y)
       → AreIssued requester_sent (issued_of x) → Facing Hears x y → (deed : Deed) (today : Date) (new : Side)
@@ -281,11 +286,13 @@ module _ (txn : Qualifiers) (known : NightFacts txn) where
   deed_hears (sides.Requester x) (sides.Responder y) responder_sent requester_sent borrower lender issued heeded hears deed today
       new done = go (responder_actions.acts y deed today) refl done
     where
+      -- A deed that is refused has no new side.
       go : (result : Result ResponderRecord Refusal) → responder_actions.acts y deed today ≡ result
           → done_by sides.Responder result ≡ Ok new → Facing Hears (sides.Requester x) new
       go (Ok z) is made = subst (Facing Hears (sides.Requester x)) (same_made made)
           (heard_after_deed txn x y responder_sent requester_sent borrower lender issued heeded hears deed today z is)
         where
+          -- Two equal results have equal sides.
           same_made : ◌≡◌ {A = Result Side Refusal} (Ok (sides.Responder z)) (Ok new) → sides.Responder z ≡ new
           same_made same = search rules
       go (Err refusal) is made = search rules
@@ -294,7 +301,7 @@ module _ (txn : Qualifiers) (known : NightFacts txn) where
   deed_hears (sides.Requester x) (sides.Requester y) responder_sent requester_sent borrower lender issued heeded hears deed today
       new done = absurd lender
 
-  -- A decision that is refused leaves the live side. One that is done has its new side.
+  -- If `Hears` holds of both sides of `p`, and of each new side, it holds of both after the decision.
   decided_hears : (x : Side) (p : Party) (result : Result Side Refusal) → ((new : Side) → result ≡ Ok new → Facing Hears x new)
       → Facing Hears x p.live → Facing Hears x p.landed
       → Facing Hears x (decides p result).1.live × Facing Hears x (decides p result).1.landed
@@ -440,6 +447,7 @@ module _ (txn : Qualifiers) (known : NightFacts txn) where
     open_wants_all : is_over w.requester.live ≡ false → wants ≡ true
     open_wants_all is_open = go (is_none (issued_of w.requester.live)) refl
       where
+        -- If the requester has issued nothing, the loan is open for the responder; if it has, it asks.
         go : (none : Bool) → is_none (issued_of w.requester.live) ≡ none → wants ≡ true
         go true none =
             open_wants (asks w.requester.live) now.responder.live
@@ -467,6 +475,7 @@ module _ (txn : Qualifiers) (known : NightFacts txn) where
     pub worked_night : CanAnswer now.responder.live → AreInStepOrAtRest morning
     worked_night can = go (is_over w.requester.live) refl
       where
+        -- If the loan is over for the requester, both sides are at rest after the night; if not, they are in step.
         go : (over : Bool) → is_over w.requester.live ≡ over → AreInStepOrAtRest morning
         go true is = inr (over_rests is)
         go false is = inl (open_steps is can)
@@ -507,6 +516,7 @@ module _ (txn : Qualifiers) (known : NightFacts txn) where
     night_hears : is_over next_day.requester.live ≡ false → ResponderHasHeard next_day
     night_hears is_open = go (is_over w.requester.live) refl
       where
+        -- If the loan was open before, the night was a round. If it was over, it would be over after the night.
         go : (over : Bool) → is_over w.requester.live ≡ over → ResponderHasHeard next_day
         go false is = subst (λ (l : List Event). ResponderHasHeard (run_of w l)) (sym (known.rounds w stands is))
             (round_hears w stands)
@@ -515,15 +525,17 @@ module _ (txn : Qualifiers) (known : NightFacts txn) where
             ap (λ (l : List Event). (run_of w l).requester.live) (known.saves w stands is) ∙ saves_keep w in
             absurd (both_ways _ is_open (over_too next_day.requester.live w.requester.live true same is))
 
-    -- The requester's half of a night leaves both live sides after a night.
+    -- After a night, a further half of the requester leaves both live sides.
     half_more : let new = run_of next_day (asking_half next_day) in
         (next_day.requester.live ≡ new.requester.live) × (next_day.responder.live ≡ new.responder.live)
     half_more = go (is_over next_day.requester.live) refl
       where
+        -- The requester's half leaves both live sides, if `b` says that it sends.
         Same : Bool → Type 0
         Same b = let new = run_of next_day (half_if b who.Requester next_day) in
             (next_day.requester.live ≡ new.requester.live) × (next_day.responder.live ≡ new.responder.live)
 
+        -- If the loan is over for the requester, the half is a save; if not, it says nothing new.
         go : (over : Bool) → is_over next_day.requester.live ≡ over → Same (wants_sending false next_day.requester.live)
         go true is = subst Same (sym (over_is_silent next_day.requester.live is)) (one_save_keeps next_day)
         go false is =

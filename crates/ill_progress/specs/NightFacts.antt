@@ -23,18 +23,29 @@ use Rattle.ill_world.specs.Night.{night_of, AreAtRest, AreInStepOrAtRest}
 
 -- The facts of the tables and of worlds on which the laws of nights rest.
 pub record NightFacts (txn : Qualifiers) : Type 0 where
+  -- Each event keeps the invariant.
   pub after : (w : Parties) (event : Event) → Invariant txn w → Invariant txn (happens w event).1
+  -- If the loan is over for the requester, both sides are at rest.
   pub rests : (w : Parties) → Invariant txn w → is_over w.requester.live ≡ true → AreAtRest w
+  -- If the responder can answer a Conditional-Reply no, a round brings both sides in step.
   pub in_step : (w : Parties) → Invariant txn w → CanAnswer w.responder.live → AreInStep (run_of w (round_of w))
+  -- If the loan is open for the requester, a night is a round.
   pub rounds : (w : Parties) → Invariant txn w → is_over w.requester.live ≡ false → night_of w ≡ round_of w
+  -- If the loan is over for the requester, a night is a save of each side.
   pub saves : (w : Parties) → Invariant txn w → is_over w.requester.live ≡ true
       → night_of w ≡ Save Requester ∷ Save Responder ∷ []
+  -- If the responder can answer a Conditional-Reply no, a night brings both sides in step, or to rest.
   pub night : (w : Parties) → Invariant txn w → CanAnswer w.responder.live → AreInStepOrAtRest (run_of w (night_of w))
+  -- If the loan is over for the requester, no message changes its record.
   pub over_stays : (x : RequesterRecord) (a : Apdu) → requester_turn x ≡ Over → (requester_deliveries.takes x a).1 ≡ x
+  -- A requester that takes a message issues none.
   pub requester_issues : (x : RequesterRecord) (a : Apdu) → (requester_deliveries.takes x a).1.issued ≡ x.issued
+  -- A responder that takes a message keeps its transaction.
   pub responder_txn : (y : ResponderRecord) (a : Apdu) → (responder_deliveries.takes y a).1.txn ≡ y.txn
+  -- If a responder takes a requester's message of its transaction, it has heard it then.
   pub responder_takes : (y : ResponderRecord) (a : Apdu) → is_same_txn a.txn y.txn ≡ true → is_requesters a.body ≡ true
       → records.has_heard (responder_deliveries.takes y a).1 a.number a.body ≡ true
+  -- If a responder has heard a message, and takes one that does not reopen it, it still has heard it.
   pub responder_stays : (y : ResponderRecord) (a : Apdu) (number : ℕ) (body : Body) → records.reopens a.body body ≡ false
       → records.has_heard y number body ≡ true
       → records.has_heard (responder_deliveries.takes y a).1 number body ≡ true

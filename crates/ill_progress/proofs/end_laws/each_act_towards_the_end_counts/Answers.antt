@@ -4,6 +4,8 @@ use Rattle.ill_progress.proofs.EndsDays.{OneEach}
 use Rattle.ill_progress.proofs.EndsWorlds.{Nights, act_day}
 use Rattle.ill_progress.proofs.end_laws.each_act_towards_the_end_counts.Goals as goal
 
+-- The laws fill three records: an action issues one message (`one`), rows keep parts (`keep`), and nights settle
+-- (`nights`).
 pub returns : goal.returns
 returns c =
     λ txn w act stands step can ends done.

@@ -10,6 +10,7 @@ use Rattle.ill_progress.proofs.EndsDays.{OneEach}
 use Rattle.ill_progress.proofs.EndsWorlds.{Nights, can_end}
 use Rattle.ill_progress.proofs.end_laws.every_loan_can_end.Goals as goal
 
+-- The laws fill the records `one`, `keep` and `nights`. With them `can_end` counts the acts that are left.
 pub returns-clause-stands : goal.returns-clause-stands
 returns-clause-stands c =
     λ txn w stands settled asking lending.
@@ -32,6 +33,8 @@ returns-clause-stands c =
     can_end txn one keep nights c.who_has_the_turn_can_act_towards_the_end.ensures.in_step (c.requester_is_over_last.ensures txn)
     (acts_left w) w stands settled (omega arith) asking lending
 
+-- After any events and a night the invariant holds, and both sides are in step or at rest. So the clause `stands` holds
+-- there.
 pub returns-clause-run : goal.returns-clause-run
 returns-clause-run c =
     λ txn events can asking lending.

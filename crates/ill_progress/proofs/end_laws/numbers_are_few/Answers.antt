@@ -16,6 +16,7 @@ returns-clause-both c =
     both_few txn (run_of (first_world txn) events)
     (run_stands txn (c.world_stands.ensures.after txn) (first_world txn) events (c.world_stands.ensures.first txn))
 
+-- A wish that is done makes the list of messages one longer; so does a deed below.
 pub returns-clause-asks : goal.returns-clause-asks
 returns-clause-asks c = λ x new wish done. one_longer x.txn x.issued new.issued (c.requester_issues.ensures.acts x new wish done)
 

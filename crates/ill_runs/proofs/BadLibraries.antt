@@ -24,7 +24,7 @@ pub not_read : (read : Result SidesOf RecordFault) (fault : RecordFault) (held :
 not_read read fault held first second =
     let same : ◌≡◌ {A = Result SidesOf RecordFault} (Err fault) (Ok held) = sym first ∙ second in absurd cc
 
--- Unsafe libraries are not safe.
+-- If a file cannot be read, or a side contradicts the other, the libraries are not safe.
 pub not_safe : (libraries : Libraries) → AreUnsafe libraries → AreSafe libraries → ⊥
 not_safe libraries (unread who.Requester fault is) safe = not_read _ fault safe.0 is safe.2
 not_safe libraries (unread who.Responder fault is) safe = not_read _ fault safe.1 is safe.3

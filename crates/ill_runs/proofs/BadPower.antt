@@ -1,4 +1,4 @@
--- Proves that no bad loss of power is one, and that no desk starts after it otherwise.
+-- Proves that no loss of power is a bad one, and that no desk starts badly after one.
 use Rattle.std.proofs.Common.{◌≡◌, inl, inr, ℕ, List, Option, Some, None, Result, Ok, sym, ap, ◌∙◌, subst}
 use Rattle.ill_values.specs.declared.apdu.Apdu.{Apdu}
 use Rattle.ill_record.specs.declared.fault.RecordFault.{RecordFault}
@@ -17,7 +17,7 @@ use Rattle.ill_runs.proofs.BadLibraries.{read_once, not_read}
 one_file : (left : Option (List ℕ)) (a b : List ℕ) → left ≡ Some a → left ≡ Some b → a ≡ b
 one_file left a b first second = let same : ◌≡◌ {A = Option (List ℕ)} (Some a) (Some b) = sym first ∙ second in cc
 
--- A bad start is none.
+-- If a start from the record `left` as `q` is bad, no desk starts so.
 pub none_starts_so : (left : Option (List ℕ)) (q : DeskParty) → IsBadStart left q → StartsAs left q → ⊥
 none_starts_so left q (nothing none) starts =
     let same : ◌≡◌ {A = Option (List ℕ)} None (Some starts.file) = sym none ∙ starts.there in absurd cc
@@ -34,7 +34,7 @@ none_starts_so left q (not_whole differs) starts =
     sym starts.live ∙ ap (map_ok whole_of) starts.landed in
     let same : q.live ≡ whole_of q.landed = cc in differs same
 
--- No command is cut off so.
+-- A command whose power goes in a save is not cut off badly.
 pub none_cuts_so : (others : List Apdu) (before after : Library) (cut : IsCutInSave others before after) → IsBadCut cut → ⊥
 none_cuts_so others before after cut (third_record not_old not_new) = elim cut.file [
   | inl old ↦ not_old old

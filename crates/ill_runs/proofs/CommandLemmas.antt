@@ -46,7 +46,8 @@ use Rattle.ill_runs.proofs.EventLemmas.{delivery_leads, store_of_end}
 -- ---- an event that is saved at once
 
 module _ (who : Role) (sent : List Sending) (p : DeskParty) where
-  -- If an event leads to the sides `event.1`, what `Performs` says of it is a run.
+  -- If an event leads to the sides `event.1`, what `Performs` says of it is a run. Its result says if it was saved, if
+  -- the save failed, or if memory was refused.
   pub performed_is_run : (WantsMemory : Type 0) (event : Result DeskOutcome ToolFault × DeskContents)
       (old new : HeldAndLanded DeskContents) (result : Result DeskOutcome ToolFault) → IsReadAs old.landed p.landed
       → Leads who sent p (record p { live = event.1 }) → Performs many_sides WantsMemory old event result new
@@ -64,7 +65,8 @@ module _ (who : Role) (sent : List Sending) (p : DeskParty) where
   ]
   performed_is_run WantsMemory event old new (Err other) landed leads is = absurd is
 
-  -- If an event leads to the sides of `run`, what `EndsRun` says of it is a run.
+  -- If an event leads to the sides of `run`, what `EndsRun` says of it is a run. Its result says if it was saved and
+  -- told, or which of these failed.
   pub ended_is_run : {A : Type 0} (run : Run DeskContents A) (old new : CommandState DeskContents) (result : Result A ToolFault)
       → IsReadAs old.desk.landed p.landed → Leads who sent p (record p { live = run.live })
       → EndsRun many_sides run old result new → IsRun who sent p result new.desk
@@ -82,14 +84,14 @@ module _ (who : Role) (sent : List Sending) (p : DeskParty) where
 
 -- ---- actions
 
--- If two roles are the same, they are equal.
+-- If the test of two roles is true, they are equal.
 same_role : (a b : Role) → is_same_role a b ≡ true → a ≡ b
 same_role who.Requester who.Requester is = refl
 same_role who.Responder who.Responder is = refl
 same_role who.Requester who.Responder is = absurd cc
 same_role who.Responder who.Requester is = absurd cc
 
--- If a choice between `result` and a refusal is done, the choice was `result`.
+-- If a choice between `result` and a refusal succeeds, `is_own` is true.
 chosen : (is_own : Bool) (result : Result DeskContents DeskFault) (new : DeskContents)
     → (if is_own then result else Err (faults.Core WrongRole)) ≡ Ok new → is_own ≡ true
 chosen true result new is = refl
@@ -119,7 +121,7 @@ module _ (who : Role) (sent : List Sending) (p : DeskParty) (of : IsDeskOf who p
   action_leads action (Ok new) is = done_leads action new is
   action_leads action (Err fault) is = none_leads who sent p
 
--- The command `act` is a run.
+-- The command `act` is a run. Some events lead from `p` to a desk `q`, whose landed sides are in the store after it.
 pub act_is_run : (who : Role) (sent : List Sending) (p : DeskParty) → IsDeskOf who p → (txn : Qualifiers)
     (action : Option Action) (old new : CommandState DeskContents) (result : Result Bool ToolFault) → IsDesk old.desk p
     → RunsAct many_sides txn action old result new → (q : DeskParty) × Leads who sent p q × IsReadAs new.desk.landed q.landed

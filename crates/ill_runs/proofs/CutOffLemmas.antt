@@ -86,12 +86,13 @@ act_cut others before after cut saves =
       left = cut.left ∙ sym (append-nil before.left);
     }
 
--- Known bytes grow by other bytes to those with these after them.
+-- If `bytes` are appended to a content, known or not, the new content is as `Appends` says.
 grown : (content : Option (List ℕ)) (bytes : List ℕ) → Appends content (append_known content bytes) bytes
 grown (Some content) bytes = refl
 grown None bytes = tt
 
--- The command `take` is cut off as one whose save failed at the last message.
+-- The command `take` is cut off as one whose save failed at the last message. This message has at most 359 bytes
+-- (`longest`).
 take_cut : ((a : Apdu) → IsApdu a → length (encoding a) ≤ 359) → (others : List Apdu) (before after : Library)
     (cut : IsCutInSave others before after) → TakeSaves others cut.old cut.now → IsCommand (Takes others) before after
 unfolding Each
@@ -235,7 +236,7 @@ save_is_command longest others before after cut = elim cut.saves [
 abbrev without_input : Progress DeskContents → Progress DeskContents
 without_input state = progress state.state state.fine
 
--- Messages are handled whatever is left of the input.
+-- If messages are handled from `before` to `after`, they are so without what is left of the input.
 handled_without : (is_kept : Bool) (told : Wording) (before after : Progress DeskContents) (apdus : List Apdu)
     → Handled (TakesMessage is_kept told many_sides) before apdus after
     → Handled (TakesMessage is_kept told many_sides) (without_input before) apdus (without_input after)
@@ -326,7 +327,7 @@ between_is_command others before after cut = elim cut.reaches [
 
 -- ---- fewer messages
 
--- The first items of the first items of a list are some first items of it.
+-- The first `n` of the first `m` items of a list are its first `k`, for some `k`.
 first_of_first : {X : Type 0} (n m : ℕ) (xs : List X) → (k : ℕ) × (take n (take m xs) ≡ take k xs)
 first_of_first zero m xs = (zero, refl)
 first_of_first (suc n) zero xs = (zero, refl)
@@ -345,13 +346,13 @@ fewer_of_none : (left : List Apdu) (size : ℕ) → left ≡ [] → take size le
 fewer_of_none left zero none = refl
 fewer_of_none left (suc size) none = ap (λ (apdus : List Apdu). take (suc size) apdus) none
 
--- The first messages that leave after deeds may leave alone.
+-- If `left` leaves after the deeds of a night, its first `size` messages may leave alone.
 fewer_if_done : (said : Result (Unit {0}) ToolFault) (live : DeskContents) (left : List Apdu) (size : ℕ)
     → LeavesIfDone said live left → LeavesIfDone said live (take size left)
 fewer_if_done (Ok done) live left size is = fewer_of_outbox live left size is
 fewer_if_done (Err fault) live left size none = fewer_of_none left size none
 
--- The first messages that leave in a night may leave alone.
+-- If `left` leaves in a night, its first `size` messages may leave alone.
 fewer_of_night : (asked : AskedNight) (old new : CommandState DeskContents) (result : Result Bool ToolFault)
     (night : ExchangesAt asked old result new) (left : List Apdu) (size : ℕ) → Leaves asked night left
     → Leaves asked night (take size left)
@@ -425,7 +426,7 @@ cut_is_command longest others before after loses = elim loses [
 
 -- ---- histories
 
--- A command or a loss of power in one is a command.
+-- If a loss of power leaves a command (`loses`), a step of a history through such losses is a command.
 powered_happens : ((others : List Apdu) (before after : Library) → LosesPower others before after
     → Commands others before after) → (before after : Libraries) → HappensOrLoses before after → Happens before after
 powered_happens loses before after happens =

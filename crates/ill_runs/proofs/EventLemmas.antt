@@ -22,7 +22,7 @@ use Rattle.ill_runs.specs.Mail.{WasSent}
 
 -- ---- events one after another
 
--- No event leads from a desk to itself.
+-- An empty list of events leads from a desk to itself.
 pub none_leads : (who : Role) (sent : List Sending) (p : DeskParty) → Leads who sent p p
 unfolding desk_after HappenAt
 none_leads who sent p = record { events = []; here = tt; after = refl }

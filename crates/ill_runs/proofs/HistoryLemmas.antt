@@ -88,7 +88,7 @@ module _ (stand : EachStands) (stay : (txn : Qualifiers) (w : DeskParties) (even
 
 -- ---- safety
 
--- If two desks stand, the libraries that are these desks are safe.
+-- If two desks stand, the libraries that are these desks are safe. The premises before them are laws of two parties.
 pub safe_at : ((txn : Qualifiers) (w : Parties) → Invariant txn w → OfBoth EndsAlike w)
     → ((txn : Qualifiers) (w : Parties) → Invariant txn w → OfBoth WasShipped w)
     → ((txn : Qualifiers) (w : Parties) → Invariant txn w → OfBoth WasGranted w)

@@ -75,7 +75,7 @@ module _ (live : DeskContents) (h : DeskEntry) (found : found_by txn_held (txn_h
         (omega (arith, length-append prefix (a ∷ []), released)),
   )
 
-  -- `P` holds of each message, if it holds of each that the side has issued.
+  -- If `P` holds of each of `apdus`, it holds of the message of each issue of them.
   issues_released : (P : Apdu → Type 0) (apdus : List Apdu) → Each P apdus
       → Each P (map (λ issue. issue.apdu) (issues_of h.side apdus))
   unfolding Each

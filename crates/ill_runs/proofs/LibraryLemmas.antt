@@ -78,7 +78,7 @@ unfolding run_by
 run_join w [] more = refl
 run_join w (event ∷ events) more = run_join (desks_happen w event).1 events more
 
--- Both lists of events happen at one desk, if their join does.
+-- If both lists of events happen at one desk, so does their join.
 pub here_both : (who : Role) (events more : List DeskEvent) → HappenAt who events → HappenAt who more
     → HappenAt who (events ++ more)
 unfolding HappenAt
@@ -177,7 +177,7 @@ module _ (stand : EachStands) (stay : (txn : Qualifiers) (w : DeskParties) (even
       ap (λ entry. (desk_sends p txn n entry).1) found
       ∙ sends_it p (λ b. sent_by p txn n b) (message (issued_of held.side) n) (nat_le n held.released) a there free
 
-  -- If there is a place for message n, a desk that has sent `a` so has sent it.
+  -- If there is a place for message n, a desk that has sent `a` as message n has sent it.
   was_sent : (p : DeskParty) (txn : Qualifiers) (n : ℕ) (a : Apdu) (issued : List Apdu) → message issued n ≡ Some a
       → length issued < 256 → length (sent_for txn p.sent) ≡ 255
       → WasSent (sent_by p txn n a).sent a
@@ -237,7 +237,8 @@ module _ (stand : EachStands) (stay : (txn : Qualifiers) (w : DeskParties) (even
 
   -- ---- one command
 
-  -- A command that began from a library has led its desk to `q`, and `leaving` may leave `q`.
+  -- A command that began at the model's desk `p` has led it to the desk `end`. The store has the landed sides of `end`,
+  -- and `leaving` may leave it.
   record HasRun (who : Role) (sent : List Sending) (p : DeskParty) (leaving : List Apdu) (content : Option (Option (List ℕ)))
       : Type 0 where
     end : DeskParty
@@ -262,6 +263,7 @@ module _ (stand : EachStands) (stay : (txn : Qualifiers) (w : DeskParties) (even
   leave_if_any p leaving (inl none) apart = none_leave p.live leaving none
   leave_if_any p leaving (inr is) apart = outbox_released p.live leaving apart is
 
+  -- A command begins at the library `before`, which is the desk `p` of `who`. The other desk has sent each of `others`.
   module _ (who : Role) (sent : List Sending) (p : DeskParty) (of : IsDeskOf who p) (others : List Apdu)
       (were : Each (WasSent sent) others) (before after : Library) (at : IsAt before p) where
     -- A desk is restarted by an event, which is a run.
@@ -339,7 +341,7 @@ module _ (stand : EachStands) (stay : (txn : Qualifiers) (w : DeskParties) (even
           may_leave = λ apart. leave_if_any run.0 is.leaving run.3 apart;
         }
 
-  -- A command that ran leads to the library after it.
+  -- If a command has run from `before`, events lead to `after`: its own, then a Send for each message.
   ran_leads : (who : Role) (w : DeskParties) → DesksInvariant w → (before after : Library) → IsAt before (party w who)
       → (leaving : List Apdu) (content : Option (Option (List ℕ)))
       → content ≡ Some (Some after.file) → after.left ≡ before.left ++ leaving
@@ -369,7 +371,7 @@ module _ (stand : EachStands) (stay : (txn : Qualifiers) (w : DeskParties) (even
         });
       }
 
-  -- A library that stays as it was is led there by no event.
+  -- If a command leaves the library as it was, an empty list of events leads there.
   stays_there : (who : Role) (w : DeskParties) (before after : Library) → IsAt before (party w who) → after ≡ before
       → LeadsTo who w after
   unfolding run_by HappenAt

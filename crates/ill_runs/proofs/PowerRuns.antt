@@ -37,13 +37,13 @@ MayStand p sides = (sides ≡ p.desk.landed) ⊎ IsAmong sides p.leaves
 -- ---- events that depend on no landed side
 
 module _ (p : DeskParty) (landed : SidesOf) where
-  -- A decision does with other landed sides what it does.
+  -- If other sides had landed, a decision would lead to its desk with these sides.
   decides_so : (result : Result DeskContents DeskFault)
       → (desk_decides (with_landed p landed) result).1 ≡ with_landed (desk_decides p result).1 landed
   decides_so (Ok new) = refl
   decides_so (Err fault) = refl
 
-  -- A message leaves with other landed sides as it leaves.
+  -- If other sides had landed, a message that leaves would lead to its desk with these sides.
   leaves_so : (txn : Qualifiers) (n : ℕ) (issued : Option Apdu) (is_released : Bool)
       → (sends_by (with_landed p landed) (λ a. record (with_landed p landed) { sent = with_sent_for txn p.sent n a }) issued
       is_released).1
@@ -52,13 +52,13 @@ module _ (p : DeskParty) (landed : SidesOf) where
   leaves_so txn n (Some a) false = refl
   leaves_so txn n None is_released = refl
 
-  -- A Send does with other landed sides what it does.
+  -- If other sides had landed, a Send would lead to its desk with these sides.
   sends_so : (txn : Qualifiers) (n : ℕ) (found : Option DeskEntry)
       → (desk_sends (with_landed p landed) txn n found).1 ≡ with_landed (desk_sends p txn n found).1 landed
   sends_so txn n (Some held) = leaves_so txn n (message (issued_of held.side) n) (nat_le n held.released)
   sends_so txn n None = refl
 
-  -- A delivery does with other landed sides what it does.
+  -- If other sides had landed, a delivery would lead to its desk with these sides.
   receives_so : (found : Option Apdu)
       → (desk_receives (with_landed p landed) found).1 ≡ with_landed (desk_receives p found).1 landed
   receives_so (Some a) = refl
@@ -84,7 +84,7 @@ stands_alone sides landed either = elim either [
 ]
 
 module _ (who : Role) (sent : List Sending) (p : PoweredDesk) where
-  -- An event that depends on no landed side leaves them, and what may be left.
+  -- An event depends on no landed side, and leaves what may be left. Then what may stand after it stood before it.
   quiet_so : (event : DeskEvent) → who_of (plain event) ≡ who → leaves_after p.desk p.leaves event ≡ p.leaves
       → ((landed : SidesOf) → (desk_happens_to (with_landed p.desk landed) sent event).1
       ≡ with_landed (desk_happens_to p.desk sent event).1 landed)
@@ -147,7 +147,7 @@ module _ (who : Role) (sent : List Sending) (p : PoweredDesk) where
     ]
   ]
 
-  -- Whatever may stand after an event is what an event leads to from what might stand before.
+  -- If `landed` may stand after `event`, it is foretold: some event leads there from sides that may stand before.
   foretold : (event : DeskEvent) → who_of (plain event) ≡ who → (landed : SidesOf)
       → MayStand (powered_after p sent event) landed → Foretold who sent p (powered_after p sent event) landed
   foretold (events.Wish txn wish) here landed stands =
@@ -247,7 +247,7 @@ runs_reach w (loss role left ∷ later) may reached =
     runs_reach (power_happens w (loss role left)) later may.1
     (reached_on role w (started_from (party w role).desk left) (lost_so role sent (party w role) left may.0) reached)
 
--- No event leads to the first desks.
+-- The first desks are reached by an empty list of events: only their own sides may stand.
 first_reached : Reached first_powered_desks
 unfolding run_by
 first_reached mine theirs here there =

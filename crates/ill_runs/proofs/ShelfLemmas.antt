@@ -5,7 +5,8 @@ use Rattle.std.proofs.lemmas.Slice.Eq.{bytes_eq-Decides}
 use Rattle.ill_runs.specs.Libraries.{Libraries, Happens, IsHistory, libraries_after}
 use Rattle.ill_runs.specs.ShelfLibraries.{ShelfLibraries, GroupVisit, after_visit, IsShelfHistory, shelves_after, visits_of}
 
--- If `visits` are a history from the libraries that a visit leaves at a group, the visit and they are one.
+-- If `later` is a history from the libraries after a visit at `group`, it is one with the visit before it. If the visit
+-- is of another group (`same` is false), it is one alone.
 visit_joins : (w : ShelfLibraries) (group : List ℕ) (visit : GroupVisit) (later : List Libraries) (same : Bool)
     → bytes_eq group visit.group ≡ same → Happens (w visit.group) visit.after
     → IsHistory (if same then visit.after else w group) later

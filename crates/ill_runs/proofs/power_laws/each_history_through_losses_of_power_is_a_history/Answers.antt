@@ -1,4 +1,5 @@
--- Proves the clauses of `each_history_through_losses_of_power_is_a_history` (`src/power_laws.rt`).
+-- Proves the clauses of `each_history_through_losses_of_power_is_a_history` (`src/power_laws.rt`). Each command that
+-- loses its power is a command, so the laws of histories hold.
 use Rattle.ill_runs.specs.Libraries.{first_libraries}
 use Rattle.ill_runs.proofs.CutOffLemmas.{powered_is_history, powered_is_shelf_history}
 use Rattle.ill_runs.proofs.power_laws.each_history_through_losses_of_power_is_a_history.Goals as goal

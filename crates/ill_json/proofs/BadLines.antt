@@ -43,7 +43,7 @@ without_is (x ∷ y ∷ xs) byte = ap (λ t. x ∷ t) (without_is (y ∷ xs) byt
 same_text : (text other : List ℕ) → text ++ codes "\n" ≡ other ++ codes "\n" → text ≡ other
 same_text text other same = sym (without_is text 10) ∙ ap without_last same ∙ without_is other 10
 
--- A text with a control character does not pass the test.
+-- If a text has a line feed within, not all of its bytes pass the test of `is_no_control`.
 control_seen : (first rest : List ℕ) → list_all is_no_control (first ++ 10 ∷ rest) ≡ true → ⊥
 control_seen [] rest e = true≢false (sym e)
 control_seen (x ∷ first) rest e = control_seen first rest (and_parts _ _ e).1
@@ -55,7 +55,7 @@ abbrev value_or : {A : Type 0} → A → Option A → A
 value_or other None = other
 value_or other (Some value) = value
 
--- Two values that were found are one.
+-- If `x` is what was found, and `y` is, both are equal.
 one_found : {A : Type 0} (found : Option A) (x y : A) → found ≡ Some x → found ≡ Some y → x ≡ y
 one_found found x y is same = ap (value_or x) (sym is ∙ same)
 

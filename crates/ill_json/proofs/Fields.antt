@@ -1,4 +1,5 @@
--- Proves that the fields of the program are read as members.
+-- Proves that the fields of the program are read as members. A text *has a value* if it is read as JSON (`HasValue`). A
+-- field *is read* if its label is UTF-8, and its text has a value (`FieldReads`).
 use Rattle.std.proofs.Common.{◌≡◌, ℕ, suc, ◌/◌, ◌<◌, ◌^◌, Bool, true, List, [], ◌∷◌, Option}
 use Rattle.std.proofs.Common.{Some, None, arith, IsUtf8, decimal, IfSome}
 use Rattle.ill_values.specs.Day.{Date, iso_text, last_digit}
@@ -9,7 +10,7 @@ use Rattle.ill_json.proofs.Values.{HasValue, FieldReads, string_reads, null_read
 
 -- ---- values
 
--- The last digit of a number before a shown text is shown.
+-- If `text` is shown, the last digit of `n` and then `text` are shown.
 digit_then : (n : ℕ) (text : List ℕ) → IsShown text → IsShown (last_digit n ∷ text)
 digit_then n text shown = shown-cons (last_digit n) text (omega arith) (omega arith) shown
 
@@ -35,7 +36,7 @@ module _ (most : ℕ) where
   pub flag_value : (holds : Bool) → HasValue most (flag holds)
   flag_value holds = record { value = _; reads = flag_reads most holds }
 
-  -- A value that may be missing has a value.
+  -- The text of a value that may be missing has a value: that of the value found, or null.
   pub optional_value : {A : Type 0} (text : A → List ℕ) (found : Option A) → IfSome found (λ a. HasValue most (text a))
       → HasValue most (optional text found)
   optional_value text None h = record { value = _; reads = null_reads most }
@@ -61,6 +62,7 @@ pub words_value : (most : ℕ) (words : List (List ℕ)) → Each IsUtf8 words �
 unfolding Each
 words_value most words each = array_value most quoted words (values words each)
   where
+    -- Each quoted word has a value.
     values : (words : List (List ℕ)) → Each IsUtf8 words → Each (λ word. HasValue most (quoted word)) words
     values [] each = tt
     values (word ∷ words) each = (text_value most word each.0, values words each.1)

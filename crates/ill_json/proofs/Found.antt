@@ -79,6 +79,7 @@ splits : (field : Field) (fields : List Field) (members : Members) → members_o
     → Splits field fields members
 splits field fields members are = go (document field.1) (members_of fields) refl refl are
   where
+    -- The text of the field and the further fields are read, since all members are.
     go : (read : Option Json) (others : Option Members) → document field.1 ≡ read → members_of fields ≡ others
         → option_and_then (λ value. option_map (member field.0 value) others) read ≡ Some members → Splits field fields members
     go None others is also e = absurd (true≢false (sym (ap is_some e)))

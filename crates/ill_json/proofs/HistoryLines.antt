@@ -1,4 +1,4 @@
--- Proves that the history of a loan is an array of objects of JSON.
+-- Proves that the history of a loan is an array of objects of JSON. Each part has a value (`HasValue`).
 use Rattle.std.proofs.Common.{◌≡◌, ℕ, suc, ◌+◌, ◌<◌, take, drop, Bool, true, false, List, [], ◌∷◌, ◌++◌, map, length, Option}
 use Rattle.std.proofs.Common.{Some, None}
 use Rattle.std.proofs.Common.{refl, arith, IsUtf8, codes, IfSome, cond}
@@ -48,6 +48,7 @@ around text place utf8 within space =
 around_space : (text : List ℕ) → IsUtf8 text → IfSome (at_space text) AreUtf8
 around_space text utf8 = go (nat_lt (position_or_len is_space text) (length text)) refl
   where
+    -- The text has a space, or there are no two parts.
     go : (is : Bool) → nat_lt (position_or_len is_space text) (length text) ≡ is
         → IfSome (if is then Some (before_first is_space text, after_first is_space text) else None) AreUtf8
     go true less =
@@ -64,6 +65,7 @@ HasName says = IsUtf8 says.by
 named_on : (day : List ℕ) (parts : List ℕ × List ℕ) → AreUtf8 parts → IfSome (said_on day parts) HasName
 named_on day parts are = go (day_of day)
   where
+    -- If the text `day` is no day, nothing is said.
     go : (found : Option Date)
         → IfSome (option_map (λ d. says_of d parts.0 parts.1) found) HasName
     go None = tt
@@ -73,10 +75,12 @@ named_on day parts are = go (day_of day)
 named_in : (text : List ℕ) → IsUtf8 text → IfSome (said_in text) HasName
 named_in text utf8 = first (at_space text) (around_space text utf8)
   where
+    -- The text after the day has a name and then its words.
     second : (day : List ℕ) (parts : Option (List ℕ × List ℕ)) → IfSome parts AreUtf8 → IfSome (parts >>= said_on day) HasName
     second day None are = tt
     second day (Some parts) are = named_on day parts are
 
+    -- The text has a day and then the rest.
     first : (parts : Option (List ℕ × List ℕ)) → IfSome parts AreUtf8
         → IfSome (parts >>= λ found. at_space found.1 >>= said_on found.0) HasName
     first None are = tt
@@ -86,6 +90,7 @@ named_in text utf8 = first (at_space text) (around_space text utf8)
 named_by_line : (text : List ℕ) → IfSome (said_by text) HasName
 named_by_line text = go (is_utf8 text) refl
   where
+    -- A line that is no UTF-8 says nothing.
     go : (is : Bool) → is_utf8 text ≡ is → IfSome (if is then said_in text else None) HasName
     go true utf8 = named_in text (IsUtf8-from_is_utf8 text utf8)
     go false utf8 = tt
@@ -117,6 +122,7 @@ unfolding Each
 filter_each P keeps [] each = tt
 filter_each P keeps (x ∷ xs) each = go (keeps x) (filter_each P keeps xs each.1)
   where
+    -- The first item is kept, or not.
     go : (kept : Bool) → Each P (filter keeps xs) → Each P (cond kept (x ∷ filter keeps xs) (filter keeps xs))
     go true rest = (each.0, rest)
     go false rest = rest
@@ -127,6 +133,7 @@ unfolding Each
 requests_are (sides.Requester x) is = tt
 requests_are (sides.Responder y) is = go y.request is.parts.request
   where
+    -- A responder has a request, or none.
     go : (request : Option Apdu) → IfSome request IsApdu → Each IsApdu (option_to_list request)
     go None is = tt
     go (Some a) is = (is, tt)
@@ -154,6 +161,7 @@ unfolding Each
 found_has P test [] each = tt
 found_has P test (x ∷ xs) each = go (test x) (found_has P test xs each.1)
   where
+    -- The first item passes the test, or a later one may.
     go : (passes : Bool) → IfSome (find test xs) P → IfSome (cond passes (Some x) (find test xs)) P
     go true later = each.0
     go false later = later
@@ -165,6 +173,7 @@ module _ (messages : List Named) (each : Each IsNamed messages) where
       go (is_named says.message later) (find (λ message. bytes_eq message.key says.message) messages)
       (found_has IsNamed (λ message. bytes_eq message.key says.message) messages each)
     where
+      -- A message that a later line names has no part here. Another has one if it is among the messages.
       go : (names : Bool) (found : Option Named) → IfSome found IsNamed
           → IfSome (if names then None else option_map (part_of says) found) IsTold
       go true found is = tt
@@ -175,6 +184,7 @@ module _ (messages : List Named) (each : Each IsNamed messages) where
   line_told : (later : List (List ℕ)) (line : List ℕ) → IfSome (part_at messages later line) IsTold
   line_told later line = go (said_by line) (named_by_line line)
     where
+      -- A line that says nothing tells no part.
       go : (said : Option Said) → IfSome said HasName → IfSome (said >>= part_said messages later) IsTold
       go None utf8 = tt
       go (Some says) utf8 = part_told later says utf8
@@ -185,6 +195,7 @@ module _ (messages : List Named) (each : Each IsNamed messages) where
   parts_told [] = tt
   parts_told (line ∷ later) = with_one (part_at messages later line) (line_told later line) (parts_told later)
     where
+      -- A part that a line tells is put before the others.
       with_one : (part : Option Told) → IfSome part IsTold → Each IsTold (history_of messages later)
           → Each IsTold (option_to_list part ++ history_of messages later)
       with_one None is others = others
@@ -201,6 +212,7 @@ history_told side kept diary is each = parts_told (messages_of side kept) (messa
 person_utf8 : (by : List ℕ) → IsUtf8 by → IfSome (person by) IsUtf8
 person_utf8 by utf8 = go (bytes_eq by (codes "-"))
   where
+    -- The name `-` stands for no person.
     go : (is : Bool) → IfSome (if is then None else Some by) IsUtf8
     go true = tt
     go false = utf8

@@ -27,14 +27,14 @@ differs text (first ∷ texts) none =
     All-cons (λ other. text ≢ other) first texts
     (λ same. true≢false (sym ((bytes_eq-Decides text first).1 same) ∙ both.0)) (differs text texts both.1)
 
--- Texts that are apart differ.
+-- If no two of the texts are equal by the test, each two of them differ.
 pub apart_distinct : (texts : List (List ℕ)) → are_apart texts ≡ true → AreDistinct texts
 apart_distinct [] apart = λ i j d lt within. absurd (omega arith)
 apart_distinct (text ∷ texts) apart =
     let both = and_parts (not (list_any (bytes_eq text) texts)) (are_apart texts) apart in
     AllPairs-cons (λ a b. a ≢ b) text texts (differs text texts (not-true _ both.0)) (apart_distinct texts both.1)
 
--- Texts that are apart are so without the first.
+-- If texts are apart, those after the first are.
 pub apart_after : (text : List ℕ) (texts : List (List ℕ)) → are_apart (text ∷ texts) ≡ true → are_apart texts ≡ true
 apart_after text texts apart = (and_parts (not (list_any (bytes_eq text) texts)) (are_apart texts) apart).1
 
@@ -46,7 +46,7 @@ none_before text (first ∷ texts) more none =
     let both = or_parts (bytes_eq text first) (list_any (bytes_eq text) (texts ++ more)) none in
     rw (both.0, none_before text texts more both.1) refl
 
--- The first of texts that are apart are apart.
+-- If the texts of two lists together are apart, those of the first list are.
 pub apart_before : (texts more : List (List ℕ)) → are_apart (texts ++ more) ≡ true → are_apart texts ≡ true
 apart_before [] more apart = refl
 apart_before (text ∷ texts) more apart =

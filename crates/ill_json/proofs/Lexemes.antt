@@ -58,7 +58,7 @@ members_no_colon : (ms : Members) (ls : List Lexeme) → begins_colon (members_l
 members_no_colon no_members ls = refl
 members_no_colon (member k j ms) ls = refl
 
--- After a key the lexemes of a value and further members have their tokens.
+-- If the value after a key has its tokens, and the further members then have theirs, so have both together.
 member_place : (j : Json) (ms : Members) (ls : List Lexeme)
     → punctuate fresh (value_lexemes j ++ (members_lexemes true ms ++ ls))
     ≡ json_tokens j ++ punctuate after_value (members_lexemes true ms ++ ls)

@@ -82,7 +82,7 @@ line_is fields each apart = record {
   object = object_is 2 fields each apart (omega arith);
 }
 
--- Lines after lines are lines.
+-- If `text` has the lines `lines`, and `more` has `others`, both together have the lines of both.
 lines_append : (text more : List ℕ) (lines others : List (List Field)) → AreObjectLines text lines → AreObjectLines more others
     → AreObjectLines (text ++ more) (lines ++ others)
 lines_append text more lines others are also = record {
@@ -90,19 +90,19 @@ lines_append text more lines others are also = record {
   each = each_append (λ fields. IsObjectLine (object_line fields) fields) lines others are.each also.each;
 }
 
--- One line is lines.
+-- If the line of some fields is an object line, its text has just this line.
 lines_one : (fields : List Field) → IsObjectLine (object_line fields) fields → AreObjectLines (object_line fields) (fields ∷ [])
 unfolding Each
 lines_one fields is = record { whole = sym (append-nil (object_line fields)); each = (is, tt) }
 
--- The texts of values, each of which is lines, are the lines of all.
+-- If the text of each value has its lines, the texts of `xs` together have the lines of all.
 lines_flat : {X : Type 0} (text : X → List ℕ) (lines : X → List (List Field)) (xs : List X)
     → ((x : X) → AreObjectLines (text x) (lines x)) → AreObjectLines (flat_map text xs) (flat_map lines xs)
 unfolding Each
 lines_flat text lines [] are = record { whole = refl; each = tt }
 lines_flat text lines (x ∷ xs) are = lines_append (text x) (flat_map text xs) (lines x) _ (are x) (lines_flat text lines xs are)
 
--- The texts of values, each of which is one line, are a line for each.
+-- If the line of each value is an object line, the lines of `xs` together are a line for each.
 pub lines_each : {X : Type 0} (fields : X → List Field) (xs : List X)
     → Each (λ x. IsObjectLine (object_line (fields x)) (fields x)) xs
     → AreObjectLines (flat_map (λ x. object_line (fields x)) xs) (map fields xs)
@@ -114,13 +114,14 @@ lines_each fields (x ∷ xs) each =
 
 -- ---- lists
 
--- If `P` is true of each item and of one more, it is true of each after this one is placed.
+-- If `P` is true of `x` and of `xs`, it is true of each after `x` is placed among them.
 placed_each : {X : Type 0} (P : X → Type 0) (before : X → X → Bool) (x : X) (xs : List X) → P x → Each P xs
     → Each P (placed before x xs)
 unfolding Each
 placed_each P before x [] is each = (is, tt)
 placed_each P before x (y ∷ xs) is each = go (before y x) (placed_each P before x xs is each.1)
   where
+    -- The item `x` is placed after `y`, or before it.
     go : (b : Bool) → Each P (placed before x xs) → Each P (cond b (y ∷ placed before x xs) (x ∷ y ∷ xs))
     go true later = (each.0, later)
     go false later = (is, each)
@@ -131,28 +132,30 @@ unfolding Each
 ordered_each P before [] each = tt
 ordered_each P before (x ∷ xs) each = placed_each P before x (ordered before xs) each.0 (ordered_each P before xs each.1)
 
--- A placed item is one more.
+-- After `x` is placed, the list is longer by one.
 placed_length : {X : Type 0} (before : X → X → Bool) (x : X) (xs : List X) → length (placed before x xs) ≡ suc (length xs)
 placed_length before x [] = refl
 placed_length before x (y ∷ xs) = go (before y x) (placed_length before x xs)
   where
+    -- The item `x` is placed after `y`, or before it.
     go : (b : Bool) → length (placed before x xs) ≡ suc (length xs)
         → length (cond b (y ∷ placed before x xs) (x ∷ y ∷ xs)) ≡ suc (suc (length xs))
     go true later = ap suc later
     go false later = refl
 
--- Items in order are as many.
+-- A list that was put in order has as many items as before.
 ordered_length : {X : Type 0} (before : X → X → Bool) (xs : List X) → length (ordered before xs) ≡ length xs
 ordered_length before [] = refl
 ordered_length before (x ∷ xs) = placed_length before x (ordered before xs) ∙ ap suc (ordered_length before xs)
 
--- If `P` makes each item `Q`, each kept item of which `P` is true is `Q`.
+-- If `P` implies `Q`, and `P` is true of each item, `Q` is true of each item that is kept.
 kept_each : {X : Type 0} (P Q : X → Type 0) (keeps : X → Bool) (xs : List X) → ((x : X) → P x → Q x) → Each P xs
     → Each Q (filter keeps xs)
 unfolding Each
 kept_each P Q keeps [] so each = tt
 kept_each P Q keeps (x ∷ xs) so each = go (keeps x) (kept_each P Q keeps xs so each.1)
   where
+    -- The first item is kept, or not.
     go : (b : Bool) → Each Q (filter keeps xs) → Each Q (cond b (x ∷ filter keeps xs) (filter keeps xs))
     go true rest = (so x each.0, rest)
     go false rest = rest
@@ -183,7 +186,7 @@ rows_are file annex wanted shown u told each work =
     (λ side. IsObjectLine (row_object file annex wanted.today work side) (fields_of_row file annex wanted.today work side))
     (has_work wanted work) shown (λ side is. row_is file annex wanted.today work side u told is) each)
 
--- A list in order is object lines.
+-- The text of a list of the sides `held`, in their order, has object lines.
 ordered_are : (file : Option (List ℕ)) (wanted : Wanted) (seeking : Seeking) (held : List Side) → IfSome file IsUtf8
     → AreToldNews seeking.annex → Each IsSide held → length held ≤ most_sides
     → AreObjectLines (listed (work_objects file seeking.annex) (counts_object file) wanted seeking held)
@@ -201,7 +204,7 @@ ordered_are file wanted seeking held u told each few =
     (lines_one _ (line_is _ (each_append (FieldReads 2) (counts_fields (counts_of wanted held)) (file_fields file)
     (counts_reads wanted held few) (file_reads file u)) (counts_apart file wanted held)))
 
--- The objects of a desk are object lines.
+-- The text of `list` for one desk has object lines, the most urgent loans first.
 objects_are : (file : Option (List ℕ)) (wanted : Wanted) (seeking : Seeking) (held : SidesOf) → IfSome file IsUtf8
     → AreToldNews seeking.annex → AreSides held
     → AreObjectLines (list_objects file wanted seeking held.sides) (fields_of_list file wanted seeking held.sides)
@@ -225,6 +228,7 @@ pub status_are : (entries : List DeskEntry) → Each IsEntry entries
 unfolding Each
 status_are entries each = lines_each fields_of_status entries (each_line entries each)
   where
+    -- The line of each entry is an object line.
     each_line : (entries : List DeskEntry) → Each IsEntry entries
         → Each (λ entry. IsObjectLine (object_line (fields_of_status entry)) (fields_of_status entry)) entries
     each_line [] each = tt
@@ -255,6 +259,7 @@ pub parts_are : (side : Side) (kept : List Apdu) (diary : List (List ℕ)) → I
 unfolding Each
 parts_are side kept diary is each = go (history_of (messages_of side kept) diary) (history_told side kept diary is.1 each)
   where
+    -- Each part is an object, since it has values.
     go : (parts : List Told) → Each IsTold parts → Each (λ part. IsObject (part_object part) (part_fields part)) parts
     go [] told = tt
     go (part ∷ parts) told =
@@ -266,6 +271,7 @@ pub apdus_are : (apdus : List Apdu) → Each IsApdu apdus
 unfolding Each
 apdus_are apdus each = lines_each line_fields apdus (each_line apdus each)
   where
+    -- The line of each APDU is an object line.
     each_line : (apdus : List Apdu) → Each IsApdu apdus
         → Each (λ a. IsObjectLine (object_line (line_fields a)) (line_fields a)) apdus
     each_line [] each = tt

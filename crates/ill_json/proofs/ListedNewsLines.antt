@@ -1,4 +1,4 @@
--- Proves that the field of the news of a listed loan is read.
+-- Proves that the field of the news of a listed loan is read (`FieldReads`).
 use Rattle.std.proofs.Common.{Bool, true, false, cond, not, ◌&&◌, List, [], ◌∷◌, ◌++◌, fold, Option, Some, None, refl}
 use Rattle.std.proofs.Common.{IfSome}
 use Rattle.ill_values.specs.TxnId.{Qualifiers}
@@ -24,6 +24,7 @@ kept_each P txn kept [] so_far each = so_far
 kept_each P txn kept (a ∷ came) so_far each =
     kept_each P txn (with_new txn kept a) came (go (is_same_txn a.txn txn && not (is_among kept a))) each.1
   where
+    -- The message `a` is kept, or not.
     go : (is_new : Bool) → Each P (cond is_new (kept ++ a ∷ []) kept)
     go true = each_append P kept (a ∷ []) so_far (each.0, tt)
     go false = so_far

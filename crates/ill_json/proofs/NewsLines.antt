@@ -1,4 +1,4 @@
--- Proves that the lines of `news` are objects of JSON.
+-- Proves that the lines of `news` are objects of JSON, since what is told are messages in range.
 use Rattle.std.proofs.Common.{ℕ, zero, suc, ◌-◌, Bool, true, false, cond, not, ◌&&◌, List, [], ◌∷◌, ◌++◌, drop, fold, length}
 use Rattle.std.proofs.Common.{map}
 use Rattle.std.proofs.Common.{Option, Some, None, IsUtf8, IfSome}
@@ -33,12 +33,13 @@ use Rattle.ill_json.proofs.Values.{FieldReads}
 
 -- ---- the news
 
--- The side of a transaction, if there is one, is one of the sides.
+-- If `P` holds of each of `sides`, it holds of the side of `txn` among them, if there is one.
 found_each : (P : Side → Type 0) (txn : Qualifiers) (sides : List Side) → Each P sides → IfSome (side_with txn sides) P
 unfolding Each side_with
 found_each P txn [] each = tt
 found_each P txn (side ∷ sides) each = go (is_same_txn txn (txn_of side)) (found_each P txn sides each.1)
   where
+    -- The first side is that of `txn`, or it is sought among the others.
     go : (is_it : Bool) → IfSome (found_by txn_of txn sides) P → IfSome (cond is_it (Some side) (found_by txn_of txn sides)) P
     go true rest = each.0
     go false rest = rest
@@ -51,6 +52,7 @@ news_each P sides news [] told each = told
 news_each P sides news (a ∷ came) told each =
     news_each P sides (with_news sides news a) came (go (heard_at sides a && not (is_told news a))) each.1
   where
+    -- The message `a` is told, or not.
     go : (is_new : Bool) → Each P (cond is_new (news ++ a ∷ []) news)
     go true = each_append P news (a ∷ []) told (each.0, tt)
     go false = told
@@ -84,6 +86,7 @@ objects_are : (file : Option (List ℕ)) (sides : List Side) (shown : List Apdu)
 unfolding Each
 objects_are file sides shown u each are = lines_each (fields_of_news file sides) shown (go shown are)
   where
+    -- The line of each message is an object line.
     go : (shown : List Apdu) → Each IsApdu shown
         → Each (λ a. IsObjectLine (object_line (fields_of_news file sides a)) (fields_of_news file sides a)) shown
     go [] are = tt
@@ -101,19 +104,19 @@ news_are is_first true last path held news u are each =
 
 -- ---- what is told
 
--- What came since a day are messages.
+-- If each message that came is in range, so is each that came since a day.
 since_each : (since : Option Date) (lines : List (List ℕ)) (came : List Apdu) → Each IsApdu came
     → Each IsApdu (came_since since lines came)
 since_each None lines came each = each
 since_each (Some day) lines came each = filter_each IsApdu (is_new day lines) _ (dropped_each IsApdu _ came each)
 
--- What dates have made due at a side are messages.
+-- Each message of a side that a date has made due is in range.
 deeds_at_each : (day : Date) (lines : List (List ℕ)) (side : Side) → IsSide side → Each IsApdu (deeds_at day lines side)
 unfolding Each
 deeds_at_each day lines (sides.Requester x) is = tt
 deeds_at_each day lines (sides.Responder y) is = filter_each IsApdu (is_deed_since day lines) y.issued is.1.issued
 
--- What dates have made due at a desk are messages.
+-- Each message of the sides of a desk that a date has made due is in range.
 deeds_each : (since : Option Date) (lines : List (List ℕ)) (sides : List Side) → Each IsSide sides
     → Each IsApdu (deeds_since since lines sides)
 unfolding Each
@@ -123,7 +126,7 @@ deeds_each (Some day) lines (side ∷ sides) each =
     each_append IsApdu (deeds_at day lines side) (deeds_since (Some day) lines sides)
     (deeds_at_each day lines side each.0) (deeds_each (Some day) lines sides each.1)
 
--- What is told of a desk are messages.
+-- If each message that came is in range, so is each that is told of the desk.
 pub told_each : (since : Option Date) (notes lines : List (List ℕ)) (held : SidesOf) (came : List Apdu) → AreSides held
     → Each IsApdu came → Each IsApdu (told_since since notes lines held.sides came)
 unfolding Each

@@ -1,4 +1,5 @@
--- Proves that the objects of a night are objects of JSON.
+-- Proves that the objects of a night are objects of JSON. Their fields are read (`FieldReads`), and their labels
+-- differ.
 use Rattle.std.proofs.Common.{◌≡◌, ℕ, ◌<◌, ◌^◌, true, List, ◌++◌, Option, Some, None, refl, arith, codes}
 use Rattle.std.proofs.Common.{decimal}
 use Rattle.std.proofs.Common.{IsUtf8, IfSome}
@@ -87,7 +88,7 @@ fault_printable (ders.Length at) = refl
 fault_printable (ders.Field at) = refl
 fault_printable ders.OutOfMemory = refl
 
--- The place of a fault is printable.
+-- If the place of a fault has 32 bits, its text is shown. The text is empty if there is no place.
 place_shown : (place : Option ℕ) → IfSome place (λ at. at < 2 ^ 32) → IsShown (place_text place)
 place_shown None near = shown-nil
 place_shown (Some at) near =
@@ -195,7 +196,7 @@ left_is name delay named =
     line_is (stays_fields name (codes "left") (delay_text delay))
     (stays_reads name (codes "left") (delay_text delay) named refl (delay_utf8 delay)) refl
 
--- A count has a value.
+-- If a count has 64 bits, its field is read.
 count_reads : (label : List ℕ) (n : ℕ) → are_printable label ≡ true → n < 2 ^ 64 → FieldReads 2 (label, decimal n)
 count_reads label n plain small = field_reads 2 label _ plain (number_value 2 n small)
 

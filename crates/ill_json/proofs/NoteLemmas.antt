@@ -10,10 +10,11 @@ use Rattle.ill_values.specs.TxnId.{Qualifiers}
 use Rattle.ill_text.specs.Keys.{loan_key}
 use Rattle.ill_beside.specs.Notes.{note_of, unless_empty, words_after}
 
--- The words of a line are UTF-8.
+-- The words after `begin` in a line are UTF-8, if there are any.
 words_utf8 : (begin line : List ℕ) → IfSome (words_after begin line) IsUtf8
 words_utf8 begin line = go (starts_with nat_eq line begin) (is_utf8 (drop (length begin) line)) refl
   where
+    -- A line that does not start with `begin`, or goes on in no UTF-8, has no words.
     go : (starts is : Bool) → is_utf8 (drop (length begin) line) ≡ is
         → IfSome (if starts && is then Some (drop (length begin) line) else None) IsUtf8
     go true true utf8 = IsUtf8-from_is_utf8 (drop (length begin) line) utf8
@@ -25,7 +26,7 @@ either_utf8 : (one other : Option (List ℕ)) → IfSome one IsUtf8 → IfSome o
 either_utf8 (Some one) other first second = first
 either_utf8 None other first second = second
 
--- The words of the last line are UTF-8.
+-- The words of the last line that begins with `begin` are UTF-8, if those found before are.
 last_utf8 : (begin : List ℕ) (found : Option (List ℕ)) (lines : List (List ℕ)) → IfSome found IsUtf8
     → IfSome (fold (λ found line. option_or (words_after begin line) found) found lines) IsUtf8
 last_utf8 begin found [] so_far = so_far
@@ -33,7 +34,7 @@ last_utf8 begin found (line ∷ lines) so_far =
     last_utf8 begin (option_or (words_after begin line) found) lines
     (either_utf8 (words_after begin line) found (words_utf8 begin line) so_far)
 
--- Words that are UTF-8 stay so, unless there are none.
+-- If words are UTF-8, they are so after empty words are left out.
 unless_utf8 : (words : Option (List ℕ)) → IfSome words IsUtf8 → IfSome (unless_empty words) IsUtf8
 unless_utf8 None utf8 = tt
 unless_utf8 (Some []) utf8 = tt

@@ -1,4 +1,4 @@
--- Proves that the line of `verify` is an object of JSON.
+-- Proves that the line of `verify` is an object of JSON: each of its fields is read (`FieldReads`).
 use Rattle.std.proofs.Common.{◌≡◌, ℕ, suc, ◌≤◌, ◌<◌, ◌^◌, ◌*◌, ◌-◌, Bool, true, false, List, [], ◌∷◌, length, Option, Some, None}
 use Rattle.std.proofs.Common.{refl, sym}
 use Rattle.std.proofs.Common.{subst, arith, decimal, IfSome}
@@ -29,7 +29,7 @@ version_small : (is_first : Bool) → (if is_first then 1 else 2) < 2 ^ 64
 version_small true = omega arith
 version_small false = omega arith
 
--- Each of some sides has issued 255 messages at most, on average.
+-- If a desk may hold each of the sides, all together have issued at most 255 messages for each side.
 issued_few : (sides : List Side) → Each IsSide sides → issued_by_all sides ≤ length sides * 255
 unfolding Each
 issued_few [] each = omega arith

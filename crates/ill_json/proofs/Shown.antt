@@ -12,7 +12,7 @@ pub record IsShown (text : List ℕ) : Type 0 where
   pub utf8 : IsUtf8 text
   pub seen : list_all is_no_control text ≡ true
 
--- Both parts of a text have a property of all bytes, so the text has it.
+-- If `P` is true of each byte of both texts, it is true of each byte of their join.
 all-append : (P : ℕ → Bool) (xs ys : List ℕ) → list_all P xs ≡ true → list_all P ys ≡ true → list_all P (xs ++ ys) ≡ true
 all-append P [] ys h k = k
 all-append P (x ∷ xs) ys h k = let both = and_parts _ _ h in and_from _ _ both.0 (all-append P xs ys both.1 k)
@@ -21,7 +21,7 @@ all-append P (x ∷ xs) ys h k = let both = and_parts _ _ h in and_from _ _ both
 pub shown-nil : IsShown []
 shown-nil = record { utf8 = IsUtf8-nil; seen = refl }
 
--- Two shown texts are one.
+-- If two texts are shown, their join is shown.
 pub shown-append : (xs ys : List ℕ) → IsShown xs → IsShown ys → IsShown (xs ++ ys)
 shown-append xs ys h k = record {
   utf8 = IsUtf8-append xs ys h.utf8 k.utf8;
@@ -48,7 +48,7 @@ abbrev pub are_printable : List ℕ → Bool
 are_printable [] = true
 are_printable (x ∷ xs) = nat_le 32 x && (nat_lt x 127 && are_printable xs)
 
--- Printing characters of ASCII are shown.
+-- A text of printing characters of ASCII is shown.
 pub printable_shown : (xs : List ℕ) → are_printable xs ≡ true → IsShown xs
 printable_shown [] h = shown-nil
 printable_shown (x ∷ xs) h =

@@ -1,4 +1,4 @@
--- Proves that the fields of APDUs and of sides are read as members.
+-- Proves that the fields of APDUs and of sides are read as members (`FieldReads`). The labels of each object differ.
 use Rattle.std.proofs.Common.{◌≡◌, ℕ, suc, ◌≤◌, ◌-◌, Bool, true, false, List, [], ◌∷◌, ◌++◌, map, length, Option, Some, None}
 use Rattle.std.proofs.Common.{is_some, refl, sym, subst, arith, append-nil, IsUtf8, codes, decimal, IfSome}
 use Rattle.std.specs.Prelude.{nat_le}
@@ -195,7 +195,7 @@ module _ (most : ℕ) where
 
 -- ---- sides
 
--- The qualifiers of a side are qualifiers.
+-- If a side is in range, its qualifiers are.
 txn_is : (side : Side) → IsInRange side → AreQualifiers (txn_of side)
 txn_is (sides.Requester x) is = is.parts.txn
 txn_is (sides.Responder y) is = is.parts.txn

@@ -26,12 +26,12 @@ pub record StandsFor (text meant : List ℕ) : Type 0 where
   pub content : (rest : List ℕ) → content plain (text ++ rest) ≡ prepend meant (content plain rest)
   pub passed : (rest : List ℕ) → lex in_string (text ++ rest) ≡ lex in_string rest
 
--- Nothing before a value that may be none changes nothing.
+-- If no bytes are put before a text that may be missing, it stays as it is.
 prepend-nil : (found : Option (List ℕ)) → prepend [] found ≡ found
 prepend-nil None = refl
 prepend-nil (Some s) = refl
 
--- Two texts are put before a value one after the other.
+-- If `ys` and then `xs` are put before a text that may be missing, `xs ++ ys` are before it.
 prepend-append : (xs ys : List ℕ) (found : Option (List ℕ)) → prepend xs (prepend ys found) ≡ prepend (xs ++ ys) found
 prepend-append xs ys None = refl
 prepend-append xs ys (Some s) = ap Some (sym (append_assoc xs ys s))
@@ -40,7 +40,7 @@ prepend-append xs ys (Some s) = ap Some (sym (append_assoc xs ys s))
 pub stands-nil : StandsFor [] []
 stands-nil = record { content = λ rest. sym (prepend-nil (content plain rest)); passed = λ rest. refl }
 
--- Two texts stand for what each of them stands for.
+-- If `text` stands for `meant`, and `more` for `also`, their join stands for the join of these.
 pub stands-append : (text meant more also : List ℕ) → StandsFor text meant → StandsFor more also
     → StandsFor (text ++ more) (meant ++ also)
 stands-append text meant more also first second = record {
@@ -88,11 +88,12 @@ below_each : (P : ℕ → Type 0) (n : ℕ) → Below P n → (x : ℕ) → x < 
 below_each P zero h x lt = absurd (omega arith)
 below_each P (suc n) h x lt = go (below_each P n h.1 x) (cases_eq x n)
   where
+    -- The number `x` is `n`, or it is below `n`.
     go : (x < n → P x) → (x ≡ n) ⊎ (x ≡ n → ⊥) → P x
     go below (inl e) = subst P (sym e) h.0
     go below (inr ne) = below (omega arith)
 
--- A hexadecimal digit is one character.
+-- Each of the 16 hexadecimal digits is one character.
 one_digit : Below (λ d. hex d ≡ digit_char d ∷ []) 16
 unfolding digits
 one_digit = (
@@ -164,10 +165,12 @@ digit_passed : (d : ℕ) (rest : List ℕ) → d < 16 → lex in_string (digit_c
 digit_passed d rest small = (plain_byte (digit_char d) (not_above d small).0 (not_above d small).1 (not_above d small).2).passed
     rest
   where
+    -- The character of a digit is one of 0 to 9, or a letter.
     split : (d : ℕ) → (d < 10) ⊎ (10 ≤ d) → d < 16 → (digit_char d ≡ 34 → ⊥) × (digit_char d ≡ 92 → ⊥) × (32 ≤ digit_char d)
     split d (inl low) small = rw (lt-ltb d 10 low) (λ e. omega arith, λ e. omega arith, omega arith)
     split d (inr high) small = rw (le-ltb d 10 high) (λ e. omega arith, λ e. omega arith, omega arith)
 
+    -- The character of a digit is no quotation mark, no backslash and no control.
     not_above : (d : ℕ) → d < 16 → (digit_char d ≡ 34 → ⊥) × (digit_char d ≡ 92 → ⊥) × (32 ≤ digit_char d)
     not_above d small = split d (cases_lt d 10) small
 
@@ -217,9 +220,11 @@ pair_stands high low from to from_low to_low = record {
   passed = λ r. ap (lex in_string) (append_assoc (unit_escape high) (unit_escape low) r) ∙ unit_passed high _ ∙ unit_passed low r;
 }
   where
+    -- A number in this range is the first half of a pair of surrogates.
     is_high : (u : ℕ) → 0xd800 ≤ u → u < 0xdc00 → is_high_surrogate u ≡ true
     is_high u from to = rw (le-leb 0xd800 u from) (lt-ltb u 0xdc00 to)
 
+    -- A number in this range is the second half of a pair of surrogates.
     is_low : (u : ℕ) → 0xdc00 ≤ u → u < 0xe000 → is_low_surrogate u ≡ true
     is_low u from to = rw (le-leb 0xdc00 u from) (lt-ltb u 0xe000 to)
 
@@ -256,7 +261,7 @@ pub record IsWritten (text meant : List ℕ) : Type 0 where
   pub stands : StandsFor text meant
   pub shown : IsShown text
 
--- Two texts are written for what each of them is written for.
+-- If `text` is written for `meant`, and `more` for `also`, their join is written for the join of these.
 written-append : (text meant more also : List ℕ) → IsWritten text meant → IsWritten more also
     → IsWritten (text ++ more) (meant ++ also)
 written-append text meant more also first second = record {
@@ -268,6 +273,7 @@ written-append text meant more also first second = record {
 digit_printable : (d : ℕ) → d < 16 → (32 ≤ digit_char d) × (digit_char d < 127)
 digit_printable d small = split (cases_lt d 10)
   where
+    -- The character of a digit is one of 0 to 9, or a letter.
     split : (d < 10) ⊎ (10 ≤ d) → (32 ≤ digit_char d) × (digit_char d < 127)
     split (inl low) = rw (lt-ltb d 10 low) (omega arith, omega arith)
     split (inr high) = rw (le-ltb d 10 high) (omega arith, omega arith)
@@ -311,6 +317,7 @@ escape_in_json_written c s = elim (cases_lt c 0x10000) [
 ascii_in_json_written : (x : ℕ) → x < 128 → IsWritten (byte_in_json x) (x ∷ [])
 ascii_in_json_written x small = go (cases_eq x 34) (cases_eq x 92) (cases_lt x 32) (cases_eq x 127)
   where
+    -- The byte is a quotation mark, a backslash, a control below 32, the control 127, or any other byte.
     go : (x ≡ 34) ⊎ (x ≡ 34 → ⊥) → (x ≡ 92) ⊎ (x ≡ 92 → ⊥) → (x < 32) ⊎ (32 ≤ x) → (x ≡ 127) ⊎ (x ≡ 127 → ⊥)
         → IsWritten (byte_in_json x) (x ∷ [])
     go (inl e) b c d = rw e (record { stands = quote_byte; shown = printable_shown _ refl })
@@ -392,15 +399,19 @@ module _ (escaping : Escaping) (in_json : IsInJson escaping) where
       → written escaping (first ∷ after) ≡ byte_text escaping first ++ written escaping after
   low_stays first after low = stays first after (none after)
     where
+      -- The byte begins no character of two bytes.
       two : is_within 0xC0 0xDF first ≡ false
       two = below_range 0xC0 0xDF first low
 
+      -- It begins no character of three bytes.
       three : is_within 0xE0 0xEF first ≡ false
       three = below_range 0xE0 0xEF first (omega arith)
 
+      -- It begins no character of four bytes.
       four : is_within 0xF0 0xF7 first ≡ false
       four = below_range 0xF0 0xF7 first (omega arith)
 
+      -- So no acting character begins with it.
       none : (after : List ℕ) → NoneActs first after
       none [] = tt
       none (second ∷ []) = pair_needs first second two
@@ -479,6 +490,7 @@ module _ (escaping : Escaping) (in_json : IsInJson escaping) where
       → 0x80 ≤ b → b ≤ 0xBF → number_of_two a b ≡ c → Splits (a ∷ b ∷ []) (a ∷ b ∷ rest) rest
   two_bytes c a b rest s encoded from to low high is = go (cases_Bool (is_acting_pair a b))
     where
+      -- The character acts and is escaped, or it is written as it is.
       go : (is_acting_pair a b ≡ true) ⊎ (is_acting_pair a b ≡ false) → Splits (a ∷ b ∷ []) (a ∷ b ∷ rest) rest
       go (inl acts) =
           split_escape c _ _ rest s encoded
@@ -496,6 +508,7 @@ module _ (escaping : Escaping) (in_json : IsInJson escaping) where
       → Splits (a ∷ b ∷ d ∷ []) (a ∷ b ∷ d ∷ rest) rest
   three_bytes c a b d rest s encoded from to b_low b_high d_low d_high is = go (cases_Bool (is_acting_triple a b d))
     where
+      -- The character acts and is escaped, or it is written as it is.
       go : (is_acting_triple a b d ≡ true) ⊎ (is_acting_triple a b d ≡ false)
           → Splits (a ∷ b ∷ d ∷ []) (a ∷ b ∷ d ∷ rest) rest
       go (inl acts) =
@@ -518,12 +531,15 @@ module _ (escaping : Escaping) (in_json : IsInJson escaping) where
   four_bytes c a b d e rest s encoded from to b_low b_high d_low d_high e_low e_high is =
       go (cases_Bool (is_acting_quad a b d e))
     where
+      -- A first byte of four begins no acting character of two bytes.
       pair : is_acting_pair a b ≡ false
       pair = pair_needs a b (above_range 0xC0 0xDF a (omega arith))
 
+      -- It begins no acting character of three bytes.
       triple : is_acting_triple a b d ≡ false
       triple = triple_needs a b d (above_range 0xE0 0xEF a (omega arith))
 
+      -- The character acts and is escaped, or it is written as it is.
       go : (is_acting_quad a b d e ≡ true) ⊎ (is_acting_quad a b d e ≡ false)
           → Splits (a ∷ b ∷ d ∷ e ∷ []) (a ∷ b ∷ d ∷ e ∷ rest) rest
       go (inl acts) =
@@ -547,22 +563,28 @@ module _ (escaping : Escaping) (in_json : IsInJson escaping) where
   unfolding encode
   splits_character c rest s = go (cases_lt c 128) (cases_lt c 2048) (cases_lt c 65536)
     where
+      -- A scalar value is below 0x110000.
       large : c < 1114112
       large = elim (scalar_cases c s) [ inl low ↦ omega arith | inr high ↦ high.1 ]
 
+      -- If the character is encoded as `bytes`, they may stand for its encoding.
       from : (bytes : List ℕ) → encode c ≡ bytes → Splits bytes (bytes ++ rest) rest → Splits (encode c) (encode c ++ rest) rest
       from bytes is h = subst (λ b. Splits b (b ++ rest) rest) (sym is) h
 
+      -- From 128 on the encoding has two bytes.
       two : 128 ≤ c → c < 2048 → encode c ≡ (192 + c / 64) ∷ (128 + c % 64) ∷ []
       two a b = rw (le-ltb c 128 a, lt-ltb c 2048 b) refl
 
+      -- From 2048 on it has three bytes.
       three : 2048 ≤ c → c < 65536 → encode c ≡ (224 + c / 4096) ∷ (128 + c / 64 % 64) ∷ (128 + c % 64) ∷ []
       three a b = rw (le-ltb c 128 (omega arith), le-ltb c 2048 a, lt-ltb c 65536 b) refl
 
+      -- From 65536 on it has four bytes.
       four : 65536 ≤ c
           → encode c ≡ (240 + c / 262144) ∷ (128 + c / 4096 % 64) ∷ (128 + c / 64 % 64) ∷ (128 + c % 64) ∷ []
       four a = rw (le-ltb c 128 (omega arith), le-ltb c 2048 (omega arith), le-ltb c 65536 a) refl
 
+      -- The encoding of the character has one, two, three or four bytes.
       go : (c < 128) ⊎ (128 ≤ c) → (c < 2048) ⊎ (2048 ≤ c) → (c < 65536) ⊎ (65536 ≤ c)
           → Splits (encode c) (encode c ++ rest) rest
       go (inl small) b d =

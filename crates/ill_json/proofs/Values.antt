@@ -36,7 +36,7 @@ pub record HasValue (most : ℕ) (text : List ℕ) : Type 0 where
   pub value : Json
   pub reads : Reads most text value
 
--- A text that is read as a value is this value for the reader of documents.
+-- If `text` is read as `value`, and nests no deeper than 128, `document` returns this value.
 pub document_of : (most : ℕ) (text : List ℕ) (value : Json) → most ≤ 128 → Reads most text value
     → document text ≡ Some value
 unfolding lex
@@ -131,7 +131,7 @@ number_reads most n small = record {
 abbrev comma_text : Bool → List ℕ
 comma_text later = cond later (44 ∷ []) []
 
--- The lexer takes a comma for a comma.
+-- The lexer takes the text of a comma, or of none, for its lexeme.
 comma_lexed : (later : Bool) (rest : List ℕ) → lex between (comma_text later ++ rest) ≡ comma_if later ++ lex between rest
 unfolding lex
 comma_lexed true rest = refl
@@ -157,7 +157,7 @@ module _ {A : Type 0} (text : A → List ℕ) (most : ℕ) where
   items_read [] each = no_items
   items_read (v ∷ values) each = item each.0.value (items_read values each.1)
 
-  -- A word ends where the rest of an array stands.
+  -- What follows a value in an array, a comma or a bracket, ends a word.
   items_end : (values : List A) (rest : List ℕ) → ends_word (joined text (44 ∷ []) values ++ 93 ∷ rest) ≡ true
   unfolding joined
   items_end [] rest = refl
@@ -229,7 +229,7 @@ module _ (most : ℕ) where
   members_read [] each = no_members
   members_read (field ∷ fields) each = member field.0 each.0.value.value (members_read fields each.1)
 
-  -- A word ends where the rest of an object stands.
+  -- What follows a value in an object, a comma or a brace, ends a word.
   members_end : (fields : List Field) (rest : List ℕ) → ends_word (joined texts.member (44 ∷ []) fields ++ 125 ∷ rest) ≡ true
   unfolding joined
   members_end [] rest = refl
@@ -316,7 +316,7 @@ module _ (most : ℕ) where
         (one_shown 125 (omega arith) (omega arith)));
   }
 
-  -- The members of fields are those that they are read as.
+  -- If the texts of the fields are read, `members_of` returns the members that they are read as.
   pub are_members : (fields : List Field) (each : Each (FieldReads most) fields) → most ≤ 128
       → members_of fields ≡ Some (members_read fields each)
   unfolding Each

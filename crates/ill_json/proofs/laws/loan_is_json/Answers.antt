@@ -1,4 +1,4 @@
--- Proves the contract of `loan_is_json` (`src/laws.rt`).
+-- Proves the contract of `loan_is_json` (`src/laws.rt`). It is the lemma `loan_is`.
 use Rattle.ill_json.proofs.LineLemmas.{loan_is}
 use Rattle.ill_json.proofs.laws.loan_is_json.Goals as goal
 

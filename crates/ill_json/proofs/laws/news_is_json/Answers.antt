@@ -1,4 +1,4 @@
--- Proves the contract of `news_is_json` (`src/laws.rt`).
+-- Proves the contract of `news_is_json` (`src/laws.rt`). It is the lemma `news_are`.
 use Rattle.ill_json.proofs.NewsLines.{news_are}
 use Rattle.ill_json.proofs.laws.news_is_json.Goals as goal
 

@@ -1,4 +1,4 @@
--- Proves the contract of `no_bad_line_is_json` (`src/laws.rt`).
+-- Proves the clauses of `no_bad_line_is_json` (`src/laws.rt`) by the lemmas of `BadLines`.
 use Rattle.ill_json.proofs.BadLines.{not_a_line, not_lines}
 use Rattle.ill_json.proofs.laws.no_bad_line_is_json.Goals as goal
 

@@ -1,4 +1,4 @@
--- A mail is added to a run.
+-- Lemmas on a mail that is added to a run: if the run admits it, no mail takes a path of another.
 use Rattle.std.proofs.Common.{◌≡◌, ◌⊎◌, inl, inr, ⊎_elim, refl, sym, ◌∙◌, ap, subst, ℕ, zero, suc, true, List, []}
 use Rattle.std.proofs.Common.{◌∷◌, ◌++◌, length, slice_get, Option, Some, IfSome}
 use Rattle.std.proofs.lemmas.Bool.{and_parts, and_from}
@@ -11,7 +11,7 @@ use Rattle.ill_disk.specs.Calls.{DiskState}
 use Rattle.ill_mail_disk.specs.Runs.{AddsMail, MailRunOf, cared_for}
 use Rattle.ill_mail_disk.specs.Runs.{IsSpread, are_spread, is_admitted, is_spread_from, is_spread_from_all, keeps_off, spares}
 
--- An element of a list with one more is of the list, or the one more.
+-- An element of `xs` followed by `y` is one of `xs`, or it is `y` at the last place.
 pub last_or : {X : Type 0} (xs : List X) (y : X) (i : ℕ) (z : X) → slice_get (xs ++ y ∷ []) i ≡ Some z →
     (slice_get xs i ≡ Some z) ⊎ ((i ≡ length xs) × (y ≡ z))
 last_or [] y zero z is = inr (refl, ap (value_or y) is)
@@ -19,7 +19,7 @@ last_or [] y (suc i) z is = absurd (none-some z is)
 last_or (x ∷ xs) y zero z is = inl is
 last_or (x ∷ xs) y (suc i) z is = ⊎_elim (λ l. inl l) (λ r. inr (ap suc r.0, r.1)) (last_or xs y i z is)
 
--- A mail that is spread from all is spread from each.
+-- If `spot` is spread from all `spots`, it is spread from the mail at `i` of them.
 spread_each : (spot : SpotOf) (spots : List (Option SpotOf)) (i : ℕ) (other : SpotOf) →
     is_spread_from_all spot spots ≡ true → slice_get spots i ≡ Some (Some other) → are_spread spot other ≡ true
 spread_each spot [] i other all is = absurd (none-some (Some other) is)
@@ -35,12 +35,12 @@ spread_both one other is =
     let parts = and_parts (spares one other) (spares other one) is in
     and_from (spares other one) (spares one other) parts.1 parts.0
 
--- What the run tells of a mail that is added.
+-- If `x` is admitted, if it is a mail, and `x` is `spot`, then `spot` is admitted.
 told : (asked : KeeperOf) (spots : List (Option SpotOf)) (x : Option SpotOf) (spot : SpotOf) →
     IfSome x (λ s. is_admitted asked spots s ≡ true) → x ≡ Some spot → is_admitted asked spots spot ≡ true
 told asked spots x spot is same = subst (λ (o : Option SpotOf). IfSome o (λ s. is_admitted asked spots s ≡ true)) same is
 
--- With a mail that it admits a run is spread.
+-- If the mails of a run are spread, and it admits `x`, they are spread with `x` after them.
 pub add_spread : (asked : KeeperOf) (spots : List (Option SpotOf)) (x : Option SpotOf) → IsSpread asked spots →
     IfSome x (λ s. is_admitted asked spots s ≡ true) → IsSpread asked (spots ++ x ∷ [])
 add_spread asked spots x spread is = record {
@@ -62,7 +62,7 @@ add_spread asked spots x spread is = record {
       (last_or spots x mail (Some spot) one);
 }
 
--- What a call adds to a run is the mail for which it looked.
+-- If a call appends `spot`, the mail for which it looked, it adds a mail to the run (`AddsMail`).
 module _ {D : Type 0} (state : D → DiskState) where
   pub adds : (run old new : MailRunOf D) (spot_of : ℕ → SpotOf) (spots : List (Option SpotOf)) (spot : Option SpotOf) →
       run ≡ old → spots ≡ run.spots → new.spots ≡ run.spots ++ spot ∷ [] →

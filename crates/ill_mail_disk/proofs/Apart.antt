@@ -1,4 +1,4 @@
--- The paths of a mail differ.
+-- The paths of a mail differ if the tests of them return true.
 use Rattle.std.proofs.Common.{◌≡◌, sym, ◌∙◌, subst, ℕ, true, not, ◌&&◌, List, [], ◌∷◌}
 use Rattle.std.specs.Str.{bytes_eq}
 use Rattle.std.proofs.lemmas.Bool.{true≢false, and_parts, not-true}
@@ -6,13 +6,13 @@ use Rattle.std.proofs.lemmas.Slice.Eq.{bytes_eq-Decides}
 use Rattle.ill_mail_disk.specs.Touches.{IsNoneOf}
 use Rattle.ill_mail_disk.specs.Spots.{SpotOf, are_apart, is_none_of}
 
--- The paths of a mail are apart.
+-- The four paths of a mail differ.
 pub record AreApart (spot : SpotOf) : Type 0 where
   pub claimed : IsNoneOf (spot.waiting ∷ spot.aside ∷ spot.reason ∷ []) spot.claimed
   pub waiting : IsNoneOf (spot.aside ∷ spot.reason ∷ []) spot.waiting
   pub aside : IsNoneOf (spot.reason ∷ []) spot.aside
 
--- A path that is tested is none of these.
+-- If `is_none_of` returns true, `path` is none of `paths`.
 pub none_of : (paths : List (List ℕ)) (path : List ℕ) → is_none_of paths path ≡ true → IsNoneOf paths path
 none_of [] path is = tt
 none_of (other ∷ paths) path is =
@@ -22,7 +22,7 @@ none_of (other ∷ paths) path is =
       none_of paths path parts.1,
     )
 
--- The paths of a mail that is tested are apart.
+-- If `are_apart` returns true, the four paths of `spot` differ.
 pub apart_of : (spot : SpotOf) → are_apart spot ≡ true → AreApart spot
 apart_of spot is =
     let parts = and_parts (is_none_of (spot.waiting ∷ spot.aside ∷ spot.reason ∷ []) spot.claimed
@@ -35,7 +35,7 @@ apart_of spot is =
       aside = none_of (spot.reason ∷ []) spot.aside parts.1;
     }
 
--- Copies of paths that are apart are apart.
+-- If `are_apart` returns true for four paths, it does so for four paths that equal them.
 pub copies_apart : (c w a r c' w' a' r' : List ℕ) (file : ℕ) → c' ≡ c → w' ≡ w → a' ≡ a → r' ≡ r →
     are_apart (record { claimed = c; waiting = w; aside = a; reason = r; file = file }) ≡ true →
     are_apart (record { claimed = c'; waiting = w'; aside = a'; reason = r'; file = file }) ≡ true

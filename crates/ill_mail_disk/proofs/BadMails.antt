@@ -25,7 +25,7 @@ not_so : (b : Bool) → (b ≡ true → ⊥) → b ≡ false
 not_so true not_true = absurd (not_true refl)
 not_so false not_true = refl
 
--- A mail whose file is at none of its paths is gone.
+-- If the file of a mail is at none of its three paths, the place is `Gone`.
 gone_by : (aside waiting claimed : Bool) → aside ≡ false → waiting ≡ false → claimed ≡ false →
     place_by aside waiting claimed ≡ Gone
 gone_by true waiting claimed a w c = absurd (true≢false a)
@@ -33,7 +33,7 @@ gone_by false true claimed a w c = absurd (true≢false w)
 gone_by false false true a w c = absurd (true≢false c)
 gone_by false false false a w c = refl
 
--- No loss of power loses a mail that survives.
+-- If a mail survives a call, no loss of power at a moment of the call loses it.
 pub none_lost : (spot : SpotOf) (old new : DiskState) → Survives spot old new → LosesMail spot old new → ⊥
 none_lost spot old new survives (at_no_path moment after h outlasts at crash none) =
     let missing : (path : List ℕ) → ((found_at path after.names ≡ Some spot.file) → ⊥) →
@@ -67,7 +67,7 @@ flushed_lasts paths old moment after file f touches is flushed crash =
 
 -- ---- moves
 
--- Where a claimed mail comes is its own place, or the one to which it is moved.
+-- If a call was to move a claimed mail to `to`, its place is then `Claimed` or `to`.
 claimed_comes : {A E : Type 0} (to place : Place) (x y : Option Place) (answer : Result A E) → x ≡ Some Claimed →
     y ≡ Some place → ComesAt to x answer y → (place ≡ Claimed) ⊎ (place ≡ to)
 claimed_comes to place x y (Ok done) is_x is_y comes =
@@ -83,7 +83,7 @@ unmoved to Claimed differ = absurd (differ refl)
 unmoved to Aside differ = refl
 unmoved to Gone differ = refl
 
--- A mail that is not claimed stays.
+-- If a call was to move a mail that is not claimed, it stays at its place `place`.
 unclaimed_comes : {A E : Type 0} (to place : Place) (x y : Option Place) (answer : Result A E) → x ≡ Some place →
     (place ≡ Claimed → ⊥) → ComesAt to x answer y → y ≡ Some place
 unclaimed_comes to place x y (Ok done) is differ comes =
@@ -91,13 +91,13 @@ unclaimed_comes to place x y (Ok done) is differ comes =
 unclaimed_comes to place x y (Err fault) is differ comes = ⊎_elim (λ stays. stays ∙ is)
     (λ moves. moves ∙ ap (option_map (moved to)) is ∙ ap Some (unmoved to place differ)) comes
 
--- After a call that is done a claimed mail is where it was moved.
+-- If a call to move a claimed mail to `to` is done, its place is `to`.
 done_comes : {A E : Type 0} (to : Place) (x y : Option Place) (answer : Result A E) (done : A) → answer ≡ Ok done →
     x ≡ Some Claimed → ComesAt to x answer y → y ≡ Some to
 done_comes {A = A} {E = E} to x y answer done is is_x comes =
     subst (λ (r : Result A E). ComesAt to x r y) is comes ∙ ap (option_map (moved to)) is_x
 
--- No move is bad.
+-- If a call moves as `MovesInRun` says, no case of `IsBadMove` holds of it.
 pub no_bad_move : {A E : Type 0} (to : Place) (mail : ℕ) (old new : RunState) (answer : Result A E) →
     MovesInRun to mail old answer new → IsBadMove to mail old answer new → ⊥
 no_bad_move to mail old new answer moves (other_moves other place h differ was lost) =
@@ -117,11 +117,11 @@ none_over_another spot old new gives (over_another file h stands lost) = lost (g
 
 -- ---- a put
 
--- A put that is done has put its bytes.
+-- If `P` holds when `answer` is Ok, and `answer` is Ok, `P` holds.
 done_put : {A E : Type 0} {P : Type 0} (answer : Result A E) (done : A) → answer ≡ Ok done → OnOk answer P → P
 done_put {A = A} {E = E} {P = P} answer done is put = subst (λ (r : Result A E). OnOk r P) is put
 
--- No put is bad.
+-- If a call puts bytes as `PutsWhole` says, no case of `IsBadPut` holds of it.
 pub no_bad_put : {A E : Type 0} (aside path bytes : List ℕ) (old new : DiskState) (answer : Result A E) →
     PutsWhole aside path bytes old answer new → IsBadPut aside path bytes old answer new → ⊥
 no_bad_put aside path bytes old new answer puts (torn moment found h at left not_old not_new) = ⊎_elim not_old not_new

@@ -1,4 +1,4 @@
--- The claimed name of a mail is flushed.
+-- Lemmas on the flush of the claimed names of mails: after it each crash leaves the mails.
 use Rattle.std.proofs.Common.{◌≡◌, ◌⊎◌, inl, inr, ⊎_elim, refl, sym, ◌∙◌, ap, subst, arith, ℕ, zero, suc, ◌<◌, ◌≤◌, Bool, true}
 use Rattle.std.proofs.Common.{false}
 use Rattle.std.proofs.Common.{List, [], ◌∷◌, length, slice_get, Option, Some, None, Result, Ok, Err, OnOk, IsErr}
@@ -41,7 +41,7 @@ flushed_outlasts spot d found names stands gone =
     claimed_not_gone spot names (ap (found_at spot.claimed) from.2
     ∙ found_settled spot.claimed (found_at spot.claimed d.names) from.0 ∙ found) gone
 
--- If the flush is done, no crash loses the mail.
+-- If the file stood at its claimed path, and its flush is done, each crash leaves the mail.
 lasts_if : {E : Type 0} (spot : SpotOf) (looked new : DiskState) (answer : Result (Unit {0}) E) →
     Answers (Changes (after_flush_name spot.claimed)) looked answer new →
     (looked.is_honest ≡ true → found_at spot.claimed looked.now.names ≡ Some spot.file) →
@@ -51,14 +51,14 @@ lasts_if spot looked new (Ok done) flushes found = λ h.
     subst (Outlasts spot) (sym (flushes.done was)) (flushed_outlasts spot looked.now (found was))
 lasts_if spot looked new (Err fault) flushes found = tt
 
--- If a look at a mail fails, nothing is flushed.
+-- If a call only looks at the claimed path, and then fails, it answers as `FlushesClaim` says.
 pub unseen_flushes : {A E F : Type 0} {spot : SpotOf} {old new : DiskState} {look : Result Bool F} {answer : Result A E} →
     IsErr answer → Answers (Tells spot.claimed spot.file) old look new → FlushesClaim spot old answer new
 unseen_flushes {answer = Ok done} is tells = absurd (true≢false (sym is))
 unseen_flushes {spot = spot} {answer = Err fault} is tells =
     record { touches = tells_touches (spot.claimed ∷ []) tells; lasts = tt }
 
--- The claimed name of a mail that was found there is flushed.
+-- If a call finds the mail at its claimed path, and flushes that name, it answers as `FlushesClaim` says.
 pub flushes_claimed : {E F : Type 0} {spot : SpotOf} {old looked new : DiskState} {stands : Bool}
     {answer : Result (Unit {0}) E} → stands ≡ true → Answers {E = F} (Tells spot.claimed spot.file) old (Ok stands) looked →
     Answers (Changes (after_flush_name spot.claimed)) looked answer new → FlushesClaim spot old answer new
@@ -75,17 +75,17 @@ flushes_claimed {spot = spot} {old = old} {looked = looked} {new = new} {answer 
 
 -- ---- the mails of a run
 
--- Each crash leaves the first so many mails.
+-- The disk is honest as before. If it is, each crash leaves the mails below `count`.
 pub record FlushedTo (spots : List (Option SpotOf)) (count : ℕ) (old new : DiskState) : Type 0 where
   pub honest : new.is_honest ≡ old.is_honest
   pub lasts : new.is_honest ≡ true → (mail : ℕ) (spot : SpotOf) → mail < count →
       slice_get spots mail ≡ Some (Some spot) → Outlasts spot new.now
 
--- At first none is flushed.
+-- Before the first flush `FlushedTo` holds of the mails below 0.
 pub none_flushed : (spots : List (Option SpotOf)) (state : DiskState) → FlushedTo spots 0 state state
 none_flushed spots state = record { honest = refl; lasts = λ h mail spot lt. absurd (omega (arith, lt)) }
 
--- A number below the next one is this one, or below it.
+-- If `mail` is below `suc k`, it is `k`, or below `k`.
 below_next : (k mail : ℕ) → mail < suc k → (mail ≡ k) ⊎ (mail < k)
 below_next zero zero lt = inl refl
 below_next zero (suc mail) lt = absurd (omega (arith, lt))
@@ -93,15 +93,16 @@ below_next (suc k) zero lt = inr (omega (arith))
 below_next (suc k) (suc mail) lt =
     ⊎_elim (λ same. inl (ap suc same)) (λ less. inr (omega (arith, less))) (below_next k mail (omega (arith, lt)))
 
--- What a flush of one mail says of honesty.
+-- A flush of the mail that was found, if any, leaves the disk honest as before.
 pub flush_honest : (E : Type 0) (b c : DiskState) (answer : Result (Unit {0}) E) (found : Option (Option SpotOf)) →
     DoesAt (λ spot. FlushesClaim spot b answer c) (DoesNothing b answer c) found → c.is_honest ≡ b.is_honest
 flush_honest E b c answer None does = ap (λ (s : DiskState). s.is_honest) does.same
 flush_honest E b c answer (Some None) does = ap (λ (s : DiskState). s.is_honest) does.same
 flush_honest E b c answer (Some (Some spot)) does = does.touches.honest
 
+-- The mails below `k` are flushed on the disk `b`. The disk `c` is that after the flush of the mail `k`.
 module _ (spots : List (Option SpotOf)) (spread : AreSpread spots) (k : ℕ) (a b c : DiskState) where
-  -- The mails before are still left after the flush of this one.
+  -- If each crash leaves the mails below `k` before the flush of the mail `k`, it leaves them after it.
   before_last : (E : Type 0) (found : Option (Option SpotOf)) → slice_get spots k ≡ found → (value : Unit {0}) →
       FlushedTo spots k a b → DoesAt (λ spot. FlushesClaim {E = E} spot b (Ok value) c) (DoesNothing {E = E} b (Ok value) c) found
       →
@@ -119,7 +120,7 @@ module _ (spots : List (Option SpotOf)) (spread : AreSpread spots) (k : ℕ) (a 
       (removed_spares own spot (spread k mail own spot is found differ)) (does.touches.moments was).last
       (before.lasts was mail spot lt found)
 
-  -- The mail itself is left after its flush.
+  -- After the flush of the mail `k` each crash leaves that mail.
   own_last : (E : Type 0) (found : Option (Option SpotOf)) → slice_get spots k ≡ found → (value : Unit {0}) →
       DoesAt (λ spot. FlushesClaim {E = E} spot b (Ok value) c) (DoesNothing {E = E} b (Ok value) c) found →
       c.is_honest ≡ true → (spot : SpotOf) → slice_get spots k ≡ Some (Some spot) → Outlasts spot c.now
@@ -128,7 +129,7 @@ module _ (spots : List (Option SpotOf)) (spread : AreSpread spots) (k : ℕ) (a 
   own_last E (Some (Some own)) is value does h spot found = subst (λ (s : SpotOf). Outlasts s c.now)
       (ap (λ (o : Option (Option SpotOf)). found_spot o own) (sym is ∙ found)) (does.lasts h)
 
-  -- The mail after those that were flushed is flushed.
+  -- If the mails below `k` were flushed, and then `k`, the mails below `next` are. `next` is at most `k + 1`.
   pub flushed_next : (E : Type 0) (next : ℕ) (value : Unit {0}) (found : Option (Option SpotOf)) →
       slice_get spots k ≡ found → next ≤ suc k → FlushedTo spots k a b →
       DoesAt (λ spot. FlushesClaim {E = E} spot b (Ok value) c) (DoesNothing {E = E} b (Ok value) c) found →
@@ -141,7 +142,7 @@ module _ (spots : List (Option SpotOf)) (spread : AreSpread spots) (k : ℕ) (a 
         (below_next k mail (omega (arith, lt, most)));
   }
 
--- What is found in a list stands below its length.
+-- If there is an element at `k` in `xs`, `k` is below the length of `xs`.
 pub got_below : {A : Type 0} (xs : List A) (k : ℕ) (x : A) → slice_get xs k ≡ Some x → k < length xs
 got_below [] k x is = absurd (none-some x is)
 got_below (y ∷ xs) zero x is = omega (arith)

@@ -1,4 +1,4 @@
--- A claimed mail is given back.
+-- Lemmas on a claimed mail that is given back: it gets a second name, or is renamed. They go call by call.
 use Rattle.std.proofs.Common.{◌≡◌, ◌⊎◌, inl, inr, ⊎_elim, refl, sym, ◌∙◌, ap, subst, ℕ, Bool, true, false, List, [], ◌∷◌, map}
 use Rattle.std.proofs.Common.{Option, Some, None, Result, Ok, Err, option_map}
 use Rattle.std.proofs.lemmas.Bool.{true≢false}
@@ -29,7 +29,7 @@ back_paths spot = spot.claimed ∷ spot.waiting ∷ []
 
 -- ---- places
 
--- A claimed mail whose file waits then is waiting.
+-- Let a file have its claimed name but not the one in the folder. If it gets that, its mail moves to `Waiting`.
 waiting_by : (aside waiting waiting' claimed claimed' : Bool) → waiting ≡ false → claimed ≡ true → waiting' ≡ true →
     place_by aside waiting' claimed' ≡ moved Waiting (place_by aside waiting claimed)
 waiting_by aside waiting false claimed claimed' w c t = absurd (true≢false (sym t))
@@ -38,7 +38,7 @@ waiting_by aside false true false claimed' w c t = absurd (true≢false (sym c))
 waiting_by true false true true claimed' w c t = refl
 waiting_by false false true true claimed' w c t = refl
 
--- A mail whose file waits stays at its place.
+-- If a file has its name in the folder before and after, its mail stays at its place.
 still_by : (aside waiting waiting' claimed claimed' : Bool) → waiting ≡ true → waiting' ≡ true →
     place_by aside waiting' claimed' ≡ place_by aside waiting claimed
 still_by aside waiting false claimed claimed' w t = absurd (true≢false (sym t))
@@ -52,11 +52,11 @@ not_gone_by aside false claimed is gone = true≢false (sym is)
 not_gone_by true true claimed is gone = true≢false (sym (ap is_gone gone))
 not_gone_by false true claimed is gone = true≢false (sym (ap is_gone gone))
 
--- The file of the mail waits, in these names.
+-- In `names` the file of the mail has its name in the folder: it waits.
 abbrev WaitsIn : SpotOf → List Name → Type 0
 WaitsIn spot names = found_at spot.waiting names ≡ Some spot.file
 
--- The path gives the file of the mail.
+-- If `found` is the file of the mail, `is_file` says so.
 is_it : (spot : SpotOf) (found : Option ℕ) → found ≡ Some spot.file → is_file spot.file found ≡ true
 is_it spot found is = ap (is_file spot.file) is ∙ this_file spot.file
 
@@ -77,7 +77,8 @@ waits_still spot old new before after same =
     (is_file spot.file (found_at spot.claimed new)) (is_it spot (found_at spot.waiting old) before)
     (is_it spot (found_at spot.waiting new) after)
 
--- A claimed mail whose file waits then is waiting, if its path aside was not touched.
+-- Let the file of a claimed mail get its name in the folder, and let its path aside stay. Then the mail moves to
+-- `Waiting`.
 waits_then : (spot : SpotOf) (old new : List Name) → found_at spot.claimed old ≡ Some spot.file →
     found_at spot.waiting old ≡ None → WaitsIn spot new → found_at spot.aside new ≡ found_at spot.aside old →
     place_in new spot ≡ moved Waiting (place_in old spot)
@@ -111,13 +112,13 @@ module _ (spot : SpotOf) (apart : AreApart spot) where
   claimed_spared : IsNoneOf (spot.waiting ∷ []) spot.claimed
   claimed_spared = (apart.claimed.0, tt)
 
-  -- What a second name touches.
+  -- A call that gives the file of the mail its second name touches no name but `back_paths`.
   gives_touches : (d e : Disk) → GivesName spot.claimed spot.waiting d e → TouchesOnly (back_paths spot) d e
   gives_touches d e gives = subst (TouchesOnly (back_paths spot) d) (sym gives.done)
       (touch_more (spot.waiting ∷ []) (back_paths spot) (λ p none. none.1) d
       (after_change (with_name spot.waiting gives.file) d) (name_touches spot.waiting gives.file d))
 
-  -- What a call touches that may give a second name.
+  -- A call that asks for the second name, done or not, touches no name but `back_paths`.
   links_fits : {A E : Type 0} (answer : Result A E) (d e : Disk) → Links spot.claimed spot.waiting d answer e →
       TouchesOnly (back_paths spot) d e
   links_fits (Ok done) d e gives = gives_touches d e gives
@@ -131,32 +132,33 @@ module _ (spot : SpotOf) (apart : AreApart spot) where
   links_may (Ok done) d e gives = inr gives
   links_may (Err fault) d e may = may
 
+  -- On the disk `d` the mail is claimed. On `e` its file has got its name in the folder too.
   module _ (d e : Disk) (claimed : found_at spot.claimed d.names ≡ Some spot.file)
       (gives : GivesName spot.claimed spot.waiting d e) where
     -- The file that gets the name in IN is the file of the mail.
     same_file : gives.file ≡ spot.file
     same_file = ap (value_or spot.file) (sym gives.found ∙ claimed)
 
-    -- The file of the mail waits in any names after that.
+    -- If that name is added to any names, the file of the mail waits in them.
     given_waits : (names : List Name) → WaitsIn spot (with_name spot.waiting gives.file names)
     given_waits names = found_with spot.waiting gives.file names ∙ ap Some same_file
 
-    -- The file of the mail waits after that.
+    -- The file of the mail waits on `e`.
     pub waits_now : WaitsIn spot e.names
     waits_now = ap (λ (x : Disk). found_at spot.waiting x.names) gives.done ∙ given_waits d.names
 
-    -- The mail waits after that.
+    -- From `d` to `e` the mail moves to `Waiting`.
     given_place : place_in e.names spot ≡ moved Waiting (place_in d.names spot)
     given_place = waits_then spot d.names e.names claimed gives.free waits_now
         (ap (λ (x : Disk). found_at spot.aside x.names) gives.done
         ∙ put_differs spot.waiting gives.file d.names spot.aside aside_spared)
 
-    -- No crash after that loses the mail.
+    -- If each crash of `d` leaves the mail, each crash of `e` does.
     given_outlasts : Outlasts spot d → Outlasts spot e
     given_outlasts outlasts = subst (Outlasts spot) (sym gives.done)
         (outlasts_change spot (with_name spot.waiting gives.file) d given_waits outlasts)
 
-  -- A claimed mail may get a second name.
+  -- A call that asks for the second name of a claimed mail, done or not, answers as `GivesMailBack` says.
   pub links_give : {A E : Type 0} {old new : DiskState} {answer : Result A E} → HasFileAt spot.claimed spot old →
       Answers (Links spot.claimed spot.waiting) old answer new → GivesMailBack spot old new
   links_give {old = old} {new = new} {answer = answer} claimed links = record {
@@ -173,7 +175,7 @@ module _ (spot : SpotOf) (apart : AreApart spot) where
         (λ gives. given_outlasts old.now new.now (claimed h) gives before) (links_may answer old.now new.now does));
   }
 
-  -- After a second name was given the file of the mail waits.
+  -- If the second name was given, the file of the mail waits.
   pub linked_waits : {A E : Type 0} {old new : DiskState} {done : A} → HasFileAt spot.claimed spot old →
       Answers {E = E} (Links spot.claimed spot.waiting) old (Ok done) new → HasFileAt spot.waiting spot new
   linked_waits {old = old} {new = new} claimed links h =
@@ -192,11 +194,12 @@ module _ (spot : SpotOf) (apart : AreApart spot) where
 
   -- ---- the flush of the name in the folder, and the removal of the claimed one
 
-  -- What a flush of that name touches.
+  -- A flush of the name in the folder touches no name but `back_paths`.
   flush_touches : (d : Disk) → TouchesOnly (back_paths spot) d (after_flush_name spot.waiting d)
   flush_touches d = touch_more (spot.waiting ∷ []) (back_paths spot) (λ p none. none.1) d (after_flush_name spot.waiting d)
       (flush_name_touches spot.waiting d)
 
+  -- On the disk `d` the file of the mail waits.
   module _ (d : Disk) (waits : WaitsIn spot d.names) where
     -- After the flush the file of the mail waits in any names.
     flushed_waits : (names : List Name) → WaitsIn spot (with_found spot.waiting (found_at spot.waiting d.names) names)
@@ -217,7 +220,7 @@ module _ (spot : SpotOf) (apart : AreApart spot) where
     flushed_outlasts : Outlasts spot (after_flush_name spot.waiting d)
     flushed_outlasts names stands = waits_not_gone spot names (flushed_lasts names stands)
 
-  -- The mail stays at its place when its name in the folder is flushed, or is not.
+  -- If the file of the mail waits, a flush of that name, done or not, leaves the mail.
   pub flush_stays : {E : Type 0} {old new : DiskState} {answer : Result (Unit {0}) E} → HasFileAt spot.waiting spot old →
       Answers (Changes (after_flush_name spot.waiting)) old answer new → StaysThere (back_paths spot) spot old new
   flush_stays {old = old} {new = new} {answer = answer} waits flushes = record {
@@ -233,12 +236,12 @@ module _ (spot : SpotOf) (apart : AreApart spot) where
         (flushed_outlasts old.now (waits h)));
   }
 
-  -- The file of the mail waits in each crash of an honest disk.
+  -- On an honest disk the file of the mail waits, now and after each crash.
   abbrev pub WaitsAlways : DiskState → Type 0
   WaitsAlways state = state.is_honest ≡ true →
       WaitsIn spot state.now.names × ((names : List Name) → In state.now.may_stand names → WaitsIn spot names)
 
-  -- After the flush the file of the mail waits in each crash.
+  -- If the file of the mail waits, and that name is flushed, the file waits after each crash.
   pub flush_lasts : {E : Type 0} {old new : DiskState} {done : Unit {0}} → HasFileAt spot.waiting spot old →
       Answers {E = E} (Changes (after_flush_name spot.waiting)) old (Ok done) new → WaitsAlways new
   flush_lasts {old = old} {new = new} waits flushes h =
@@ -268,6 +271,7 @@ module _ (spot : SpotOf) (apart : AreApart spot) where
 
   -- ---- a mail that gets no second name
 
+  -- On the disk `d` the file of the mail has its claimed name.
   module _ (d : Disk) (claimed : found_at spot.claimed d.names ≡ Some spot.file) where
     -- After the rename the file of the mail waits in any names.
     renamed_waits : (names : List Name) →
@@ -279,7 +283,8 @@ module _ (spot : SpotOf) (apart : AreApart spot) where
     renamed_outlasts outlasts = outlasts_change spot
         (with_rename spot.claimed spot.waiting (found_at spot.claimed d.names)) d renamed_waits outlasts
 
-  -- A claimed mail whose name is free in the folder may be renamed.
+  -- Let the name of a claimed mail be free in the folder. Then a rename to it, done or not, answers as `GivesMailBack`
+  -- says.
   pub rename_gives : {A E : Type 0} {old new : DiskState} {answer : Result A E} → HasFileAt spot.claimed spot old →
       (old.is_honest ≡ true → found_at spot.waiting old.now.names ≡ None) →
       Answers (Brings spot.claimed spot.waiting) old answer new → GivesMailBack spot old new
@@ -301,20 +306,20 @@ module _ (spot : SpotOf) (apart : AreApart spot) where
 
 -- ---- steps
 
--- A mail that was moved to a place, and is to be moved there again, stays.
+-- A second move to the folder changes nothing.
 moved_twice : (place : Place) → moved Waiting (moved Waiting place) ≡ moved Waiting place
 moved_twice Waiting = refl
 moved_twice Claimed = refl
 moved_twice Aside = refl
 moved_twice Gone = refl
 
--- Two moves to the folder are one.
+-- If a mail stays or moves to the folder, and then does so again, it has stayed or moved there.
 may_then : (a b c : Place) → MayCome Waiting a b → MayCome Waiting b c → MayCome Waiting a c
 may_then a b c first (inl stays) = subst (λ (p : Place). MayCome Waiting a p) (sym stays) first
 may_then a b c (inl stays) (inr moves) = inr (moves ∙ ap (moved Waiting) stays)
 may_then a b c (inr before) (inr moves) = inr (moves ∙ ap (moved Waiting) before ∙ moved_twice a)
 
--- A mail that stays may be given back later.
+-- A call that leaves the mail at its place answers as `GivesMailBack` says.
 pub stays_gives : {spot : SpotOf} {old new : DiskState} → StaysThere (back_paths spot) spot old new →
     GivesMailBack spot old new
 stays_gives stays = record {
@@ -324,7 +329,7 @@ stays_gives stays = record {
   survives = stays.survives;
 }
 
--- A mail is given back step by step.
+-- If two calls, one after the other, answer as `GivesMailBack` says, both together do.
 pub gives_then : {spot : SpotOf} {a b c : DiskState} → GivesMailBack spot a b → GivesMailBack spot b c →
     GivesMailBack spot a c
 gives_then {spot = spot} {a = a} {b = b} {c = c} first second = record {
@@ -335,7 +340,7 @@ gives_then {spot = spot} {a = a} {b = b} {c = c} first second = record {
   survives = survives_then spot a b c first.touches.honest first.survives second.survives;
 }
 
--- A mail that was found at its claimed path has its file there.
+-- If a look tells that the file stands at its claimed path, it stands there after the look.
 pub told_claimed : {E : Type 0} (spot : SpotOf) {old new : DiskState} {stands : Bool} → stands ≡ true →
     Answers {E = E} (Tells spot.claimed spot.file) old (Ok stands) new → HasFileAt spot.claimed spot new
 told_claimed spot {old = old} is tells h =
@@ -343,7 +348,7 @@ told_claimed spot {old = old} is tells h =
     ap (λ (d : Disk). found_at spot.claimed d.names) (tells.done was).same
     ∙ is_this spot.file (found_at spot.claimed old.now.names) (sym (tells.done was).stands ∙ is)
 
--- What was found at a path stands there.
+-- If a look finds `found` at `path`, that file stands there after the look.
 pub found_stands : {E : Type 0} {path : List ℕ} {old new : DiskState} {found : Option Found} →
     Answers {E = E} (Finds path) old (Ok found) new → new.is_honest ≡ true →
     found_at path new.now.names ≡ option_map (λ f. f.file) found
@@ -351,7 +356,7 @@ found_stands {path = path} {old = old} finds h =
     let was : old.is_honest ≡ true = sym finds.honest ∙ h in
     ap (λ (d : Disk). found_at path d.names) (finds.done was).same ∙ sym (finds.done was).file
 
--- The file of the mail still stands at a path after a look.
+-- If the file of the mail stands at the path `other`, it stands there after a look.
 pub found_still : {E : Type 0} {path : List ℕ} (other : List ℕ) (spot : SpotOf) {old new : DiskState}
     {answer : Result (Option Found) E} → HasFileAt other spot old → Answers (Finds path) old answer new →
     HasFileAt other spot new
@@ -359,7 +364,8 @@ found_still other spot {old = old} has finds h =
     let was : old.is_honest ≡ true = sym finds.honest ∙ h in
     ap (λ (d : Disk). found_at other d.names) (finds.done was).same ∙ has was
 
--- A mail that stays, and then stays again or is left alone, is given back or stays.
+-- Let the mail stay from `a` to `b`, and let `c` be `b`, or the mail stay again. Then `GivesMailBack` holds from `a` to
+-- `c`.
 pub stays_or_same : {spot : SpotOf} {a b c : DiskState} → StaysThere (back_paths spot) spot a b →
     (c ≡ b) ⊎ StaysThere (back_paths spot) spot b c → GivesMailBack spot a c
 stays_or_same {spot = spot} {a = a} first (inl same) =

@@ -1,4 +1,4 @@
--- Bytes are kept in a file, call by call.
+-- Lemmas on the calls that keep bytes in a file: those that leave the file, and those that put the bytes.
 use Rattle.std.proofs.Common.{◌≡◌, ◌⊎◌, inl, inr, ⊎_elim, refl, sym, ◌∙◌, ap, ℕ, ◌+◌, true, List, [], ◌∷◌, ◌++◌}
 use Rattle.std.proofs.Common.{length, arith, Option, Some, None, Result, Ok, Err, OnOk, IsErr, length-append}
 use Rattle.std.specs.Prelude.{codes}
@@ -20,7 +20,7 @@ longer path same =
     let long : length (path ++ codes ".new") ≡ length path + 4 = length-append path (codes ".new") in
     let equal : length (path ++ codes ".new") ≡ length path = ap length same in omega (arith, long, equal)
 
--- The path beside a file is another.
+-- The path beside the file of a keeper is not the path of the file.
 pub beside_differs : (keeper : KeeperOf) → keeper ≡ keeper_at keeper.path → keeper.aside ≡ keeper.path → ⊥
 beside_differs keeper is same = longer keeper.path (sym (ap (λ (k : KeeperOf). k.aside) is) ∙ same)
 
@@ -49,12 +49,13 @@ module _ {keeper : KeeperOf} where
         (found_settled keeper.path (found_at keeper.path old.now.names) old.now.names));
   }
 
+-- The path beside the file is not the path of the file (`differ`).
 module _ {keeper : KeeperOf} (differ : keeper.aside ≡ keeper.path → ⊥) where
-  -- What touches the path beside a file touches the two paths.
+  -- A path that is neither path of the keeper is not the path beside the file.
   aside_fits : (p : List ℕ) → IsNoneOf (kept_paths keeper) p → IsNoneOf (keeper.aside ∷ []) p
   aside_fits p none = (none.0, tt)
 
-  -- What stands beside the file is removed, and the file is left.
+  -- A call that removes what stands beside the file leaves the file.
   pub clear_leaves : {A E : Type 0} {old new : DiskState} {answer : Result A E} →
       Answers (Clears keeper.aside) old answer new → LeavesFile keeper old new
   clear_leaves {old = old} {new = new} clears = record {
@@ -64,7 +65,7 @@ module _ {keeper : KeeperOf} (differ : keeper.aside ≡ keeper.path → ⊥) whe
         (clears.done h).either;
   }
 
-  -- A new file beside the file leaves it, done or not.
+  -- A call that makes a new file beside the file, done or not, leaves the content of the file.
   create_same : {E : Type 0} (bytes : List ℕ) (d e : Disk) (answer : Result (Unit {0}) E) → IsWhole d →
       Creates keeper.aside bytes d answer e → content keeper.path e ≡ content keeper.path d
   create_same bytes d e (Ok done) whole is =
@@ -72,7 +73,7 @@ module _ {keeper : KeeperOf} (differ : keeper.aside ≡ keeper.path → ⊥) whe
   create_same bytes d e (Err fault) whole is = ⊎_elim (λ same. ap (content keeper.path) same)
       (λ some. ap (content keeper.path) some.1 ∙ create_elsewhere keeper.aside keeper.path some.0 d whole differ) is
 
-  -- A new file beside the file leaves it.
+  -- A call that makes a new file beside the file leaves the file.
   pub create_leaves : {E : Type 0} (bytes : List ℕ) {old new : DiskState} {answer : Result (Unit {0}) E} →
       Answers (Creates keeper.aside bytes) old answer new → LeavesFile keeper old new
   create_leaves bytes {old = old} {new = new} {answer = answer} creates = record {
@@ -90,7 +91,8 @@ module _ {keeper : KeeperOf} (differ : keeper.aside ≡ keeper.path → ⊥) whe
         old.now new.now answer (flushes.done h) refl (flush_is_not_read keeper.path keeper.aside old.now);
   }
 
-  -- The new file is renamed over the file, or is not.
+  -- Let a new file of `bytes` be made beside the file, and flushed. Then its rename over the file, done or not, puts
+  -- `bytes`.
   pub rename_puts : {E : Type 0} {bytes : List ℕ} {old made flushed new : DiskState} {one two : Unit {0}}
       {answer : Result (Unit {0}) E} → Answers {E = E} (Creates keeper.aside bytes) old (Ok one) made →
       Answers {E = E} (Changes (after_flush keeper.aside)) made (Ok two) flushed →
@@ -119,7 +121,7 @@ module _ {keeper : KeeperOf} (differ : keeper.aside ≡ keeper.path → ⊥) whe
             (renames.done (is_flushed h)) (inl (second.same (is_made h) ∙ first.same h)) (inr (reads h));
       }
 
--- A file that is left step by step is left.
+-- If two calls, one after the other, leave the file, both together do.
 pub leaves_then : {keeper : KeeperOf} {a b c : DiskState} → LeavesFile keeper a b → LeavesFile keeper b c →
     LeavesFile keeper a c
 leaves_then {keeper = keeper} {a = a} {b = b} {c = c} first second = record {
@@ -127,7 +129,7 @@ leaves_then {keeper = keeper} {a = a} {b = b} {c = c} first second = record {
   same = λ h. second.same (first.touches.honest ∙ h) ∙ first.same h;
 }
 
--- A call that fails while the file is left puts nothing.
+-- If a call fails and leaves the file, it answers as `PutsFile` says.
 pub puts_nothing : {A E : Type 0} {keeper : KeeperOf} {bytes : Option (List ℕ)} {old new : DiskState}
     {answer : Result A E} → IsErr answer → LeavesFile keeper old new → PutsFile keeper bytes old answer new
 puts_nothing {answer = Ok done} is leaves = absurd (true≢false (sym is))
@@ -137,7 +139,7 @@ puts_nothing {answer = Err fault} is leaves = record {
   either = λ h. inl (leaves.same h);
 }
 
--- After the file was left, bytes are put in its place, or are not.
+-- Let the file be left from `a` to `b`. Then a call that puts bytes from `b` to `c` puts them from `a` to `c`.
 pub puts_after : {A E : Type 0} {keeper : KeeperOf} {bytes : Option (List ℕ)} {a b c : DiskState} {answer : Result A E} →
     LeavesFile keeper a b → PutsFile keeper bytes b answer c → PutsFile keeper bytes a answer c
 puts_after {keeper = keeper} {bytes = bytes} {a = a} {b = b} {c = c} first second = record {
@@ -146,12 +148,12 @@ puts_after {keeper = keeper} {bytes = bytes} {a = a} {b = b} {c = c} first secon
   either = λ h. ⊎_elim (λ same. inl (same ∙ first.same h)) (λ new. inr new) (second.either (first.touches.honest ∙ h));
 }
 
--- A read that gives the bytes gives them whatever a last call answers.
+-- If `P` holds, it holds when `answer` is Ok.
 given_on : {A E : Type 0} {P : Type 0} (answer : Result A E) → P → OnOk answer P
 given_on (Ok done) p = p
 given_on (Err fault) p = tt
 
--- After bytes were put in its place, the file is left.
+-- If bytes were put, and then the file is left, they are put, whatever the last call answers.
 pub puts_before : {A B E F : Type 0} {keeper : KeeperOf} {bytes : Option (List ℕ)} {a b c : DiskState} {done : A}
     (answer : Result B F) → PutsFile {E = E} keeper bytes a (Ok done) b → LeavesFile keeper b c →
     PutsFile keeper bytes a answer c
@@ -161,7 +163,7 @@ puts_before {keeper = keeper} {bytes = bytes} {a = a} {b = b} {c = c} answer fir
   either = λ h. inr (second.same (first.touches.honest ∙ h) ∙ first.done h);
 }
 
--- After bytes could not be put in its place, the file is left.
+-- If bytes could not be put, and then the file is left, both calls together answer as `PutsFile` says.
 pub puts_failed : {A B E F : Type 0} {keeper : KeeperOf} {bytes : Option (List ℕ)} {a b c : DiskState} {fault : E}
     {other : F} → PutsFile {A = A} keeper bytes a (Err fault) b → LeavesFile keeper b c →
     PutsFile {A = B} keeper bytes a (Err other) c
@@ -172,7 +174,7 @@ puts_failed {keeper = keeper} {a = a} {b = b} {c = c} first second = record {
       (λ new. inr (second.same (first.touches.honest ∙ h) ∙ new)) (first.either h);
 }
 
--- A file that is cleared is not there.
+-- If the path of the file is cleared, None is put in the place of the file (`PutsFile`).
 pub clear_puts : {A E : Type 0} (keeper : KeeperOf) {old new : DiskState} {answer : Result A E} →
     Answers (Clears keeper.path) old answer new → PutsFile keeper None old answer new
 clear_puts {A = A} {E = E} keeper {old = old} {new = new} {answer = answer} clears = record {
@@ -181,6 +183,7 @@ clear_puts {A = A} {E = E} keeper {old = old} {new = new} {answer = answer} clea
   either = λ h. ⊎_elim (λ same. inl (ap (content keeper.path) same))
       (λ removed. inr (ap (content keeper.path) removed ∙ remove_is_read keeper.path old.now)) (clears.done h).either;
 } where
+  -- If no file stands at the path after a call that is done, a read of it gives nothing.
   cleared_on : (a : Result A E) (d : Disk) → OnOk a (found_at keeper.path d.names ≡ None) →
       OnOk a (content keeper.path d ≡ None)
   cleared_on (Ok done) d gone = ap (bytes_of d.files) gone

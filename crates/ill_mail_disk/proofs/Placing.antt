@@ -7,7 +7,7 @@ use Rattle.ill_mail_disk.specs.Touches.{IsNoneOf, DiffersAt, TouchesOnly, Touche
 use Rattle.ill_mail_disk.specs.MailCalls.{is_file}
 use Rattle.ill_mail_disk.specs.Spots.{SpotOf, place_by, place_in, Outlasts, Survives}
 
--- The place is by what is found at the three paths.
+-- If what is found at the three paths of a mail stays, the place by it stays.
 pub place_at : (spot : SpotOf) (aside aside' waiting waiting' claimed claimed' : Option ℕ) → aside' ≡ aside →
     waiting' ≡ waiting → claimed' ≡ claimed →
     place_by (is_file spot.file aside') (is_file spot.file waiting') (is_file spot.file claimed')
@@ -17,7 +17,7 @@ place_at spot aside aside' waiting waiting' claimed claimed' one two three =
     ∙ ap (λ (o : Option ℕ). place_by (is_file spot.file aside) (is_file spot.file o) (is_file spot.file claimed')) two
     ∙ ap (λ (o : Option ℕ). place_by (is_file spot.file aside) (is_file spot.file waiting) (is_file spot.file o)) three
 
--- No path of the mail is touched.
+-- No path of the mail is one of `paths`.
 pub record IsSpared (paths : List (List ℕ)) (spot : SpotOf) : Type 0 where
   pub claimed : IsNoneOf paths spot.claimed
   pub waiting : IsNoneOf paths spot.waiting

@@ -1,4 +1,4 @@
--- A claimed mail is put aside.
+-- Lemmas on a claimed mail that is put aside, call by call.
 use Rattle.std.proofs.Common.{◌≡◌, inl, inr, ⊎_elim, refl, sym, ◌∙◌, ap, subst, ℕ, Bool, true, false, List, [], ◌∷◌}
 use Rattle.std.proofs.Common.{Some, Result, Ok, Err, IsErr}
 use Rattle.std.proofs.lemmas.Bool.{true≢false, eq-eqb}
@@ -18,7 +18,7 @@ use Rattle.ill_mail_disk.proofs.Removing.{unclaimed_by}
 use Rattle.ill_mail_disk.proofs.Staying.{is_this, stays_spared, stays_tell, stays_then}
 use Rattle.ill_mail_disk.proofs.Steps.{survives_one, survives_then, touches_more, touches_then}
 
--- A file is itself.
+-- `is_file` says that a file is itself.
 pub this_file : (file : ℕ) → is_file file (Some file) ≡ true
 this_file file = eq-eqb file file refl
 
@@ -27,14 +27,14 @@ abbrev pub is_gone : Place → Bool
 is_gone Gone = true
 is_gone place = false
 
--- A mail that waits does not move.
+-- If a file has its name in the folder, its mail is not claimed. So a move to `to` leaves it.
 waiting_by : (to : Place) (aside waiting claimed : Bool) → waiting ≡ true →
     place_by aside waiting claimed ≡ moved to (place_by aside waiting claimed)
 waiting_by to true waiting claimed is = refl
 waiting_by to false true claimed is = refl
 waiting_by to false false claimed is = absurd (true≢false (sym is))
 
--- A claimed mail whose file stands aside then is aside.
+-- Let a file have its claimed name but not the one in the folder. If it then stands aside, its mail moves to `Aside`.
 aside_by : (aside aside' waiting waiting' claimed claimed' : Bool) → waiting ≡ false → claimed ≡ true → aside' ≡ true →
     place_by aside' waiting' claimed' ≡ moved Aside (place_by aside waiting claimed)
 aside_by aside false waiting waiting' claimed claimed' w c a = absurd (true≢false (sym a))
@@ -62,6 +62,7 @@ module _ (spot : SpotOf) (apart : AreApart spot) where
   stays_reason old new touches =
       stays_spared (spot.reason ∷ []) (aside_paths spot) spot old new reason_spared (λ p none. (none.0, tt)) touches
 
+  -- On the disk `d` the file of the mail has its claimed name.
   module _ (d : Disk) (found : found_at spot.claimed d.names ≡ Some spot.file) where
     -- After the rename the file stands aside, in any names.
     stands_aside : (names : List Name) →
@@ -87,7 +88,7 @@ module _ (spot : SpotOf) (apart : AreApart spot) where
         not_gone from.0 (sym (ap (λ (n : List Name). place_in n spot) from.2) ∙ gone))
         (in_append d.may_stand _ names stands)
 
-    -- After the rename a claimed mail is aside.
+    -- If the mail did not wait, it moves to `Aside` by the rename.
     pub aside_place : is_file spot.file (found_at spot.waiting d.names) ≡ false →
         place_in (after_rename spot.claimed spot.aside d).names spot ≡ moved Aside (place_in d.names spot)
     aside_place waits =
@@ -98,7 +99,8 @@ module _ (spot : SpotOf) (apart : AreApart spot) where
         waits (ap (is_file spot.file) found ∙ this_file spot.file)
         (ap (is_file spot.file) (stands_aside d.names) ∙ this_file spot.file)
 
--- Where a mail comes that is renamed, or is not.
+-- Let a rename of its claimed path move a claimed mail to `to`. Then a call that renames, done or not, moves it there
+-- or leaves it.
 brought_comes : {A E : Type 0} (spot : SpotOf) (old new : Disk) (answer : Result A E) (to : Place) (path : List ℕ) →
     found_at spot.claimed old.names ≡ Some spot.file →
     place_in (after_rename spot.claimed path old).names spot ≡ moved to (place_in old.names spot) →
@@ -110,7 +112,7 @@ brought_comes spot old new (Err fault) to path found place brings = ⊎_elim
     (λ same. inl (ap (λ (d : Disk). place_in d.names spot) same))
     (λ moved. inr (ap (λ (d : Disk). place_in d.names spot) moved ∙ place)) brings.either
 
--- If a call fails while the mail stays, it is not put aside.
+-- If a call fails and leaves the mail at its place, it answers as `PutsMailAside` says.
 pub aside_fails : {A E : Type 0} {spot : SpotOf} {old new : DiskState} {answer : Result A E} → IsErr answer →
     StaysThere (aside_paths spot) spot old new → PutsMailAside spot old answer new
 aside_fails {answer = Ok done} is stays = absurd (true≢false (sym is))
@@ -120,7 +122,7 @@ aside_fails {answer = Err fault} is stays = record {
   survives = stays.survives;
 }
 
--- A mail that is not found at its claimed path is not put aside.
+-- If the file is not found at its claimed path, a call that does no more answers as `PutsMailAside` says.
 pub aside_unclaimed : {A E F : Type 0} {spot : SpotOf} {old new : DiskState} {stands : Bool} {value : A} →
     stands ≡ false → Answers {E = E} (Tells spot.claimed spot.file) old (Ok stands) new →
     PutsMailAside {E = F} spot old (Ok value) new
@@ -133,7 +135,7 @@ aside_unclaimed {spot = spot} {old = old} is tells =
       survives = stays.survives;
     }
 
--- A mail that waits already is not put aside.
+-- If the file is found in the folder, a call that does no more answers as `PutsMailAside` says.
 pub aside_waits : {A E F : Type 0} {spot : SpotOf} {old looked new : DiskState} {look : Result Bool E} {stands : Bool}
     {value : A} → stands ≡ true → Answers (Tells spot.claimed spot.file) old look looked →
     Answers {E = E} (Tells spot.waiting spot.file) looked (Ok stands) new →
@@ -159,10 +161,12 @@ module _ {A E F : Type 0} {spot : SpotOf} {old looked seen written new : DiskSta
     (second : Answers {E = E} (Tells spot.waiting spot.file) looked (Ok waits) seen)
     (writes : Touches (spot.reason ∷ []) seen written)
     (brings : Answers (Brings spot.claimed spot.aside) written answer new) where
+  -- The mail stays at its place until its reason is written.
   so_far : StaysThere (aside_paths spot) spot old written
   so_far = stays_then (stays_tell (aside_paths spot) spot first)
       (stays_then (stays_tell (aside_paths spot) spot second) (stays_reason spot apart seen written writes))
 
+  -- The disk is still honest then.
   was_honest : old.is_honest ≡ true → written.is_honest ≡ true
   was_honest h = so_far.touches.honest ∙ h
 
@@ -181,6 +185,7 @@ module _ {A E F : Type 0} {spot : SpotOf} {old looked seen written new : DiskSta
       ∙ ap (λ (d : Disk). found_at spot.waiting d.names) (second.done (first.honest ∙ h)).same)
       ∙ sym (second.done (first.honest ∙ h)).stands ∙ not_so
 
+  -- The rename, done or not, puts the mail aside as `PutsMailAside` says.
   pub aside_done : PutsMailAside spot old answer new
   aside_done = record {
     touches = touches_then (aside_paths spot) old written new so_far.touches

@@ -1,4 +1,4 @@
--- A claimed mail is removed, or stays.
+-- Lemmas on `remove_mail`, call by call: a claimed mail is removed, or stays.
 use Rattle.std.proofs.Common.{◌≡◌, inl, inr, ⊎_elim, refl, sym, ◌∙◌, ap, subst, ℕ, Bool, true, false, List, [], ◌∷◌}
 use Rattle.std.proofs.Common.{Result, Ok, Err, IsErr}
 use Rattle.std.proofs.lemmas.Bool.{true≢false}
@@ -20,20 +20,20 @@ pub stays_kept : {paths : List (List ℕ)} {spot : SpotOf} {a b : DiskState} →
 stays_kept stays h kept =
     ⊎_elim (λ gone. inl (stays.place h ∙ gone)) (λ outlasts. inr (stays.survives h outlasts).last) kept
 
--- A mail that waits does not move.
+-- If a file has its name in the folder, its mail is not claimed, and a removal leaves it.
 waits_by : (aside waiting claimed : Bool) → waiting ≡ true →
     place_by aside waiting claimed ≡ moved Gone (place_by aside waiting claimed)
 waits_by true waiting claimed is = refl
 waits_by false true claimed is = refl
 waits_by false false claimed is = absurd (true≢false (sym is))
 
--- A mail that stands aside does not move.
+-- If a file stands aside, its mail is not claimed, and a removal leaves it.
 aside_by : (aside waiting claimed : Bool) → aside ≡ true →
     place_by aside waiting claimed ≡ moved Gone (place_by aside waiting claimed)
 aside_by true waiting claimed is = refl
 aside_by false waiting claimed is = absurd (true≢false (sym is))
 
--- A mail that neither waits nor stands aside is gone without its claimed name.
+-- If a file stands neither aside nor in the folder, a removal brings its mail to `Gone`.
 alone_by : (aside waiting claimed : Bool) → aside ≡ false → waiting ≡ false →
     moved Gone (place_by aside waiting claimed) ≡ Gone
 alone_by true waiting claimed a w = absurd (true≢false a)
@@ -42,7 +42,7 @@ alone_by false false true a w = refl
 alone_by false false false a w = refl
 
 module _ {A E : Type 0} {spot : SpotOf} where
-  -- If a look at a mail fails, the mail stays.
+  -- If a call fails and leaves the mail at its place, it answers as `RemovesMail` says.
   pub unseen_stays : {old new : DiskState} {answer : Result A E} → IsErr answer →
       StaysThere (spot.claimed ∷ []) spot old new → RemovesMail spot old answer new
   unseen_stays {answer = Ok done} is stays = absurd (true≢false (sym is))
@@ -52,7 +52,7 @@ module _ {A E : Type 0} {spot : SpotOf} where
     kept = stays_kept stays;
   }
 
-  -- A mail stays after looks if it is one that does not move.
+  -- If a call is done and leaves a mail that no removal moves, it answers as `RemovesMail` says.
   stays_done : {old new : DiskState} {value : A} → StaysThere (spot.claimed ∷ []) spot old new →
       (old.is_honest ≡ true → place_in old.now.names spot ≡ moved Gone (place_in old.now.names spot)) →
       RemovesMail {E = E} spot old (Ok value) new
@@ -62,7 +62,7 @@ module _ {A E : Type 0} {spot : SpotOf} where
     kept = stays_kept stays;
   }
 
--- A mail that is not found at its claimed path stays.
+-- If the file is not found at its claimed path, a call that does no more answers as `RemovesMail` says.
 pub unclaimed_stays : {A E F : Type 0} {spot : SpotOf} {old new : DiskState} {stands : Bool} {value : A} →
     stands ≡ false → Answers {E = E} (Tells spot.claimed spot.file) old (Ok stands) new →
     RemovesMail {E = F} spot old (Ok value) new
@@ -71,7 +71,7 @@ unclaimed_stays {spot = spot} {old = old} is tells = stays_done (stays_tell (spo
     (is_file spot.file (found_at spot.waiting old.now.names)) (is_file spot.file (found_at spot.claimed old.now.names))
     (sym (tells.done h).stands ∙ is))
 
--- A mail that was found to wait stays.
+-- Let the mail stay, and its file be found in the folder. A call that does no more answers as `RemovesMail` says.
 pub waiting_stays : {A E F : Type 0} {spot : SpotOf} {old looked new : DiskState} {stands : Bool} {value : A} →
     stands ≡ true → StaysThere (spot.claimed ∷ []) spot old looked →
     Answers {E = E} (Tells spot.waiting spot.file) looked (Ok stands) new → RemovesMail {E = F} spot old (Ok value) new
@@ -82,7 +82,7 @@ waiting_stays {spot = spot} {old = old} {looked = looked} is stays tells =
     (is_file spot.file (found_at spot.waiting looked.now.names)) (is_file spot.file (found_at spot.claimed looked.now.names))
     (sym (tells.done (stays.touches.honest ∙ h)).stands ∙ is)))
 
--- A mail that was found aside stays.
+-- Let the mail stay, and its file be found aside. A call that does no more answers as `RemovesMail` says.
 pub aside_stays : {A E F : Type 0} {spot : SpotOf} {old looked new : DiskState} {stands : Bool} {value : A} →
     stands ≡ true → StaysThere (spot.claimed ∷ []) spot old looked →
     Answers {E = E} (Tells spot.aside spot.file) looked (Ok stands) new → RemovesMail {E = F} spot old (Ok value) new
@@ -93,7 +93,7 @@ aside_stays {spot = spot} {old = old} {looked = looked} is stays tells =
     (is_file spot.file (found_at spot.waiting looked.now.names)) (is_file spot.file (found_at spot.claimed looked.now.names))
     (sym (tells.done (stays.touches.honest ∙ h)).stands ∙ is)))
 
--- A mail that neither waits nor stands aside is removed.
+-- Let the file be found neither in the folder nor aside. A call that clears its claimed path removes the mail.
 pub removes_claimed : {A E F G : Type 0} {spot : SpotOf} {old first second looked new : DiskState} {waits aside : Bool}
     {answer : Result A E} → AreApart spot → waits ≡ false → aside ≡ false →
     StaysThere (spot.claimed ∷ []) spot old first →

@@ -1,4 +1,4 @@
--- A claimed mail is removed.
+-- Lemmas on the place of a mail whose claimed name is removed.
 use Rattle.std.proofs.Common.{◌≡◌, ◌⊎◌, inl, inr, ⊎_elim, refl, sym, ◌∙◌, ap, Bool, true, false, List, [], ◌∷◌}
 use Rattle.std.proofs.Common.{None, Result, Ok, Err}
 use Rattle.std.proofs.lemmas.Bool.{true≢false}
@@ -9,14 +9,14 @@ use Rattle.ill_mail_disk.specs.Spots.{SpotOf, Place, Gone, place_by, place_in, m
 use Rattle.ill_mail_disk.proofs.Apart.{AreApart}
 use Rattle.ill_mail_disk.proofs.Placing.{place_at}
 
--- Without its claimed name a mail is gone, if it was claimed.
+-- If a file has lost its claimed name, its mail has moved to `Gone`: only a claimed mail moves.
 gone_by : (aside waiting claimed : Bool) → place_by aside waiting false ≡ moved Gone (place_by aside waiting claimed)
 gone_by true waiting claimed = refl
 gone_by false true claimed = refl
 gone_by false false true = refl
 gone_by false false false = refl
 
--- A mail that is not claimed does not move.
+-- If a file has not its claimed name, its mail is not claimed, and a move to `to` leaves it.
 pub unclaimed_by : (to : Place) (aside waiting claimed : Bool) → claimed ≡ false →
     place_by aside waiting claimed ≡ moved to (place_by aside waiting claimed)
 unclaimed_by to true waiting claimed is = refl
@@ -24,7 +24,7 @@ unclaimed_by to false true claimed is = refl
 unclaimed_by to false false false is = refl
 unclaimed_by to false false true is = absurd (true≢false is)
 
--- After its claimed name is gone, and no other, a mail is gone if it was claimed.
+-- If the claimed name of a mail is gone, and no other has changed, the mail has moved to `Gone`.
 pub gone_place : (spot : SpotOf) (old new : List Name) → AreApart spot → DiffersAt (spot.claimed ∷ []) old new →
     found_at spot.claimed new ≡ None → place_in new spot ≡ moved Gone (place_in old spot)
 gone_place spot old new apart differs gone =
@@ -35,7 +35,7 @@ gone_place spot old new apart differs gone =
     ∙ gone_by (is_file spot.file (found_at spot.aside old)) (is_file spot.file (found_at spot.waiting old))
     (is_file spot.file (found_at spot.claimed old))
 
--- Where a mail comes if its claimed path is cleared, or is not.
+-- If a call clears the claimed path of a mail, done or not, the mail moves to `Gone`. If the call failed, it may stay.
 pub cleared_comes : {A E : Type 0} (spot : SpotOf) (old new : Disk) (answer : Result A E) → AreApart spot →
     DiffersAt (spot.claimed ∷ []) old.names new.names → Clears spot.claimed old answer new →
     ((new ≡ old) ⊎ (found_at spot.claimed new.names ≡ None)) →
@@ -46,6 +46,6 @@ cleared_comes spot old new (Err fault) apart differs clears either = ⊎_elim
     (λ same. inl (ap (λ (d : Disk). place_in d.names spot) same))
     (λ gone. inr (gone_place spot old.names new.names apart differs gone)) either
 
--- The state after a call that changed nothing.
+-- If a call changed nothing, the mail is at the same place.
 pub same_place : {d e : Disk} (spot : SpotOf) → e ≡ d → place_in e.names spot ≡ place_in d.names spot
 same_place spot same = ap (λ (d : Disk). place_in d.names spot) same

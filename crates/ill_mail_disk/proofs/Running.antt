@@ -1,4 +1,4 @@
--- The calls of a run, by the mail of which they take care.
+-- Lemmas on the calls of a run: each moves its own mail alone, and each other mail survives it.
 use Rattle.std.proofs.Common.{◌≡◌, ◌⊎◌, inl, inr, ⊎_elim, refl, sym, ◌∙◌, ap, subst, ℕ, zero, suc, ◌==◌, ◌<◌, true, false, not}
 use Rattle.std.proofs.Common.{◌&&◌}
 use Rattle.std.proofs.Common.{List, [], ◌∷◌, length, map, slice_get, Option, Some, None, option_map, Result, Ok, Err, OnOk, IsErr}
@@ -25,11 +25,11 @@ use Rattle.ill_mail_disk.proofs.Steps.{survives_none}
 
 -- ---- paths that differ
 
--- No path spares each mail.
+-- Each mail is spared if no path is touched.
 spared_by_none : (spot : SpotOf) → IsSpared [] spot
 spared_by_none spot = record { claimed = tt; waiting = tt; aside = tt }
 
--- A path that misses a mail spares it too.
+-- If `path` is none of a mail, and `paths` spare it, `path` and `paths` spare it.
 spared_by : (path : List ℕ) (paths : List (List ℕ)) (spot : SpotOf) → misses path spot ≡ true → IsSpared paths spot →
     IsSpared (path ∷ paths) spot
 spared_by path paths spot is rest =
@@ -39,14 +39,14 @@ spared_by path paths spot is rest =
       aside = (λ same. none.1.1.0 (sym same), rest.aside);
     }
 
--- The parts of a mail that spares another.
+-- If `spot` spares `other`, each path that `spot` leaves or takes misses `other`.
 spares_parts : (spot other : SpotOf) → spares spot other ≡ true →
     (misses spot.reason other ≡ true) × (misses spot.claimed other ≡ true) × (misses spot.aside other ≡ true)
 spares_parts spot other is =
     let first = and_parts (misses spot.reason other && misses spot.claimed other) (misses spot.aside other) is in
     let second = and_parts (misses spot.reason other) (misses spot.claimed other) first.0 in (second.0, second.1, first.1)
 
--- The parts of a mail that stays off the file of the messages that ask.
+-- If the mail stays off the messages that ask, both paths of the keeper miss it. Its reason is elsewhere too.
 off_parts : (keeper : KeeperOf) (spot : SpotOf) → keeps_off keeper spot ≡ true →
     (misses keeper.path spot ≡ true) × (misses keeper.aside spot ≡ true) × (bytes_eq spot.reason keeper.path ≡ false)
 off_parts keeper spot is =
@@ -54,17 +54,17 @@ off_parts keeper spot is =
     let second = and_parts (misses keeper.path spot) (misses keeper.aside spot) first.0 in
     (second.0, second.1, not-true (bytes_eq spot.reason keeper.path) first.1)
 
--- Paths that were tested differ.
+-- If `bytes_eq` says that two paths differ, they differ.
 differ_by : (p q : List ℕ) → bytes_eq p q ≡ false → p ≡ q → ⊥
 differ_by p q is same = true≢false (sym ((bytes_eq-Decides p q).1 same) ∙ is)
 
--- A removed mail spares another.
+-- If two mails are spread, the path that a removal of `spot` touches spares `other`.
 pub removed_spares : (spot other : SpotOf) → are_spread spot other ≡ true → IsSpared (spot.claimed ∷ []) other
 removed_spares spot other is =
     let parts = spares_parts spot other (and_parts (spares spot other) (spares other spot) is).0 in
     spared_by spot.claimed [] other parts.1 (spared_by_none other)
 
--- A mail that is put aside spares another.
+-- If two mails are spread, the paths that are touched when `spot` is put aside spare `other`.
 aside_spares : (spot other : SpotOf) → are_spread spot other ≡ true → IsSpared (aside_paths spot) other
 aside_spares spot other is =
     let parts = spares_parts spot other (and_parts (spares spot other) (spares other spot) is).0 in
@@ -72,7 +72,7 @@ aside_spares spot other is =
     (spared_by spot.claimed (spot.aside ∷ []) other parts.1
     (spared_by spot.aside [] other parts.2 (spared_by_none other)))
 
--- A mail that is given back spares another that has come under another name.
+-- Let two mails be spread and have two names. Then the paths touched when `spot` is given back spare `other`.
 back_spares : (spot other : SpotOf) → are_spread spot other ≡ true → bytes_eq spot.waiting other.waiting ≡ false →
     IsSpared (back_paths spot) other
 back_spares spot other is name =
@@ -87,7 +87,7 @@ back_spares spot other is name =
       aside = (aside.1.0, tt);
     })
 
--- The file of the messages that ask spares a mail.
+-- If a mail stays off the messages that ask, the paths of their keeper spare it.
 kept_spares : (keeper : KeeperOf) (spot : SpotOf) → keeps_off keeper spot ≡ true → IsSpared (kept_paths keeper) spot
 kept_spares keeper spot is =
     let parts = off_parts keeper spot is in
@@ -104,14 +104,14 @@ kept_bytes old new file kept made =
     let now = kept file _ is in
     ap (option_map (λ (f : File). f.bytes)) now.1 ∙ ap Some now.2.bytes ∙ sym (ap (option_map (λ (f : File). f.bytes)) is)
 
--- A read of a path gives on a whole disk what it gave, if the path is not touched.
+-- If all files are kept, a read of the file that was found gives what it gave.
 found_bytes : (path : List ℕ) (d : Disk) (files : List File) (found : Option ℕ) →
     ((file : ℕ) → found ≡ Some file → file < length d.files) → KeepsFiles d.files files →
     bytes_of files found ≡ bytes_of d.files found
 found_bytes path d files None made kept = refl
 found_bytes path d files (Some file) made kept = kept_bytes d.files files file kept (made file refl)
 
--- A read of a path gives what it gave, if the path is not touched.
+-- If a call does not touch `path`, a read of it gives on an honest disk what it gave.
 pub content_stays : (paths : List (List ℕ)) (path : List ℕ) (old new : DiskState) → IsNoneOf paths path →
     Touches paths old new → old.is_honest ≡ true → content path new.now ≡ content path old.now
 content_stays paths path old new none touches h =
@@ -130,7 +130,7 @@ state_at asked spots state = record {
   is_honest = state.is_honest;
 }
 
--- A mail that stays at its place in other names stays there in the list.
+-- If the mail that was found has one place in `old` and `new`, the places found are equal.
 same_at : (old new : List Name) (found : Option (Option SpotOf)) →
     ((spot : SpotOf) → found ≡ Some (Some spot) → place_in new spot ≡ place_in old spot) →
     option_map (place_of new) found ≡ option_map (place_of old) found
@@ -138,13 +138,14 @@ same_at old new None stays = refl
 same_at old new (Some None) stays = refl
 same_at old new (Some (Some spot)) stays = ap Some (stays spot refl)
 
--- The place in the list is that of the mail there.
+-- If `spot` is at `mail` in the list of mails, its place is at `mail` in the list of places.
 place_there : (names : List Name) (spots : List (Option SpotOf)) (mail : ℕ) (spot : SpotOf) →
     slice_get spots mail ≡ Some (Some spot) → slice_get (map (place_of names) spots) mail ≡ Some (place_in names spot)
 place_there names spots mail spot is =
     slice_get-map (place_of names) spots mail ∙ ap (option_map (place_of names)) is
 
--- The mail comes to a place in the list.
+-- Let the mail come from `before` to `after`, and let these be the places `x` and `y` in the lists. Then `ComesAt`
+-- holds of them.
 comes_there : {A E : Type 0} (to : Place) (before after : Place) (x y : Option Place) (answer : Result A E) →
     x ≡ Some before → y ≡ Some after → Comes to before answer after → ComesAt to x answer y
 comes_there to before after x y (Ok done) is_x is_y comes =
@@ -153,7 +154,8 @@ comes_there to before after x y (Err fault) is_x is_y comes = ⊎_elim
     (λ stays. inl (is_y ∙ ap Some stays ∙ sym is_x))
     (λ moves. inr (is_y ∙ ap Some moves ∙ sym (ap (option_map (moved to)) is_x))) comes
 
--- The mail may come to a place in the list.
+-- Let the mail come from `before` to `after`, or stay. If these are the places `x` and `y` in the lists, `MayComeAt`
+-- holds of them.
 may_come_there : (to : Place) (before after : Place) (x y : Option Place) → x ≡ Some before → y ≡ Some after →
     MayCome to before after → MayComeAt to x y
 may_come_there to before after x y is_x is_y may = ⊎_elim
@@ -173,7 +175,7 @@ unmoved to names None none = refl
 unmoved to names (Some None) none = refl
 unmoved to names (Some (Some spot)) none = absurd (none spot refl)
 
--- Places are equal in a list, if they are at each mail.
+-- If each mail has one place in `old` and `new`, the lists of places are equal.
 same_map : (old new : List Name) (spots : List (Option SpotOf)) →
     ((mail : ℕ) (spot : SpotOf) → slice_get spots mail ≡ Some (Some spot) → place_in new spot ≡ place_in old spot) →
     map (place_of new) spots ≡ map (place_of old) spots
@@ -184,7 +186,7 @@ same_map old new (Some spot ∷ spots) stays =
     ap (λ (p : Place). p ∷ map (place_of new) spots) (stays zero spot refl)
     ∙ ap (λ (l : List Place). place_in old spot ∷ l) (same_map old new spots (λ mail. stays (suc mail)))
 
--- What was put is kept.
+-- Let a file have `put`, or what it had, and let `put` have the messages `bytes`. Then `KeepsAsked` holds of a read.
 kept_as : {A E : Type 0} (bytes : List ℕ) (put : Option (List ℕ)) (answer : Result A E) → bytes_in put ≡ bytes →
     (before after : Option (List ℕ)) → OnOk answer (after ≡ put) → (after ≡ before) ⊎ (after ≡ put) →
     KeepsAsked bytes (bytes_in before) answer (bytes_in after)
@@ -192,27 +194,28 @@ kept_as bytes put (Ok done) is before after on either = ap bytes_in on ∙ is
 kept_as bytes put (Err fault) is before after on either = ⊎_elim
     (λ same. inl (ap bytes_in same)) (λ new. inr (ap bytes_in new ∙ is)) either
 
--- A mail does not move if the call fails.
+-- If a call fails and the mail is at the same place, `ComesAt` holds.
 fails_at : {A E : Type 0} (to : Place) (before after : Option Place) (answer : Result A E) → IsErr answer → after ≡ before →
     ComesAt to before answer after
 fails_at to before after (Ok done) is same = absurd (true≢false (sym is))
 fails_at to before after (Err fault) is same = inl same
 
--- A mail is kept where nothing is done.
+-- If nothing is done, a mail that was kept is kept.
 same_kept : (spot : SpotOf) {a b : DiskState} → b ≡ a → StaysKept spot a b
 same_kept spot {a = a} same = subst (λ (s : DiskState). StaysKept spot a s) (sym same) (λ h kept. kept)
 
--- A mail survives where nothing is done.
+-- If nothing is done, each mail survives.
 pub same_survives : (spot : SpotOf) {a b : DiskState} → b ≡ a → Survives spot a b
 same_survives spot {a = a} same = subst (λ (s : DiskState). Survives spot a s) (sym same) (survives_none spot a)
 
+-- A call of a run leads its disk from `a` to `b`. The mails of the run are spread.
 module _ (asked : KeeperOf) (spots : List (Option SpotOf)) (spread : IsSpread asked spots) (a b : DiskState) where
-  -- Paths spare each other mail.
+  -- Each mail of the numbers `which` has no path among `paths`.
   abbrev SparesOthers : (ℕ → Type 0) → List (List ℕ) → Type 0
   SparesOthers which paths =
       (other : ℕ) (spot : SpotOf) → which other → slice_get spots other ≡ Some (Some spot) → IsSpared paths spot
 
-  -- Each mail that is spared stays at its place in the list.
+  -- Each mail that is spared by the paths that a call touches has the same place in both lists.
   spared_stay : (which : ℕ → Type 0) (paths : List (List ℕ)) → SparesOthers which paths → Touches paths a b →
       a.is_honest ≡ true → (other : ℕ) → which other →
       slice_get (state_at asked spots b).places other ≡ slice_get (state_at asked spots a).places other
@@ -222,7 +225,7 @@ module _ (asked : KeeperOf) (spots : List (Option SpotOf)) (spread : IsSpread as
       (λ spot is. place_stays paths spot a.now.names b.now.names (spared other spot ok is) (touches.moments h).last.now)
       ∙ sym (slice_get-map (place_of a.now.names) spots other)
 
-  -- All but the mail `mail` stays.
+  -- Let a call touch only paths that spare each mail but `mail`, and the messages that ask. Then all but `mail` stays.
   else_stays : (mail : ℕ) (paths : List (List ℕ)) → SparesOthers (λ other. other ≡ mail → ⊥) paths →
       IsNoneOf paths asked.path → Touches paths a b → a.is_honest ≡ true →
       IsElseSame mail (state_at asked spots a) (state_at asked spots b)
@@ -231,7 +234,7 @@ module _ (asked : KeeperOf) (spots : List (Option SpotOf)) (spread : IsSpread as
     asked = ap bytes_in (content_stays paths asked.path a b off touches h);
   }
 
-  -- Where nothing is done, all stays.
+  -- If the run takes no care of `mail`, a call that is done and does nothing answers as `MovesInRun` says.
   pub nothing_moves : {A E : Type 0} (to : Place) (mail : ℕ) (answer : Result A E) (value : A) → answer ≡ Ok value →
       ((spot : SpotOf) → slice_get spots mail ≡ Some (Some spot) → ⊥) → b ≡ a →
       MovesInRun to mail (state_at asked spots a) answer (state_at asked spots b)
@@ -247,7 +250,7 @@ module _ (asked : KeeperOf) (spots : List (Option SpotOf)) (spread : IsSpread as
     honest = ap (λ (s : DiskState). s.is_honest) same;
   }
 
-  -- A call that fails before it does anything moves nothing.
+  -- If a call fails before it does anything, it answers as `MovesInRun` says.
   pub fails_to_move : {A E : Type 0} (to : Place) (mail : ℕ) (answer : Result A E) → IsErr answer → b ≡ a →
       MovesInRun to mail (state_at asked spots a) answer (state_at asked spots b)
   fails_to_move to mail answer is same = record {
@@ -259,7 +262,7 @@ module _ (asked : KeeperOf) (spots : List (Option SpotOf)) (spread : IsSpread as
     honest = ap (λ (s : DiskState). s.is_honest) same;
   }
 
-  -- A mail moves, and all else stays.
+  -- If a call moves `mail` to `to`, and touches only paths that spare all else, it answers as `MovesInRun` says.
   mail_moves : {A E : Type 0} (to : Place) (mail : ℕ) (spot : SpotOf) (paths : List (List ℕ)) (answer : Result A E) →
       slice_get spots mail ≡ Some (Some spot) → SparesOthers (λ other. other ≡ mail → ⊥) paths →
       IsNoneOf paths asked.path → Touches paths a b →
@@ -273,13 +276,13 @@ module _ (asked : KeeperOf) (spots : List (Option SpotOf)) (spread : IsSpread as
     honest = touches.honest;
   }
 
-  -- Each mail that is spared survives.
+  -- Each mail that is spared by the paths that a call touches survives the call.
   spared_survive : (which : ℕ → Type 0) (paths : List (List ℕ)) → SparesOthers which paths → Touches paths a b →
       (other : ℕ) (spot : SpotOf) → which other → slice_get spots other ≡ Some (Some spot) → Survives spot a b
   spared_survive which paths spared touches other spot ok is =
       survives_touch paths spot a b (spared other spot ok is) touches
 
-  -- Each mail survives, if one does and the others are spared.
+  -- If the mail `mail` survives a call, and the touched paths spare the others, each mail survives.
   all_survive : (mail : ℕ) (own : SpotOf) (paths : List (List ℕ)) → slice_get spots mail ≡ Some (Some own) →
       SparesOthers (λ other. other ≡ mail → ⊥) paths → Touches paths a b → Survives own a b →
       (other : ℕ) (spot : SpotOf) → slice_get spots other ≡ Some (Some spot) → Survives spot a b
@@ -290,14 +293,14 @@ module _ (asked : KeeperOf) (spots : List (Option SpotOf)) (spread : IsSpread as
       (λ differ. spared_survive (λ o. o ≡ mail → ⊥) paths spared touches other spot differ at)
       (cases_eq other mail)
 
-  -- A mail of the run spares the others.
+  -- Let the `paths` of a mail spare each mail from which it is spread. Then those of the mail `mail` spare all others.
   spread_spares : (paths : SpotOf → List (List ℕ)) →
       ((spot other : SpotOf) → are_spread spot other ≡ true → IsSpared (paths spot) other) → (mail : ℕ) (spot : SpotOf) →
       slice_get spots mail ≡ Some (Some spot) → SparesOthers (λ other. other ≡ mail → ⊥) (paths spot)
   spread_spares paths spares mail spot is other second differ at =
       spares spot second (spread.mails mail other spot second is at (λ same. differ (sym same)))
 
-  -- The parts of a mail that stays off the file of the messages that ask.
+  -- The mail `mail` of the run stays off the messages that ask (`off_parts`).
   off : (mail : ℕ) (spot : SpotOf) → slice_get spots mail ≡ Some (Some spot) →
       (misses asked.path spot ≡ true) × (misses asked.aside spot ≡ true) × (bytes_eq spot.reason asked.path ≡ false)
   off mail spot is = off_parts asked spot (spread.asked mail spot is)
@@ -308,7 +311,7 @@ module _ (asked : KeeperOf) (spots : List (Option SpotOf)) (spread : IsSpread as
 
   -- ---- the calls
 
-  -- A mail is removed from a run.
+  -- If a call removes the mail that was found, if there is one, it answers as `MovesInRun` says.
   pub removes_in_run : {E : Type 0} (mail : ℕ) (answer : Result (Unit {0}) E) (found : Option (Option SpotOf)) →
       slice_get spots mail ≡ found → DoesAt (λ spot. RemovesMail spot a answer b) (DoesNothing a answer b) found →
       MovesInRun Gone mail (state_at asked spots a) answer (state_at asked spots b)
@@ -330,7 +333,7 @@ module _ (asked : KeeperOf) (spots : List (Option SpotOf)) (spread : IsSpread as
       spared_survive (λ o. o ≡ mail → ⊥) (own.claimed ∷ [])
       (spread_spares (λ s. s.claimed ∷ []) removed_spares mail own is) does.touches other spot differ at
 
-  -- A mail that is spared is kept.
+  -- If a mail is spared by the paths that a call touches, and was kept before, it is kept.
   spared_kept : (paths : List (List ℕ)) (spot : SpotOf) → IsSpared paths spot → Touches paths a b → StaysKept spot a b
   spared_kept paths spot spared touches h kept = ⊎_elim
       (λ gone. inl (place_stays paths spot a.now.names b.now.names spared (touches.moments h).last.now ∙ gone))
@@ -350,7 +353,7 @@ module _ (asked : KeeperOf) (spots : List (Option SpotOf)) (spread : IsSpread as
       (spread_spares (λ s. s.claimed ∷ []) removed_spares mail own is other spot differ at) does.touches)
       (cases_eq other mail)
 
-  -- A mail is put aside in a run.
+  -- If a call puts the mail that was found aside, if there is one, it answers as `MovesInRun` says.
   pub aside_in_run : {E : Type 0} (mail : ℕ) (answer : Result (Unit {0}) E) (found : Option (Option SpotOf)) →
       slice_get spots mail ≡ found → DoesAt (λ spot. PutsMailAside spot a answer b) (DoesNothing a answer b) found →
       MovesInRun Aside mail (state_at asked spots a) answer (state_at asked spots b)
@@ -374,18 +377,18 @@ module _ (asked : KeeperOf) (spots : List (Option SpotOf)) (spread : IsSpread as
       all_survive mail own (aside_paths own) is (spread_spares aside_paths aside_spares mail own is) does.touches
       does.survives other spot at
 
-  -- A mail that is given back alone spares the others.
+  -- If each other mail has come under another name, the paths touched when `own` is given back spare the others.
   alone_spares : (mail : ℕ) (own : SpotOf) → slice_get spots mail ≡ Some (Some own) → HasComeAlone spots mail own.waiting →
       SparesOthers (λ other. other ≡ mail → ⊥) (back_paths own)
   alone_spares mail own is alone other second differ at =
       back_spares own second (spread.mails mail other own second is at (λ same. differ (sym same)))
       (alone other (Some second) differ at)
 
-  -- A mail that is given back, or is left.
+  -- Nothing is done, or `spot` is given back, and each other mail has come under another name.
   abbrev pub GivesOrLeaves : ℕ → SpotOf → Type 0
   GivesOrLeaves mail spot = (b ≡ a) ⊎ (HasComeAlone spots mail spot.waiting × GivesMailBack spot a b)
 
-  -- Where nothing is done, no mail is given back.
+  -- If nothing is done, the call answers as `GivesBackInRun` says.
   nothing_given : (mail : ℕ) → b ≡ a → GivesBackInRun mail (state_at asked spots a) (state_at asked spots b)
   nothing_given mail same = record {
     here = λ h. inl (ap (λ (s : DiskState). slice_get (state_at asked spots s).places mail) same);
@@ -394,7 +397,7 @@ module _ (asked : KeeperOf) (spots : List (Option SpotOf)) (spread : IsSpread as
     honest = ap (λ (s : DiskState). s.is_honest) same;
   }
 
-  -- A mail is given back in a run.
+  -- If a call gives the mail `mail` back, or leaves it, it answers as `GivesBackInRun` says.
   mail_given : (mail : ℕ) (spot : SpotOf) → slice_get spots mail ≡ Some (Some spot) → GivesOrLeaves mail spot →
       GivesBackInRun mail (state_at asked spots a) (state_at asked spots b)
   mail_given mail spot is (inl same) = nothing_given mail same
@@ -407,7 +410,7 @@ module _ (asked : KeeperOf) (spots : List (Option SpotOf)) (spread : IsSpread as
     honest = given.1.touches.honest;
   }
 
-  -- A mail is given back in a run, if the run takes care of it.
+  -- If a call gives the mail that was found back, if there is one, it answers as `GivesBackInRun` says.
   pub given_in_run : {E : Type 0} (mail : ℕ) (answer : Result (Unit {0}) E) (found : Option (Option SpotOf)) →
       slice_get spots mail ≡ found → DoesAt (GivesOrLeaves mail) (DoesNothing a answer b) found →
       GivesBackInRun mail (state_at asked spots a) (state_at asked spots b)
@@ -423,7 +426,7 @@ module _ (asked : KeeperOf) (spots : List (Option SpotOf)) (spread : IsSpread as
       all_survive mail own (back_paths own) is (alone_spares mail own is given.0) given.1.touches given.1.survives other
       spot at
 
-  -- Each mail survives when one is given back.
+  -- Each mail survives a call that gives the mail that was found back, if there is one.
   pub given_survive : {E : Type 0} (mail : ℕ) (answer : Result (Unit {0}) E) (found : Option (Option SpotOf)) →
       slice_get spots mail ≡ found → DoesAt (GivesOrLeaves mail) (DoesNothing a answer b) found →
       (other : ℕ) (spot : SpotOf) → slice_get spots other ≡ Some (Some spot) → Survives spot a b
@@ -433,7 +436,7 @@ module _ (asked : KeeperOf) (spots : List (Option SpotOf)) (spread : IsSpread as
 
   -- ---- messages that ask
 
-  -- The file of the messages that ask spares each mail.
+  -- The paths of the messages that ask spare each mail.
   asked_spares : SparesOthers (λ other. Unit {0}) (kept_paths asked)
   asked_spares other spot ok at = kept_spares asked spot (spread.asked other spot at)
 
@@ -444,7 +447,7 @@ module _ (asked : KeeperOf) (spots : List (Option SpotOf)) (spread : IsSpread as
       (λ mail spot at. place_stays (kept_paths asked) spot a.now.names b.now.names
       (asked_spares mail spot tt at) (touches.moments h).last.now)
 
-  -- Messages that ask are kept in a run.
+  -- If a call puts the messages `bytes` into their file, it answers as `KeepsInRun` says.
   pub keeps_in_run : {E : Type 0} (bytes : List ℕ) (put : Option (List ℕ)) (answer : Result (Unit {0}) E) →
       bytes_in put ≡ bytes → PutsFile asked put a answer b →
       KeepsInRun bytes (state_at asked spots a) answer (state_at asked spots b)
@@ -468,7 +471,7 @@ pub empty_is : (bytes : List ℕ) → (length bytes == 0) ≡ true → [] ≡ by
 empty_is [] is = refl
 empty_is (byte ∷ bytes) is = absurd (omega (arith, eqb-true (length (byte ∷ bytes)) 0 is))
 
--- A mail that is given back in an equal list is given back in this one.
+-- If the lists `l` and `m` are equal, a mail given back in `l`, or left, is so in `m`.
 pub given_at : {E : Type 0} (l m : List (Option SpotOf)) (a b : DiskState) (mail : ℕ) (found : Option (Option SpotOf))
     (answer : Result (Unit {0}) E) → l ≡ m →
     DoesAt (λ spot. (b ≡ a) ⊎ (HasComeAlone l mail spot.waiting × GivesMailBack spot a b)) (DoesNothing a answer b) found →

@@ -14,7 +14,7 @@ use Rattle.ill_mail_disk.proofs.Placing.{IsSpared, place_stays, survives_touch}
 use Rattle.ill_mail_disk.proofs.Removing.{same_place}
 use Rattle.ill_mail_disk.proofs.Steps.{survives_one, survives_then, touches_more, touches_then}
 
--- It is this file that was found.
+-- If `is_file` says that `file` was found, it was found.
 pub is_this : (file : ℕ) (found : Option ℕ) → is_file file found ≡ true → found ≡ Some file
 is_this file None is = absurd (true≢false (sym is))
 is_this file (Some other) is = ap Some (eqb-true other file is)
@@ -52,7 +52,7 @@ stays_spared few many spot old new spared fits touches = record {
   survives = survives_touch few spot old new spared touches;
 }
 
--- A mail that stays step by step stays.
+-- If a mail stays from `a` to `b`, and from `b` to `c`, it stays from `a` to `c`.
 pub stays_then : {paths : List (List ℕ)} {spot : SpotOf} {a b c : DiskState} → StaysThere paths spot a b →
     StaysThere paths spot b c → StaysThere paths spot a c
 stays_then {paths = paths} {spot = spot} {a = a} {b = b} {c = c} first second = record {

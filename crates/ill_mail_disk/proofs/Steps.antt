@@ -9,7 +9,7 @@ use Rattle.ill_mail_disk.proofs.Touching.{touch_self, touch_then, touch_more}
 
 -- ---- what calls touch
 
--- What one call touches.
+-- If each change that `does` allows touches only `paths`, a call that does so touches only `paths`.
 pub one_touches : {A E : Type 0} (does : Disk → Result A E → Disk → Type 0) (paths : List (List ℕ)) (old : DiskState)
     (answer : Result A E) (new : DiskState) → Answers does old answer new →
     ((d e : Disk) → does d answer e → TouchesOnly paths d e) → Touches paths old new
@@ -19,7 +19,7 @@ one_touches does paths old answer new answers touches = record {
   honest = answers.honest;
 }
 
--- What two calls touch together.
+-- If two calls, one after the other, touch only `paths`, both together do.
 pub touches_then : (paths : List (List ℕ)) (a b c : DiskState) → Touches paths a b → Touches paths b c → Touches paths a c
 touches_then paths a b c first second = record {
   whole = first.whole;
@@ -28,7 +28,7 @@ touches_then paths a b c first second = record {
   honest = second.honest ∙ first.honest;
 }
 
--- What touches a few paths touches many.
+-- If a call touches only paths of `few`, and `many` has all of these, it touches only paths of `many`.
 pub touches_more : (few many : List (List ℕ)) → ((p : List ℕ) → IsNoneOf many p → IsNoneOf few p) → (a b : DiskState) →
     Touches few a b → Touches many a b
 touches_more few many fits a b touches = record {
@@ -37,7 +37,7 @@ touches_more few many fits a b touches = record {
   honest = touches.honest;
 }
 
--- A change touches what it touches when it is done.
+-- If `change` touches only `paths`, a call that makes it, done or not, touches only `paths`.
 pub change_fits : {E : Type 0} (paths : List (List ℕ)) (change : Disk → Disk) →
     ((d : Disk) → TouchesOnly paths d (change d)) → (answer : Result (Unit {0}) E) (d e : Disk) →
     Changes change d answer e → TouchesOnly paths d e
@@ -46,14 +46,14 @@ change_fits paths change touches (Err fault) d e is = ⊎_elim
     (λ same. subst (TouchesOnly paths d) (sym same) (touch_self paths d))
     (λ changed. subst (TouchesOnly paths d) (sym changed) (touches d)) is
 
--- A property of a disk with a change and without it holds after the call, done or failed.
+-- If `P` holds of a disk with a change and without it, it holds after the call, done or failed.
 pub either_way : {E : Type 0} (P : Disk → Type 0) (change : Disk → Disk) (old new : Disk) (result : Result (Unit {0}) E) →
     Changes change old result new → P old → P (change old) → P new
 either_way P change old new (Ok done) is without_it with_it = subst P (sym is) with_it
 either_way P change old new (Err fault) is without_it with_it =
     ⊎_elim (λ same. subst P (sym same) without_it) (λ changed. subst P (sym changed) with_it) is
 
--- A property of a disk with a change holds after the call that is done.
+-- If `P` holds of a disk with a change, it holds after a call that is done.
 pub done_gives : {E : Type 0} (P : Disk → Type 0) (change : Disk → Disk) (old new : Disk) (result : Result (Unit {0}) E) →
     Changes change old result new → P (change old) → OnOk result (P new)
 done_gives P change old new (Ok done) is with_it = subst P (sym is) with_it
@@ -65,13 +65,13 @@ done_gives P change old new (Err fault) is with_it = tt
 pub survives_none : (spot : SpotOf) (a : DiskState) → Survives spot a a
 survives_none spot a h outlasts = begins outlasts
 
--- A mail survives what it survives step by step.
+-- If a mail survives from `a` to `b`, and from `b` to `c`, it survives from `a` to `c`.
 pub survives_then : (spot : SpotOf) (a b c : DiskState) → b.is_honest ≡ a.is_honest → Survives spot a b → Survives spot b c →
     Survives spot a c
 survives_then spot a b c honest first second h outlasts =
     let before = first h outlasts in joins before (second (honest ∙ h) before.last)
 
--- A mail survives a call that keeps it in each crash.
+-- If each crash that left a mail before a call leaves it after the call, the mail survives the call.
 pub survives_one : {A E : Type 0} (does : Disk → Result A E → Disk → Type 0) (spot : SpotOf) (old : DiskState)
     (answer : Result A E) (new : DiskState) → Answers does old answer new →
     ((old.is_honest ≡ true) → does old.now answer new.now → Outlasts spot old.now → Outlasts spot new.now) →

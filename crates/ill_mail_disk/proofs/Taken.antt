@@ -17,18 +17,18 @@ use Rattle.ill_mail_disk.specs.TakenPaths.{is_same_path}
 use Rattle.ill_mail_disk.specs.TakenPaths.{misses_mail, misses_mails}
 use Rattle.ill_mail_disk.proofs.Apart.{none_of}
 
--- Two tests that pass alike are equal.
+-- If each of two tests passes when the other does, they are equal.
 same_test : (one other : Bool) → (one ≡ true → other ≡ true) → (other ≡ true → one ≡ true) → one ≡ other
 same_test true other there back = sym (there refl)
 same_test false true there back = back refl
 same_test false false there back = refl
 
--- A test that does not pass fails.
+-- If a test cannot pass, it fails.
 fails : (test : Bool) → (test ≡ true → ⊥) → not test ≡ true
 fails true never = absurd (never refl)
 fails false never = refl
 
--- A path that is none of some is tested to be none of them.
+-- If `path` is none of `paths`, `is_none_of` returns true.
 tested : (paths : List (List ℕ)) (path : List ℕ) → IsNoneOf paths path → is_none_of paths path ≡ true
 tested [] path none = refl
 tested (other ∷ paths) path none =
@@ -37,7 +37,7 @@ tested (other ∷ paths) path none =
 
 -- ---- a set of paths
 
--- It does not matter which of two paths comes first.
+-- `bytes_eq` gives the same in either order of two paths.
 same_bytes : (one other : List ℕ) → bytes_eq one other ≡ bytes_eq other one
 same_bytes one other =
     same_test (bytes_eq one other) (bytes_eq other one)
@@ -48,7 +48,7 @@ same_bytes one other =
 abbrev bytes_all : List (Vec ℕ Global) → List (List ℕ)
 bytes_all keys = map (λ key. key.items) keys
 
--- A path that no key of a set equals is none of its paths.
+-- A search of a set finds no key equal to `path` if, and only if, `is_none_of` says so.
 pub lacks_all : (path : List ℕ) (keys : List (Vec ℕ Global)) →
     not (list_any (λ key. bytes_eq path key.items) keys) ≡ is_none_of (bytes_all keys) path
 lacks_all path [] = refl
@@ -57,11 +57,12 @@ lacks_all path (key ∷ keys) =
     ∙ ap (λ test. not test && not (list_any (λ key. bytes_eq path key.items) keys)) (same_bytes path key.items)
     ∙ ap (λ rest. not (bytes_eq key.items path) && rest) (lacks_all path keys)
   where
+    -- Not one of two tests passes if both fail.
     nor : (a b : Bool) → not (a || b) ≡ (not a && not b)
     nor true b = refl
     nor false b = refl
 
--- A path at the end of a set is tested as one at its beginning.
+-- `is_none_of` gives the same with a key at the end of the keys or at their beginning.
 last_key : (keys : List (Vec ℕ Global)) (key : Vec ℕ Global) (path : List ℕ) →
     is_none_of (bytes_all (keys ++ key ∷ [])) path ≡ is_none_of (key.items ∷ bytes_all keys) path
 last_key [] key path = refl
@@ -69,18 +70,20 @@ last_key (first ∷ keys) key path =
     ap (λ rest. not (bytes_eq first.items path) && rest) (last_key keys key path)
     ∙ turn (not (bytes_eq first.items path)) (not (bytes_eq key.items path)) (is_none_of (bytes_all keys) path)
   where
+    -- Two tests may change places.
     turn : (a b c : Bool) → (a && (b && c)) ≡ (b && (a && c))
     turn true true c = refl
     turn true false c = refl
     turn false true c = refl
     turn false false c = refl
 
--- A set that has got a key has got its path.
+-- A set into which a key is inserted has got its path.
 module _ (keys : List (Vec ℕ Global)) (key : Vec ℕ Global) where
-  -- The key was there before.
+  -- If the key was there before, the set as it is has its path.
   there : list_any (is_same_path key) keys ≡ true → GetsPath key.items (bytes_all keys) (bytes_all keys)
   there is other = by (bytes_eq key.items other) refl
     where
+      -- By cases of `test`, which says if `other` is the path of the key.
       by : (test : Bool) → bytes_eq key.items other ≡ test →
           is_none_of (bytes_all keys) other ≡ (not (bytes_eq key.items other) && is_none_of (bytes_all keys) other)
       by true equal =
@@ -89,11 +92,12 @@ module _ (keys : List (Vec ℕ Global)) (key : Vec ℕ Global) where
           ∙ sym (ap (λ test. not test && is_none_of (bytes_all keys) other) equal)
       by false equal = sym (ap (λ test. not test && is_none_of (bytes_all keys) other) equal)
 
-  -- The set has got the key, if it was not there.
+  -- After `insert_key` the set has got the path of the key, if it was there before or not.
   gets : (new : List (Vec ℕ Global)) → new ≡ insert_key is_same_path keys key →
       GetsPath key.items (bytes_all keys) (bytes_all new)
   gets new is = by (list_any (is_same_path key) keys) refl
     where
+      -- By cases of `test`, which says if the key was there before.
       by : (test : Bool) → list_any (is_same_path key) keys ≡ test → GetsPath key.items (bytes_all keys) (bytes_all new)
       by true found = subst (λ (l : List (Vec ℕ Global)). GetsPath key.items (bytes_all keys) (bytes_all l))
           (sym (is ∙ ap (λ (test : Bool). if test then keys else keys ++ key ∷ []) found)) (there found)
@@ -111,7 +115,7 @@ key_put (Err fault) keys new key path old bytes same put = tt
 
 -- ---- one other mail
 
--- The tests of a mail and of one other pass.
+-- Six tests pass. For two mails, three are of the paths of one, and three of the paths of the other.
 record AreBoth (a b c d e f : Bool) : Type 0 where
   first : a ≡ true
   second : b ≡ true
@@ -120,7 +124,7 @@ record AreBoth (a b c d e f : Bool) : Type 0 where
   fifth : e ≡ true
   sixth : f ≡ true
 
--- All six tests pass.
+-- If the six tests together are true, each passes.
 six : (a b c d e f : Bool) → ((a && b && c) && (d && e && f)) ≡ true → AreBoth a b c d e f
 six a b c d e f is =
     let halves = and_parts (a && b && c) (d && e && f) is in
@@ -136,7 +140,7 @@ six a b c d e f is =
       sixth = two.1;
     }
 
--- If six tests pass, all do.
+-- If each of six tests passes, they are true together.
 all_six : (a b c d e f : Bool) → AreBoth a b c d e f → ((a && b && c) && (d && e && f)) ≡ true
 all_six a b c d e f are =
     and_from (a && b && c) (d && e && f)
@@ -300,7 +304,7 @@ module _ (taken : TakenOf) (spots : List (Option SpotOf)) (are : AreTaken taken 
 
 -- ---- one more mail
 
--- A test more at the end of a list of tests is one at its beginning.
+-- A path that is tested against `spots`, and then against `x`, may be tested against `x` first.
 last_first : (of : SpotOf → List (List ℕ)) (path : List ℕ) (spots : List (Option SpotOf)) (x : Option SpotOf) →
     misses_mails of (spots ++ x ∷ []) path ≡ (misses_mail of path x && misses_mails of spots path)
 last_first of path [] x = refl
@@ -308,18 +312,20 @@ last_first of path (y ∷ spots) x =
     ap (λ rest. misses_mail of path y && rest) (last_first of path spots x)
     ∙ swapped (misses_mail of path y) (misses_mail of path x) (misses_mails of spots path)
   where
+    -- Two tests may change places.
     swapped : (a b c : Bool) → (a && (b && c)) ≡ (b && (a && c))
     swapped true true c = refl
     swapped true false c = refl
     swapped false true c = refl
     swapped false false c = refl
 
--- The tests of three paths and of more are those of the three and those of the more.
+-- A path is tested against three paths and `rest` as against the three, and then against `rest`.
 split : (one two three path : List ℕ) (rest : List (List ℕ)) → is_none_of (one ∷ two ∷ three ∷ rest) path
     ≡ (is_none_of (one ∷ two ∷ three ∷ []) path && is_none_of rest path)
 split one two three path rest =
     apart (not (bytes_eq one path)) (not (bytes_eq two path)) (not (bytes_eq three path)) (is_none_of rest path)
   where
+    -- Four tests together are three of them, and then the fourth.
     apart : (a b c d : Bool) → (a && (b && (c && d))) ≡ ((a && (b && (c && true))) && d)
     apart true true true d = refl
     apart true true false d = refl
@@ -336,7 +342,7 @@ misses_each of path (x ∷ spots) zero spot misses is =
 misses_each of path (x ∷ spots) (suc i) spot misses is =
     misses_each of path spots i spot (and_parts (misses_mail of path x) (misses_mails of spots path) misses).1 is
 
--- No mail waits at the path of one more, unless the places have it.
+-- If the places have not the path at which `mine` would wait, no mail of the run waits there.
 none_waits : (taken : TakenOf) (spots : List (Option SpotOf)) → AreTaken taken spots → (mine spot : SpotOf) (i : ℕ) →
     is_none_of taken.places mine.waiting ≡ true → slice_get spots i ≡ Some (Some spot) → spot.waiting ≡ mine.waiting → ⊥
 none_waits taken spots are mine spot i lacks is same =
@@ -361,6 +367,7 @@ once_more mine old new spots are gets path lacks mail other spot second one two 
     (last_or spots (Some mine) other (Some second) two))
     (last_or spots (Some mine) mail (Some spot) one)
   where
+    -- If `z` is `mine`, it waits at the path at which `mine` waits.
     mine_is : (z : SpotOf) → Some mine ≡ Some z → z.waiting ≡ path → mine.waiting ≡ path
     mine_is z same is = ap (λ (s : SpotOf). s.waiting) (ap (value_or mine) same) ∙ is
 
@@ -383,7 +390,7 @@ pub known_with : (spot : SpotOf) (old : TakenOf) (sets : Option TakenOf) → IfS
 known_with spot old None gets spots are = tt
 known_with spot old (Some new) gets spots are = put_taken spot old new spots are gets
 
--- Sets have the paths of all mails after one of which the run takes no care.
+-- If the sets have the paths of `spots`, they have those of `spots` followed by None.
 pub known_still : (sets : Option TakenOf) (spots : List (Option SpotOf)) → AreKnown sets spots →
     AreKnown sets (spots ++ None ∷ [])
 known_still None spots are = tt
@@ -394,6 +401,7 @@ known_still (Some old) spots are = record {
       are.shared path lacks mail other spot second (among mail spot one) (among other second two);
 }
   where
+    -- A mail that is found in `spots` with None at the end is found in `spots`.
     among : (i : ℕ) (z : SpotOf) → slice_get (spots ++ None ∷ []) i ≡ Some (Some z) → slice_get spots i ≡ Some (Some z)
     among i z is = ⊎_elim (λ first. first) (λ last. absurd (none-some z last.1)) (last_or spots None i (Some z) is)
 
@@ -403,7 +411,7 @@ pub known_free : (sets : Option TakenOf) (taken : TakenOf) (spots : List (Option
 known_free sets taken spots known is spot =
     free_is_spread taken spots (subst (λ (s : Option TakenOf). AreKnown s spots) is known) spot
 
--- A test that never passes fails.
+-- If a test cannot pass, it is false.
 never_passes : (test : Bool) → (test ≡ true → ⊥) → test ≡ false
 never_passes true never = absurd (never refl)
 never_passes false never = refl

@@ -12,7 +12,7 @@ use Rattle.ill_mail_disk.specs.Touches.{IsNoneOf, DiffersAt, KeepsFiles, Touches
 
 -- ---- files
 
--- Each file is what it was.
+-- If no file changes, each keeps its bytes.
 pub files_stay : (files : List File) → KeepsFiles files files
 files_stay files k f is = (f, is, record { bytes = refl; flushed = λ was. was })
 
@@ -66,7 +66,7 @@ pub found_differs : (path : List ℕ) (found : Option ℕ) (names : List Name) �
 found_differs path None names = without_differs path names
 found_differs path (Some file) names = put_differs path file names
 
--- At a path that was settled, it is found what was settled there.
+-- After `found` is put at `path`, or its name removed if there is none, `found` is found there.
 pub found_settled : (path : List ℕ) (found : Option ℕ) (names : List Name) →
     found_at path (with_found path found names) ≡ found
 found_settled path None names = found_without path names
@@ -74,7 +74,7 @@ found_settled path (Some file) names = found_with path file names
 
 -- ---- disks
 
--- Nothing is touched where nothing happens.
+-- A disk differs from itself at no path.
 pub touch_self : (paths : List (List ℕ)) (d : Disk) → TouchesOnly paths d d
 touch_self paths d = record {
   now = λ p none. refl;
@@ -82,7 +82,7 @@ touch_self paths d = record {
   files = files_stay d.files;
 }
 
--- What two changes touch together.
+-- If two changes, one after the other, touch only `paths`, both together do.
 pub touch_then : (paths : List (List ℕ)) (a b c : Disk) → TouchesOnly paths a b → TouchesOnly paths b c →
     TouchesOnly paths a c
 touch_then paths a b c first second = record {
@@ -109,7 +109,7 @@ touch_more few many fits a b touches = record {
   files = touches.files;
 }
 
--- A change of names touches the paths at which it changes names.
+-- If a change of names differs only at `paths`, the change of the disk touches only these.
 pub change_touches : (paths : List (List ℕ)) (change : List Name → List Name) (d : Disk) →
     ((names : List Name) → DiffersAt paths names (change names)) → TouchesOnly paths d (after_change change d)
 change_touches paths change d differs = record {

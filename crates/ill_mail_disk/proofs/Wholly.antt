@@ -1,4 +1,4 @@
--- A new file is put at a path, call by call.
+-- Lemmas on `put_whole`, call by call: at each moment the path has what it had, or all of the new bytes.
 use Rattle.std.proofs.Common.{◌≡◌, inl, inr, ⊎_elim, refl, ◌∙◌, ℕ, List, [], ◌∷◌, Some, Result, Ok, Err}
 use Rattle.ill_disk.specs.Disk.{Disk, after_remove, content}
 use Rattle.ill_disk.specs.Calls.{DiskState, Answers, Changes}
@@ -12,15 +12,15 @@ use Rattle.ill_mail_disk.proofs.Kept.{puts_after, puts_failed}
 use Rattle.ill_mail_disk.proofs.Steps.{change_fits, either_way, one_touches, touches_more}
 use Rattle.ill_mail_disk.proofs.Touching.{remove_touches}
 
--- A path is kept before the first call.
+-- Before the first call the path has what it had (`HasKept`).
 kept_first : (path : List ℕ) (old : DiskState) → HasKept path old old
 kept_first path old = record { moments = λ h. begins (refl, old_left path old.now); honest = refl }
 
--- A disk with what stood at a path is one with that or with new bytes.
+-- If the disk `d` has what stood at the path, it has that or new bytes.
 old_is_fine : (path bytes : List ℕ) (old d : Disk) → IsOld path old d → IsOldOrNew path bytes old d
 old_is_fine path bytes old d kept = (inl kept.0, λ found left. inl (kept.1 found left))
 
--- What is fine beside a disk that has what stood at a path is fine beside the disk before.
+-- Let the disk `d` have what stood at the path in `old`. Then a disk that is old or new beside `d` is so beside `old`.
 fine_again : (path bytes : List ℕ) (old d : Disk) → IsOld path old d → (x : Disk) → IsOldOrNew path bytes d x →
     IsOldOrNew path bytes old x
 fine_again path bytes old d kept x fine = (
@@ -28,6 +28,7 @@ fine_again path bytes old d kept x fine = (
   λ found left. ⊎_elim (λ was. inl (kept.1 found was)) inr (fine.1 found left),
 )
 
+-- A removal at `aside`, done or not, leads from `old` to `cleared`.
 module _ {E : Type 0} {aside path : List ℕ} {old cleared : DiskState} {removal : Result (Unit {0}) E}
     (differ : aside ≡ path → ⊥) (removes : Answers (Changes (after_remove aside)) old removal cleared) where
   -- The removal at `aside` leaves the file at the path, whether it succeeds or fails.
@@ -40,11 +41,11 @@ module _ {E : Type 0} {aside path : List ℕ} {old cleared : DiskState} {removal
         removal (removes.done h) refl (remove_elsewhere aside path old.now differ);
   }
 
-  -- What stood at the path is kept meanwhile.
+  -- Until the removal ends, the path has what it had.
   removed_keeps : HasKept path old cleared
   removed_keeps = remove_has_kept differ (kept_first path old) removes
 
--- A file that is placed after what stood aside was removed, or was not, is put.
+-- If a file is placed after the removal at `aside`, done or not, it is put whole (`PutsWhole`).
 pub placed_whole : {E F : Type 0} {aside path bytes : List ℕ} {old cleared placed : DiskState}
     {removal : Result (Unit {0}) E} {one two : Unit {0}} → (aside ≡ path → ⊥) →
     Answers (Changes (after_remove aside)) old removal cleared →
@@ -63,7 +64,8 @@ placed_whole {F = F} {aside = aside} {path = path} {bytes = bytes} {old = old} {
           (places.moments (removes.honest ∙ h)));
     }
 
--- A file that could not be placed then is not put, or is whole. What stands aside was removed, or was not.
+-- Let a file not be placed, and `aside` be removed again, done or not. Then a call that fails answers as `PutsWhole`
+-- says.
 pub unplaced_whole : {E F G : Type 0} {aside path bytes : List ℕ} {old cleared placed last : DiskState}
     {removal : Result (Unit {0}) E} {fault other : F} {again : Result (Unit {0}) G} → (aside ≡ path → ⊥) →
     Answers (Changes (after_remove aside)) old removal cleared →

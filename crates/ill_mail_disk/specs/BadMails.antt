@@ -1,5 +1,5 @@
 -- These are calls on the mails of a run that no honest disk may show. Each case has its own fault. By the laws the
--- definitions of `Spots` and `Runs` exclude them all.
+-- definitions of `Spots`, `Runs` and `Whole` exclude them all.
 use Rattle.std.specs.Prelude.{◌≡◌, ◌≢◌, ℕ, List, [], ◌∷◌, true, slice_get, Option, Some, Result, Ok}
 use Rattle.ill_disk.specs.Disk.{In, Disk, Crash, Leaves, content, found_at}
 use Rattle.ill_disk.specs.Calls.{DiskState, IsMoment}
@@ -9,37 +9,45 @@ use Rattle.ill_mail_disk.specs.Runs.{RunState}
 
 -- A loss of power at some moment between two states of an honest disk has left the file of a mail at none of its paths.
 pub data LosesMail (spot : SpotOf) (old new : DiskState) : Type 0 where
+  -- Each crash left the mail at first. A crash at `moment` leaves a disk `after`, on which its file is at none of its
+  -- paths.
   at_no_path : (moment after : Disk) → old.is_honest ≡ true → Outlasts spot old.now → IsMoment old new moment →
       Crash moment after → ((path : List ℕ) → In (paths_of spot) path → found_at path after.names ≢ Some spot.file) →
       LosesMail spot old new
 
--- A call on the mail `mail`, to move it to the place `to`, cannot do this in a run with an honest disk. It moves another
--- mail, moves a mail to a third place, or moves one that is not claimed. It changes the messages that ask. Or it is done,
--- and the mail is still claimed.
+-- A call on the mail `mail`, to move it to the place `to`, cannot do this in a run with an honest disk.
 pub data IsBadMove {A E : Type 0} (to : Place) (mail : ℕ) (old : RunState) (answer : Result A E) (new : RunState) : Type 0
   where
+    -- Another mail has moved.
     other_moves : (other : ℕ) (place : Place) → old.is_honest ≡ true → other ≢ mail →
         slice_get old.places other ≡ Some place → slice_get new.places other ≢ Some place → IsBadMove to mail old answer new
+    -- The claimed mail has come to a third place.
     third_place : (place : Place) → old.is_honest ≡ true → slice_get old.places mail ≡ Some Claimed →
         slice_get new.places mail ≡ Some place → place ≢ Claimed → place ≢ to → IsBadMove to mail old answer new
+    -- The mail was not claimed, and has moved.
     unclaimed_moves : (place : Place) → old.is_honest ≡ true → slice_get old.places mail ≡ Some place → place ≢ Claimed →
         slice_get new.places mail ≢ Some place → IsBadMove to mail old answer new
+    -- The call is done, and the mail is still claimed.
     not_moved : (done : A) → old.is_honest ≡ true → answer ≡ Ok done → to ≢ Claimed →
         slice_get old.places mail ≡ Some Claimed → slice_get new.places mail ≡ Some Claimed → IsBadMove to mail old answer new
+    -- The messages that ask have changed.
     other_asks : old.is_honest ≡ true → new.asked ≢ old.asked → IsBadMove to mail old answer new
 
--- A mail cannot be given back so: over another file that came, or gone, or put aside.
+-- A mail cannot be given back so on an honest disk.
 pub data IsBadGivingBack (spot : SpotOf) (old new : DiskState) : Type 0 where
+  -- A file stood at the name of the mail in the folder, and does not stand there now.
   over_another : (file : ℕ) → old.is_honest ≡ true → found_at spot.waiting old.now.names ≡ Some file →
       found_at spot.waiting new.now.names ≢ Some file → IsBadGivingBack spot old new
 
--- A put of these bytes at a path cannot do this on an honest disk. A loss of power leaves a third content at the path. A
--- call that is done has put other bytes there. Or another name has changed than the path and the one aside.
+-- A put of these bytes at a path cannot do this on an honest disk.
 pub data IsBadPut {A E : Type 0} (aside path bytes : List ℕ) (old : DiskState) (answer : Result A E) (new : DiskState)
     : Type 0 where
+  -- A loss of power leaves at the path a third content: neither what it might have left before, nor these bytes.
   torn : (moment : Disk) (found : Option (List ℕ)) → old.is_honest ≡ true → IsMoment old new moment →
       Leaves moment path found → (Leaves old.now path found → ⊥) → found ≢ Some bytes → IsBadPut aside path bytes old answer new
+  -- The call is done, and other bytes are at the path.
   other_bytes : (done : A) → old.is_honest ≡ true → answer ≡ Ok done → content path new.now ≢ Some bytes →
       IsBadPut aside path bytes old answer new
+  -- Another name has changed than the path and the one aside.
   other_name : (other : List ℕ) → old.is_honest ≡ true → IsNoneOf (aside ∷ path ∷ []) other →
       found_at other new.now.names ≢ found_at other old.now.names → IsBadPut aside path bytes old answer new

@@ -9,7 +9,7 @@ pub record KeeperOf : Type 0 where
   pub path : List ℕ
   pub aside : List ℕ
 
--- Returns the keeper at a path.
+-- Returns the keeper of the file at a path. The path beside it ends with `.new`.
 abbrev pub keeper_at : List ℕ → KeeperOf
 keeper_at path = record { path = path; aside = path ++ codes ".new" }
 
@@ -17,13 +17,13 @@ keeper_at path = record { path = path; aside = path ++ codes ".new" }
 abbrev pub kept_paths : KeeperOf → List (List ℕ)
 kept_paths keeper = keeper.aside ∷ keeper.path ∷ []
 
--- A read of the file gives on an honest disk what it gave.
+-- A call touches at most the paths of the keeper. On an honest disk a read of its file gives what it gave before.
 pub record LeavesFile (keeper : KeeperOf) (old new : DiskState) : Type 0 where
   pub touches : Touches (kept_paths keeper) old new
   pub same : old.is_honest ≡ true → content keeper.path new.now ≡ content keeper.path old.now
 
--- A call puts this in the place of a file. If it is done, a read gives this. If it failed, a read gives this, or what it
--- gave.
+-- A call puts `bytes` in the place of the file, or removes it if they are None. If it is done, a read gives them. If it
+-- failed, a read gives them, or what it gave.
 pub record PutsFile {A E : Type 0} (keeper : KeeperOf) (bytes : Option (List ℕ)) (old : DiskState) (answer : Result A E)
     (new : DiskState) : Type 0 where
   pub touches : Touches (kept_paths keeper) old new

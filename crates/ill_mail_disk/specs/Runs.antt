@@ -53,7 +53,7 @@ spares spot other = misses spot.reason other && misses spot.claimed other && mis
 abbrev pub are_spread : SpotOf → SpotOf → Bool
 are_spread spot other = spares spot other && spares other spot
 
--- Returns true if the file of the messages that ask is none of a mail.
+-- Returns true if a mail takes neither path of the keeper. Its reason may not be at the path of the messages that ask.
 abbrev pub keeps_off : KeeperOf → SpotOf → Bool
 keeps_off keeper spot =
     misses keeper.path spot && misses keeper.aside spot && not (bytes_eq spot.reason keeper.path)
@@ -83,19 +83,19 @@ abbrev pub has_come_as : List ℕ → Option SpotOf → Bool
 has_come_as path None = false
 has_come_as path (Some spot) = bytes_eq path spot.waiting
 
--- Each other mail of a run has come under another name.
+-- Each mail of `spots` but `mail` has come under another name than `path`.
 abbrev pub HasComeAlone : List (Option SpotOf) → ℕ → List ℕ → Type 0
 HasComeAlone spots mail path =
     (other : ℕ) (spot : Option SpotOf) → (other ≡ mail → ⊥) → slice_get spots other ≡ Some spot → has_come_as path spot ≡ false
 
 -- ---- a mail that is added
 
--- Returns true if the run takes care of a mail: its paths differ, and it takes no path of others or of the messages that
--- ask.
+-- Returns true if a mail takes no path of the messages that ask or of other mails. None of the others may take one of
+-- it.
 abbrev pub is_admitted : KeeperOf → List (Option SpotOf) → SpotOf → Bool
 is_admitted asked spots spot = keeps_off asked spot && is_spread_from_all spot spots
 
--- Returns the mail if the run takes care of it.
+-- Returns the mail if the run takes care of it: its four paths differ, and it is admitted.
 abbrev pub admitted : KeeperOf → List (Option SpotOf) → SpotOf → Option SpotOf
 admitted asked spots spot = if are_apart spot && is_admitted asked spots spot then Some spot else None
 
@@ -110,7 +110,8 @@ pub record LooksFor {E : Type 0} (asked : KeeperOf) (spots : List (Option SpotOf
   pub spot : IfOk answer (λ spot. spot ≡ cared_for asked spots spot_of (found_at (spot_of zero).claimed old.names))
   pub same : new ≡ old
 
--- A mail with this path was added to a run, or none was.
+-- A call appends `spot` to the mails of a run. On an honest disk that is the mail at the claimed path, if the run takes
+-- care of it. Else it is None.
 pub record AddsMail {D : Type 0} (state : D → DiskState) (spot_of : ℕ → SpotOf) (old new : MailRunOf D) : Type 0 where
   pub spot : Option SpotOf
   pub added : new.spots ≡ old.spots ++ spot ∷ []
@@ -119,7 +120,7 @@ pub record AddsMail {D : Type 0} (state : D → DiskState) (spot_of : ℕ → Sp
 
 -- ---- calls
 
--- The mail of which the run takes care does so. Else nothing is done.
+-- If the mail that was found is one of which the run takes care, `does` holds of it. Else `nothing` holds.
 abbrev pub DoesAt : (SpotOf → Type 0) → Type 0 → Option (Option SpotOf) → Type 0
 DoesAt does nothing None = nothing
 DoesAt does nothing (Some None) = nothing
@@ -188,6 +189,6 @@ AreKept state run = AllKept run.spots (state run.disk)
 abbrev pub AllStayKept : List (Option SpotOf) → DiskState → DiskState → Type 0
 AllStayKept spots old new = (mail : ℕ) (spot : SpotOf) → slice_get spots mail ≡ Some (Some spot) → StaysKept spot old new
 
--- Any mail.
+-- Holds of each mail, by its number.
 abbrev pub AnyMail : ℕ → Type 0
 AnyMail mail = Unit {0}

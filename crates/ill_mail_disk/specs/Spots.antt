@@ -36,7 +36,8 @@ pub data Place : Type 0 where
   Aside : Place
   Gone : Place
 
--- Returns the place of a mail by the paths at which its file stands.
+-- Returns the place of a mail by the paths at which its file stands. If it stands at several, the one aside counts
+-- first, and then the one in the folder.
 abbrev pub place_by : Bool → Bool → Bool → Place
 place_by aside waiting claimed = if aside then Aside else if waiting then Waiting else if claimed then Claimed else Gone
 

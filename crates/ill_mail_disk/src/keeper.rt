@@ -17,6 +17,7 @@ pub struct Keeper {
     aside: Vec<u8>,
 }
 
+// The value of a keeper has its two paths. By the invariant the one beside the file is made by `keeper_at`.
 impl Model for Keeper {
     ghost Value = { keeping.KeeperOf };
 

@@ -15,6 +15,7 @@ pub(crate) struct PathSet {
     paths: IndexSet<Vec<u8>>,
 }
 
+// The value of a set is the list of its paths.
 impl Model for PathSet {
     ghost use Rattle.std.specs.Prelude.{ℕ, List, map};
 

@@ -31,6 +31,7 @@ pub struct MailRun<D: MailDisk> {
     folder: Vec<u8>,
 }
 
+// The value of a run has all but the sets of paths. By the invariant these have the paths of its mails.
 impl<D: MailDisk> Model for MailRun<D> {
     ghost Value = { runs.MailRunOf D };
 

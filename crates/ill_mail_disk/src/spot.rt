@@ -30,6 +30,7 @@ pub struct Spot {
     file: u128,
 }
 
+// The value of a mail has its paths and its file. By the invariant the four paths differ.
 impl Model for Spot {
     ghost Value = { spots.SpotOf };
 

@@ -22,6 +22,7 @@ pub(crate) struct TakenPaths {
     shared: PathSet,
 }
 
+// The value of the sets has the paths of each set.
 impl Model for TakenPaths {
     ghost Value = { taken.TakenOf };
 

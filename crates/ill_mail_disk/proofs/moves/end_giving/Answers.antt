@@ -1,3 +1,4 @@
+-- Answers the contract of `end_giving` (`src/moves.rt`).
 use Rattle.ill_disk.specs.Calls.{Changes}
 use Rattle.ill_mail_disk.specs.MailCalls.{after_flush_name}
 use Rattle.ill_mail_disk.proofs.Apart.{apart_of}
@@ -6,11 +7,13 @@ use Rattle.ill_mail_disk.proofs.Staying.{stays_then}
 use Rattle.ill_mail_disk.proofs.GivingBack.{flush_stays, flush_lasts, clear_stays}
 use Rattle.ill_mail_disk.proofs.moves.end_giving.Goals as goal
 
+-- The flush failed, and the mail stays at its place.
 pub returns-in_err-flush_name : goal.returns-in_err-flush_name
 returns-in_err-flush_name g c =
     flush_stays c.args.spot.now (apart_of c.args.spot.now c.waiting.ensures.apart) c.requires
     (at_path (λ p. Changes (after_flush_name p)) c.waiting.ensures.path c.flush_name.ensures)
 
+-- The flush is done, so the mail waits after each crash. It stays when its claimed name is removed.
 pub returns : goal.returns
 returns g c =
     let apart = apart_of c.args.spot.now c.waiting.ensures.apart in

@@ -1,3 +1,4 @@
+-- Answers the contract of `put_mail_aside` (`src/moves.rt`).
 use Rattle.ill_mail_disk.specs.MailCalls.{Brings}
 use Rattle.ill_mail_disk.specs.Spots.{aside_paths}
 use Rattle.ill_mail_disk.proofs.Apart.{apart_of}
@@ -6,21 +7,26 @@ use Rattle.ill_mail_disk.proofs.Staying.{stays_tell, stays_then}
 use Rattle.ill_mail_disk.proofs.PuttingAside.{aside_fails, aside_unclaimed, aside_waits, aside_done, stays_reason}
 use Rattle.ill_mail_disk.proofs.moves.put_mail_aside.Goals as goal
 
+-- The look at the claimed path failed.
 pub returns-in_err-is_claimed : goal.returns-in_err-is_claimed
 returns-in_err-is_claimed g c = aside_fails c.from_residual.ensures.0
     (stays_tell (aside_paths c.args.spot.now) c.args.spot.now c.is_claimed.ensures.tells)
 
+-- The file does not stand at its claimed path.
 pub returns-then-not-branch : goal.returns-then-not-branch
 returns-then-not-branch g c = aside_unclaimed c.if-not-branch.true c.in_ok-is_claimed.ensures.tells
 
+-- The look at the path in the folder failed.
 pub returns-in_err-is_waiting : goal.returns-in_err-is_waiting
 returns-in_err-is_waiting g c = aside_fails c.from_residual-in_err-is_waiting.ensures.0
     (stays_then (stays_tell (aside_paths c.args.spot.now) c.args.spot.now c.is_claimed.ensures.tells)
     (stays_tell (aside_paths c.args.spot.now) c.args.spot.now c.is_waiting.ensures))
 
+-- The file waits in the folder.
 pub returns-then-branch : goal.returns-then-branch
 returns-then-branch g c = aside_waits c.if-branch.true c.is_claimed.ensures.tells c.in_ok-is_waiting.ensures
 
+-- The reason could not be written. The mail stayed at its place.
 pub returns-in_err-write_reason : goal.returns-in_err-write_reason
 returns-in_err-write_reason g c = aside_fails c.from_residual-in_err-write_reason.ensures.0
     (stays_then (stays_tell (aside_paths c.args.spot.now) c.args.spot.now c.is_claimed.ensures.tells)
@@ -29,6 +35,7 @@ returns-in_err-write_reason g c = aside_fails c.from_residual-in_err-write_reaso
     (g.D.Disk.state c.is_waiting.new.disk) (g.D.Disk.state c.write_reason.new.disk)
     (touches_at c.reason.ensures c.write_reason.ensures))))
 
+-- The mail is claimed and does not wait, its reason was written, and the rename is done or failed.
 pub returns : goal.returns
 returns g c = aside_done (apart_of c.args.spot.now c.is_claimed.ensures.apart) c.if-not-branch.false c.if-branch.false
     c.in_ok-is_claimed.ensures.tells c.in_ok-is_waiting.ensures (touches_at c.reason.ensures c.write_reason.ensures)

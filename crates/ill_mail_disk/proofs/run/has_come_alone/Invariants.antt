@@ -4,7 +4,7 @@ use Rattle.ill_mail_disk.specs.Runs.{has_come_as}
 use Rattle.ill_mail_disk.specs.Spots.{SpotOf}
 use Rattle.ill_mail_disk.proofs.run.has_come_alone.Given as goal
 
--- Each other mail so far has come under another name.
+-- Each mail so far, but the mail `mail`, has come under another name than `path`.
 abbrev pub invariant-loop-other : goal.invariant-loop-other
 invariant-loop-other l = (other : ℕ) (spot : Option SpotOf) → other < l.other → (other ≡ l.mail → ⊥) →
     slice_get l.spots other ≡ Some spot → has_come_as l.path spot ≡ false

@@ -1,9 +1,11 @@
+-- Answers the contract of `MailRun::add` (`src/run.rt`).
 use Rattle.std.proofs.Common.{sym, subst, Option, IfSome, ◌≡◌, true}
 use Rattle.ill_mail_disk.specs.Runs.{is_admitted}
 use Rattle.ill_mail_disk.specs.TakenPaths.{TakenOf, AreKnown, IsInOrder}
 use Rattle.ill_mail_disk.proofs.Adding.{add_spread, adds}
 use Rattle.ill_mail_disk.proofs.run.MailRun.add.Goals as goal
 
+-- With the new mail the mails of the run are spread, and the sets have their paths.
 pub invariant_of-self-2 : goal.invariant_of-self-2
 invariant_of-self-2 g c = subst (λ l. IsInOrder c.self.inside.asked c.with_paths-taken.result l) (sym c.in_ok-push.ensures.items)
     (record {
@@ -15,6 +17,7 @@ invariant_of-self-2 g c = subst (λ l. IsInOrder c.self.inside.asked c.with_path
           c.self.invariant.known);
     })
 
+-- The mail that was appended is the one for which `spot_at` looked.
 pub returns-clause-added : goal.returns-clause-added
 returns-clause-added g c = adds g.D.Disk.state _ _ _ _ _ c.in_ok-spot.spot c.self.view_is c.deref.ensures.value
     c.in_ok-push.ensures.items (λ honest. (c.in_ok-spot.ensures.looks.done honest).spot)

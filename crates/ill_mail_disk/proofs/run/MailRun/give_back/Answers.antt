@@ -1,9 +1,11 @@
+-- Answers the contract of `MailRun::give_back` (`src/run.rt`), by lemmas of `Running` on the fields of the run.
 use Rattle.std.proofs.Common.{◌≡◌, sym, subst, ap, slice_get, Some, ℕ}
 use Rattle.ill_mail_disk.specs.Runs.{AnyMail, GivesBackInRun, run_state}
 use Rattle.ill_mail_disk.specs.Spots.{SpotOf, Survives}
 use Rattle.ill_mail_disk.proofs.Running.{given_at, given_in_run, given_survive, state_at}
 use Rattle.ill_mail_disk.proofs.run.MailRun.give_back.Goals as goal
 
+-- The mail was given back, or was left. `view_is` turns the fields into the value of the run.
 pub returns-clause-moves : goal.returns-clause-moves
 returns-clause-moves g c =
     let moves = given_in_run c.self.inside.asked c.self.inside.spots.items c.self.invariant.spread
@@ -16,6 +18,7 @@ returns-clause-moves g c =
     subst (λ r. GivesBackInRun c.args.mail (run_state g.D.Disk.state r)
     (state_at c.self.inside.asked c.self.inside.spots.items (g.D.Disk.state c.give_back_at.new.disk))) c.self.view_is moves
 
+-- Each mail survived that.
 pub returns-clause-survive : goal.returns-clause-survive
 returns-clause-survive g c =
     let survive = given_survive c.self.inside.asked c.self.inside.spots.items c.self.invariant.spread

@@ -1,9 +1,11 @@
+-- Answers the contract of `MailRun::keep_asked` (`src/run.rt`), by lemmas of `Running` on the fields of the run.
 use Rattle.std.proofs.Common.{◌≡◌, refl, sym, ◌∙◌, subst, slice_get, Some, None, ℕ}
 use Rattle.ill_mail_disk.specs.Runs.{AnyMail, KeepsInRun, run_state}
 use Rattle.ill_mail_disk.specs.Spots.{SpotOf, Survives}
 use Rattle.ill_mail_disk.proofs.Running.{empty_is, keeps_in_run, keeps_survive, state_at}
 use Rattle.ill_mail_disk.proofs.run.MailRun.keep_asked.Goals as goal
 
+-- There are no messages, and the file was removed, or was not.
 pub returns-then-is_empty-clause-keeps : goal.returns-then-is_empty-clause-keeps
 returns-then-is_empty-clause-keeps g c =
     let keeps = keeps_in_run c.self.inside.asked c.self.inside.spots.items c.self.invariant.spread
@@ -12,6 +14,7 @@ returns-then-is_empty-clause-keeps g c =
     subst (λ r. KeepsInRun c.args.asked.now (run_state g.D.Disk.state r) c.forget.result
     (state_at c.self.inside.asked c.self.inside.spots.items (g.D.Disk.state c.forget.new.disk))) c.self.view_is keeps
 
+-- Each mail survived the removal.
 pub returns-then-is_empty-clause-survive : goal.returns-then-is_empty-clause-survive
 returns-then-is_empty-clause-survive g c =
     let survive = keeps_survive c.self.inside.asked c.self.inside.spots.items c.self.invariant.spread
@@ -20,6 +23,7 @@ returns-then-is_empty-clause-survive g c =
     Survives spot (g.D.Disk.state r.disk) (g.D.Disk.state c.forget.new.disk)) c.self.view_is
     (λ other spot any at. survive other spot at)
 
+-- The messages were kept in the file, or were not.
 pub returns-clause-keeps : goal.returns-clause-keeps
 returns-clause-keeps g c =
     let keeps = keeps_in_run c.self.inside.asked c.self.inside.spots.items c.self.invariant.spread
@@ -28,6 +32,7 @@ returns-clause-keeps g c =
     subst (λ r. KeepsInRun c.args.asked.now (run_state g.D.Disk.state r) c.keep.result
     (state_at c.self.inside.asked c.self.inside.spots.items (g.D.Disk.state c.keep.new.disk))) c.self.view_is keeps
 
+-- Each mail survived the calls that keep the messages.
 pub returns-clause-survive : goal.returns-clause-survive
 returns-clause-survive g c =
     let survive = keeps_survive c.self.inside.asked c.self.inside.spots.items c.self.invariant.spread

@@ -1,9 +1,11 @@
+-- Answers the contract of `MailRun::remove` (`src/run.rt`), by lemmas of `Running` on the fields of the run.
 use Rattle.std.proofs.Common.{◌≡◌, sym, subst, ap, slice_get, Some, ℕ}
 use Rattle.ill_mail_disk.specs.Runs.{AllStayKept, MovesInRun, run_state}
 use Rattle.ill_mail_disk.specs.Spots.{SpotOf, Gone, Survives}
 use Rattle.ill_mail_disk.proofs.Running.{removal_keeps, removes_in_run, others_survive, state_at}
 use Rattle.ill_mail_disk.proofs.run.MailRun.remove.Goals as goal
 
+-- The mail was removed, or was left. `view_is` turns the fields into the value of the run.
 pub returns-clause-moves : goal.returns-clause-moves
 returns-clause-moves g c =
     let moves = removes_in_run c.self.inside.asked c.self.inside.spots.items c.self.invariant.spread
@@ -13,6 +15,7 @@ returns-clause-moves g c =
     subst (λ r. MovesInRun Gone c.args.mail (run_state g.D.Disk.state r) c.remove_at.result
     (state_at c.self.inside.asked c.self.inside.spots.items (g.D.Disk.state c.remove_at.new.disk))) c.self.view_is moves
 
+-- Each other mail survived the removal.
 pub returns-clause-survive : goal.returns-clause-survive
 returns-clause-survive g c =
     let survive = others_survive c.self.inside.asked c.self.inside.spots.items c.self.invariant.spread
@@ -22,6 +25,7 @@ returns-clause-survive g c =
     subst (λ r. (other : ℕ) (spot : SpotOf) → (other ≡ c.args.mail → ⊥) → slice_get r.spots other ≡ Some (Some spot) →
     Survives spot (g.D.Disk.state r.disk) (g.D.Disk.state c.remove_at.new.disk)) c.self.view_is survive
 
+-- Each mail that was kept before is kept.
 pub returns-clause-kept : goal.returns-clause-kept
 returns-clause-kept g c =
     let kept = removal_keeps c.self.inside.asked c.self.inside.spots.items c.self.invariant.spread

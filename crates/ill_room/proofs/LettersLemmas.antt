@@ -1,4 +1,4 @@
--- Splits mails with their verdicts at a place.
+-- Lemmas on mails paired with their verdicts, for the loops of `file_verdicts` and `worst_in`.
 use Rattle.std.proofs.Common.{◌≡◌, ℕ, zero, suc, List, [], ◌∷◌, ◌++◌, map, length, drop, Option, None, Some, Bor, refl, ap}
 use Rattle.std.proofs.Common.{sym, ◌∙◌}
 use Rattle.std.specs.Prelude.{slice_get, option_map}
@@ -14,23 +14,24 @@ zip_nothing : (mails : List Mail) → zip {X = Verdict} mails [] ≡ []
 zip_nothing [] = refl
 zip_nothing (mail ∷ mails) = refl
 
--- A mail without a verdict makes no pair.
+-- If there is no verdict, `pair_at` adds no pair before `rest`.
 no_pair : (mail : Option Mail) (rest : List (Mail × Verdict)) → pair_at mail None ++ rest ≡ rest
 no_pair None rest = refl
 no_pair (Some mail) rest = refl
 
--- What is lent of a place in a list is what stands there, if anything does.
+-- If a call of `get` lends `found` at `place` of `xs`, the value of `found` is the element there. Beyond the end it is
+-- None.
 pub item_at : {X : Type 0} (xs : List X) (place : ℕ) (found : Option (Bor X)) → IsItemAt xs place found
     → option_map (λ (x : Bor X). x.now) found ≡ slice_get xs place
 item_at xs place (Some x) at = sym (slice_get_read xs (length xs) place x.now refl at.3.0 at.1)
 item_at xs place None at = sym (slice_get_past xs place at.3)
 
--- A mail without a verdict has no verdict of its file.
+-- If there is no verdict, `verdict_at` is empty.
 pub no_verdict : (all : List (Mail × Verdict)) (mail : Option Mail) → verdict_at all mail None ≡ []
 no_verdict all None = refl
 no_verdict all (Some mail) = refl
 
--- The verdict of the file at a place is that of the pair there.
+-- `verdict_at` has the verdict of the file (`file_verdict`) for the pair of `mail` and `verdict`, if there are both.
 pub verdict_of_pair : (all : List (Mail × Verdict)) (mail : Option Mail) (verdict : Option Verdict)
     → verdict_at all mail verdict ≡ map (λ pair. file_verdict all pair.0.letter pair.1) (pair_at mail verdict)
 verdict_of_pair all None verdict = refl

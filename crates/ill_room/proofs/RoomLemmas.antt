@@ -1,4 +1,4 @@
--- The settling of mails, one after another.
+-- Lemmas on the loop that settles mails one after another, and on the end of a run (`src/settle.rt`).
 use Rattle.std.proofs.Common.{◌≡◌, ◌⊎◌, inl, inr, ⊎_elim, refl, sym, subst, ap, ◌∙◌, ℕ, zero, suc, ◌+◌, ◌<◌, ◌≤◌, Bool, true}
 use Rattle.std.proofs.Common.{false}
 use Rattle.std.proofs.Common.{List, [], ◌∷◌, length, slice_get, Option, None, Some, Result, Ok, Err}
@@ -14,7 +14,7 @@ use Rattle.ill_room.specs.Room.{MayMove, MaySettle, MovesPlace, Settles, Settles
 use Rattle.ill_room.specs.Room.{is_honest_room}
 use Rattle.ill_room.specs.Room.{moved_at, place_for, place_of}
 
--- There is no element of a list beyond its end.
+-- If `n` is not below the length of `xs`, there is no element at `n`.
 pub slice_beyond : {X : Type 0} (xs : List X) (n : ℕ) → length xs ≤ n → slice_get xs n ≡ None
 slice_beyond [] n end = refl
 slice_beyond (x ∷ xs) zero end = absurd (not-suc-le-zero end)
@@ -22,7 +22,7 @@ slice_beyond (x ∷ xs) (suc n) end = slice_beyond xs n (le_of_suc-le-suc end)
 
 -- ---- one mail
 
--- A mail that was moved to a place, and is to be moved there again, stays.
+-- A second move to the same place `to` changes nothing.
 moved_twice : (to : Place) (place : Option Place) → moved_at to (moved_at to place) ≡ moved_at to place
 moved_twice to None = refl
 moved_twice Waiting (Some Claimed) = refl
@@ -33,33 +33,33 @@ moved_twice to (Some Waiting) = refl
 moved_twice to (Some Aside) = refl
 moved_twice to (Some Gone) = refl
 
--- Two moves to one place are one.
+-- If a mail stays or moves to `to`, and then does so again, it has stayed or moved to `to`.
 may_then : (to : Place) (a b c : Option Place) → MayMove to a b → MayMove to b c → MayMove to a c
 may_then to a b c first (inl stays) = subst (λ place. MayMove to a place) (sym stays) first
 may_then to a b c (inl stays) (inr moves) = inr (moves ∙ ap (moved_at to) stays)
 may_then to a b c (inr before) (inr moves) = inr (moves ∙ ap (moved_at to) before ∙ moved_twice to a)
 
--- A call that moves a mail, done or not, may have moved it.
+-- If a call was to move a mail to `to`, done or not, its place `a` stays, or moves there.
 pub may_move : {A : Type 0} (to : Place) (a b : Option Place) (answer : Result A ToolFault) → MovesPlace to a answer b →
     MayMove to a b
 may_move to a b (Ok done) moves = inr moves
 may_move to a b (Err fault) moves = moves
 
--- After a call that settles a mail, done or not, its file may be settled.
+-- If a call settles `mail` by `verdict`, done or not, its file was settled, or stays (`MaySettle`).
 here_may : {A : Type 0} (mail : ℕ) (verdict : Verdict) (x y : RoomState) (answer : Result A ToolFault) →
     SettlesOne mail verdict x answer y → MaySettle (Some verdict) (place_of x mail) (place_of y mail)
 here_may mail (verdicts.Done outcome) x y answer one = may_move Gone (place_of x mail) (place_of y mail) answer one.here
 here_may mail (verdicts.Aside unfit) x y answer one = may_move Aside (place_of x mail) (place_of y mail) answer one.here
 here_may mail (verdicts.Left delay) x y answer one = one.here
 
--- After a call that settled a mail, its file is settled.
+-- If a call settles `mail` by `verdict` and is done, its file is settled (`IsSettled`).
 here_settled : {A : Type 0} (mail : ℕ) (verdict : Verdict) (x y : RoomState) (done : A) →
     SettlesOne mail verdict x (Ok done) y → IsSettled (Some verdict) (place_of x mail) (place_of y mail)
 here_settled mail (verdicts.Done outcome) x y done one = one.here
 here_settled mail (verdicts.Aside unfit) x y done one = one.here
 here_settled mail (verdicts.Left delay) x y done one = one.here
 
--- A call that settles a mail leaves all else.
+-- A call that settles `mail` leaves the place of each other mail, and the messages that ask.
 else_same : {A : Type 0} (mail : ℕ) (verdict : Verdict) (x y : RoomState) (answer : Result A ToolFault) →
     SettlesOne mail verdict x answer y → IsElseSame mail x y
 else_same mail (verdicts.Done outcome) x y answer one = one.else_same
@@ -76,12 +76,12 @@ pub record SettlesTo (count : ℕ) (all : List Verdict) (old : RoomState) (all_d
       IsSettled (slice_get all mail) (place_of old mail) (place_of new mail)
   pub rest : (mail : ℕ) → count ≤ mail → place_of new mail ≡ place_of old mail
 
--- Nothing happens to a mail without a call.
+-- `MaySettle` allows that a mail stays at its place `a`.
 may_stay : (verdict : Option Verdict) (a : Option Place) → MaySettle verdict a a
 may_stay None a = refl
 may_stay (Some verdict) a = inl refl
 
--- Before the first mail nothing is settled.
+-- If no call was made, `SettlesTo` holds of the mails below zero.
 pub settles_none : (all : List Verdict) (x : RoomState) → SettlesTo zero all x true x
 settles_none all x = record {
   so_far = record { each = λ mail. may_stay (slice_get all mail) (place_of x mail); asked = refl };
@@ -89,14 +89,15 @@ settles_none all x = record {
   rest = λ mail above. refl;
 }
 
--- One more mail may be settled after others.
+-- Let `MaySettle` lead from `a` to `b`, and again by the same verdict from `b` to `c`. Then it leads from `a` to `c`.
 may_settle_then : (v : Option Verdict) (verdict : Verdict) (a b c : Option Place) → v ≡ Some verdict → MaySettle v a b →
     MaySettle (Some verdict) b c → MaySettle v a c
 may_settle_then v verdict a b c is first then =
     subst (λ w. MaySettle w a c) (sym is)
     (may_then (place_for verdict) a b c (subst (λ w. MaySettle w a b) is first) then)
 
--- Mails were settled, and then one more.
+-- Let `Settles` lead from `x` to `y`, and let a call settle `mail` by its verdict from `y` to `z`. Then `Settles` leads
+-- from `x` to `z`.
 settles_then : {A : Type 0} (all : List Verdict) (mail : ℕ) (verdict : Verdict) (x y z : RoomState)
     (answer : Result A ToolFault) → Settles all x y → slice_get all mail ≡ Some verdict →
     SettlesOne mail verdict y answer z → Settles all x z
@@ -113,7 +114,7 @@ settles_then all mail verdict x y z answer so_far is one =
       asked = same.asked ∙ so_far.asked;
     }
 
--- The mail with the number `count` was settled after all before it.
+-- If the mails below `count` are settled, and then `count`, the mails below `count + 1` are.
 pub settles_next : {A : Type 0} (count : ℕ) (all : List Verdict) (verdict : Verdict) (x y z : RoomState) (all_done : Bool)
     (done : A) → SettlesTo count all x all_done y → slice_get all count ≡ Some verdict →
     SettlesOne count verdict y (Ok done) z → SettlesTo (suc count) all x all_done z
@@ -134,7 +135,8 @@ settles_next count all verdict x y z all_done done to is one =
           ∙ to.rest mail (le_of_lt above);
     }
 
--- The mail with the number `count` could not be settled. So not each is.
+-- Let the mails below `count` be settled or stay, and let a call for `count` be done or fail. Then `SettlesTo` holds
+-- below `count + 1`. Its `all_done` is false, so it does not say that each was settled.
 pub settles_not : {A : Type 0} (count : ℕ) (all : List Verdict) (verdict : Verdict) (x y z : RoomState) (all_done : Bool)
     (answer : Result A ToolFault) → SettlesTo count all x all_done y → slice_get all count ≡ Some verdict →
     SettlesOne count verdict y answer z → SettlesTo (suc count) all x false z
@@ -149,7 +151,7 @@ settles_not count all verdict x y z all_done answer to is one =
 
 -- ---- the states of a room, honest or not
 
--- Before the first mail nothing is settled, in any room.
+-- In any room, honest or not, `SettlesTo` holds of the mails below zero if no call was made.
 pub none_settled : (all : List Verdict) (x : RoomState) → Answers is_honest_room (SettlesTo zero all) x true x
 none_settled all x = record { done = λ honest. settles_none all x; honest = refl }
 
@@ -157,7 +159,7 @@ none_settled all x = record { done = λ honest. settles_none all x; honest = ref
 beyond : (v : Option Verdict) (a b : Option Place) → v ≡ None → b ≡ a → IsSettled v a b
 beyond v a b none same = subst (λ w. IsSettled w a b) (sym none) same
 
--- A mail without a verdict stays, and so one more is settled.
+-- If the mails below `count` are settled, and `count` has no verdict, the mails below `count + 1` are.
 stays_next : (count : ℕ) (all : List Verdict) (x y : RoomState) (all_done : Bool) → SettlesTo count all x all_done y →
     slice_get all count ≡ None → SettlesTo (suc count) all x all_done y
 stays_next count all x y all_done to is = record {
@@ -170,7 +172,7 @@ stays_next count all x y all_done to is = record {
   rest = λ mail above. to.rest mail (le_of_lt above);
 }
 
--- If each mail was settled, each was, also if not each had to be.
+-- If `SettlesTo` holds with some `all_done`, it holds with false, which says less.
 not_each : (count : ℕ) (all : List Verdict) (x y : RoomState) (all_done : Bool) → SettlesTo count all x all_done y →
     SettlesTo count all x false y
 not_each count all x y all_done to = record {
@@ -179,7 +181,8 @@ not_each count all x y all_done to = record {
   rest = to.rest;
 }
 
--- The mail with the number `count` was settled by its verdict `v`, after all before it.
+-- If the mails below `count` are settled, and then `count` by `v`, the mails below `count + 1` are. `v` is its verdict,
+-- or None.
 at_settled : {A : Type 0} (count : ℕ) (all : List Verdict) (v : Option Verdict) (x y z : RoomState) (all_done : Bool)
     (done : A) → slice_get all count ≡ v → SettlesTo count all x all_done y → SettlesAt count v y (Ok done) z →
     SettlesTo (suc count) all x all_done z
@@ -188,7 +191,7 @@ at_settled count all None x y z all_done done is to same =
 at_settled count all (Some verdict) x y z all_done done is to one =
     settles_next count all verdict x y z all_done done to is one
 
--- The mail with the number `count` could not be settled by its verdict `v`.
+-- `settles_not` holds also if `count` has no verdict: `v` is the verdict, or None.
 at_not_settled : {A : Type 0} (count : ℕ) (all : List Verdict) (v : Option Verdict) (x y z : RoomState) (all_done : Bool)
     (answer : Result A ToolFault) → slice_get all count ≡ v → SettlesTo count all x all_done y →
     SettlesAt count v y answer z → SettlesTo (suc count) all x false z
@@ -198,12 +201,12 @@ at_not_settled count all None x y z all_done answer is to same =
 at_not_settled count all (Some verdict) x y z all_done answer is to one =
     settles_not count all verdict x y z all_done answer to is one
 
--- One more than `count` is `count + 1`.
+-- `SettlesTo` up to `suc count` is `SettlesTo` up to `count + 1`, as the loop counts.
 one_more : (count : ℕ) (all : List Verdict) (x y : RoomState) (all_done : Bool) → SettlesTo (suc count) all x all_done y →
     SettlesTo (count + 1) all x all_done y
 one_more count all x y all_done to = subst (λ n. SettlesTo n all x all_done y) (sym (add-one count)) to
 
--- The mail with the number `count` was settled after all before it, in any room.
+-- In any room: if the mails below `count` are settled, and then `count`, the mails below `count + 1` are.
 pub one_settled : {A : Type 0} (count : ℕ) (all : List Verdict) (x y z : RoomState) (all_done : Bool) (done : A) →
     Answers is_honest_room (SettlesTo count all) x all_done y →
     Answers is_honest_room (SettlesAt count (slice_get all count)) y (Ok done) z →
@@ -215,7 +218,7 @@ one_settled count all x y z all_done done to one = record {
   honest = one.honest ∙ to.honest;
 }
 
--- The mail with the number `count` could not be settled, in any room.
+-- In any room: if a call for the mail `count` fails or not, `SettlesTo` holds up to `count + 1`, with `all_done` false.
 pub one_not_settled : {A : Type 0} (count : ℕ) (all : List Verdict) (x y z : RoomState) (all_done : Bool)
     (answer : Result A ToolFault) → Answers is_honest_room (SettlesTo count all) x all_done y →
     Answers is_honest_room (SettlesAt count (slice_get all count)) y answer z →
@@ -226,7 +229,8 @@ one_not_settled count all x y z all_done answer to one = record {
   honest = one.honest ∙ to.honest;
 }
 
--- If memory runs out at a mail, those before it may be settled, and it may be.
+-- If memory runs out at the mail `count`, it and the mails before it were settled, or stay. So the loop keeps its
+-- contract with that fault, in any room.
 pub stops_there : {A : Type 0} (count : ℕ) (all : List Verdict) (x y z : RoomState) (all_done : Bool)
     (answer : Result A ToolFault) (fault : ToolFault) → Answers is_honest_room (SettlesTo count all) x all_done y →
     Answers is_honest_room (SettlesAt count (slice_get all count)) y answer z →
@@ -237,7 +241,7 @@ stops_there count all x y z all_done answer fault to one = record {
   honest = one.honest ∙ to.honest;
 }
 
--- After the last mail each is settled, if all could be.
+-- If no verdict is left at `count`, and each mail below `count` was settled, all mails are.
 all_settled : (count : ℕ) (all : List Verdict) (x y : RoomState) → length all ≤ count → SettlesTo count all x true y →
     AreSettled all x y
 all_settled count all x y end to mail = ⊎_elim
@@ -246,13 +250,13 @@ all_settled count all x y end to mail = ⊎_elim
     (to.rest mail above))
     (cases_lt mail count)
 
--- The loop is over, and each mail is settled if it answers true.
+-- If no verdict is left at `count`, the loop may answer `all_done`, as `SettlesEach` says.
 ends_each : (count : ℕ) (all : List Verdict) (x y : RoomState) (all_done : Bool) → length all ≤ count →
     SettlesTo count all x all_done y → SettlesEach all x (Ok all_done) y
 ends_each count all x y true end to = (to.so_far, all_settled count all x y end to)
 ends_each count all x y false end to = to.so_far
 
--- The loop is over, in any room.
+-- If no verdict is left at `count`, the loop may answer `all_done`, in any room.
 pub each_settled : (count : ℕ) (all : List Verdict) (x y : RoomState) (all_done : Bool) → length all ≤ count →
     Answers is_honest_room (SettlesTo count all) x all_done y → Answers is_honest_room (SettlesEach all) x (Ok all_done) y
 each_settled count all x y all_done end to = record {
@@ -262,17 +266,17 @@ each_settled count all x y all_done end to = record {
 
 -- ---- the end of a run
 
--- The places are equal at each mail if the lists are.
+-- If `x` and `y` have equal lists of places, each mail has the same place in both.
 same_places : (x y : RoomState) → y.places ≡ x.places → (mail : ℕ) → place_of y mail ≡ place_of x mail
 same_places x y same mail = ap (λ places. slice_get places mail) same
 
--- The messages that ask were kept, or not.
+-- After a call to keep `asked`, done or not, the messages that ask are `before` or `asked`.
 kept_or_not : {A : Type 0} (asked before after : List ℕ) (answer : Result A ToolFault) → KeepsBytes asked before answer after →
     (after ≡ before) ⊎ (after ≡ asked)
 kept_or_not asked before after (Ok done) keeps = inr keeps
 kept_or_not asked before after (Err fault) keeps = keeps
 
--- If the messages that ask could not be kept, no mail was settled.
+-- If a call to keep `asked` failed, and the run ends with a fault, it ends as `EndsRun` says: no mail has moved.
 ends_unkept : {A B : Type 0} (asked : List ℕ) (all : List Verdict) (x y : RoomState) (fault other : ToolFault) →
     Keeps {A = A} asked x (Err fault) y → EndsRun {A = B} asked all x (Err other) y
 ends_unkept {A = A} asked all x y fault other keeps = record {
@@ -283,13 +287,14 @@ ends_unkept {A = A} asked all x y fault other keeps = record {
   done = tt;
 }
 
--- What a settling has settled, done or not.
+-- If a call settles the files of mails, done or not, each was settled or stays (`Settles`).
 settles_of : {A : Type 0} (all : List Verdict) (x y : RoomState) (answer : Result A ToolFault) → SettlesAs all x answer y →
     Settles all x y
 settles_of all x y (Ok done) settles = settles.0
 settles_of all x y (Err fault) settles = settles
 
--- If the settling is done after the messages that ask were kept, the run is ended.
+-- Let `asked` be kept in `y`, and let no mail have moved. If the settling from `y` to `z` is done, `EndsRunIf` holds
+-- from `x`.
 ends_if : {A : Type 0} (asked : List ℕ) (all : List Verdict) (x y z : RoomState) (answer : Result A ToolFault) →
     y.asked ≡ asked → y.places ≡ x.places → SettlesAs all y answer z → EndsRunIf asked all x answer z
 ends_if asked all x y z (Ok done) kept same settles = (
@@ -299,7 +304,7 @@ ends_if asked all x y z (Ok done) kept same settles = (
 )
 ends_if asked all x y z (Err fault) kept same settles = tt
 
--- The messages that ask were kept, and then the mails settled.
+-- If `asked` was kept, and then the files of mails were settled, the run ends as `EndsRun` says.
 ends_kept : {A B : Type 0} (asked : List ℕ) (all : List Verdict) (x y z : RoomState) (done : A) (answer : Result B ToolFault) →
     Keeps asked x (Ok done) y → SettlesAs all y answer z → EndsRun asked all x answer z
 ends_kept asked all x y z done answer keeps settles =
@@ -312,7 +317,7 @@ ends_kept asked all x y z done answer keeps settles =
       done = ends_if asked all x y z answer keeps.here keeps.places settles;
     }
 
--- If the messages that ask could not be kept, no mail was settled, in any room.
+-- In any room: if a call to keep `asked` failed, and the run ends with a fault, `EndsRun` holds.
 pub run_unkept : {A B : Type 0} (asked : List ℕ) (all : List Verdict) (x y : RoomState) (fault other : ToolFault) →
     Answers is_honest_room (Keeps {A = A} asked) x (Err fault) y
     → Answers is_honest_room (EndsRun {A = B} asked all) x (Err other) y
@@ -321,7 +326,7 @@ run_unkept asked all x y fault other keeps = record {
   honest = keeps.honest;
 }
 
--- The messages that ask were kept, and then the mails settled, in any room.
+-- In any room: if `asked` was kept, and then the files of mails were settled, `EndsRun` holds.
 pub run_kept : {A B : Type 0} (asked : List ℕ) (all : List Verdict) (x y z : RoomState) (done : A)
     (answer : Result B ToolFault) → Answers is_honest_room (Keeps asked) x (Ok done) y →
     Answers is_honest_room (SettlesAs all) y answer z → Answers is_honest_room (EndsRun asked all) x answer z

@@ -17,7 +17,7 @@ pub each_letter_put : {M : Type 0} (after : M → Letter → M) (letters : List 
 each_letter_put after [] there = refl
 each_letter_put after (letter ∷ letters) there = each_letter_put after letters (after_one after there (mail_of letter))
 
--- Gathered messages that began with `start` are these, and then the bytes of the mails.
+-- If `letters` are put one after another, and `start` was gathered before, `start` and then their bytes are gathered.
 gathered_from : (start : List (List ℕ)) (letters : List Letter)
     → after_all (λ there letter. there ++ letter.bytes ∷ []) letters (Some start)
     ≡ Some (start ++ map (λ letter. letter.bytes) letters)
@@ -26,7 +26,7 @@ gathered_from start (letter ∷ letters) =
     gathered_from (start ++ letter.bytes ∷ []) letters
     ∙ ap Some (append_assoc start (letter.bytes ∷ []) (map (λ letter. letter.bytes) letters))
 
--- If no messages were gathered before, they are the bytes of the mails.
+-- If nothing was gathered before (`start`), and `letters` were put, the gathered `messages` are the bytes of `letters`.
 gathered_are : (letters : List Letter) (start messages : List (List ℕ)) → start ≡ []
     → Some messages ≡ after_all (λ there letter. there ++ letter.bytes ∷ []) letters (Some start)
     → messages ≡ map (λ letter. letter.bytes) letters
@@ -35,7 +35,8 @@ gathered_are letters start messages empty put =
     ∙ ap (λ start. after_all (λ there letter. there ++ letter.bytes ∷ []) letters (Some start)) empty
     ∙ gathered_from [] letters)
 
--- The letters of the gathered messages are the sealed letters of the mails.
+-- If `messages` were gathered from `letters`, and `sealed` are the sealed letters of `messages`, they are the
+-- `sealed_mails` of `letters`.
 sealed_are : (sealing : Sealing) (letters sealed : List Letter) (start messages : List (List ℕ)) → start ≡ []
     → Some messages ≡ after_all (λ there letter. there ++ letter.bytes ∷ []) letters (Some start)
     → sealed ≡ map (sealed_mail sealing) (texts_of messages) → sealed ≡ sealed_mails sealing letters
@@ -58,7 +59,7 @@ sealed_put after sealing asking held start messages sealed count old new done em
   ),
 )
 
--- If a letter could not be put, the ones before it were.
+-- Let the messages be gathered and sealed. If a letter could not be put, the command has put the letters before it.
 pub sealed_failed : {M : Type 0} (after : M → Letter → M) (sealing : Sealing) (asking : List ℕ) (held : List DeskEntry)
     (start messages : List (List ℕ)) (sealed : List Letter) (count : ℕ) (old new : Option M) (fault : ToolFault) → start ≡ []
     → RunsOutbox (PutsAll (λ there letter. there ++ letter.bytes ∷ [])) asking held (Some start) (Some messages) (Ok count)

@@ -10,21 +10,21 @@ use Rattle.ill_room.specs.Sealed.{Filling, all_texts, if_any, no_texts, texts_of
 abbrev bytes_of : Filling → List ℕ
 bytes_of texts = concat texts.full ++ texts.last
 
--- One text alone is all bytes of it.
+-- The bytes of a list with one text are that text.
 alone : (text : List ℕ) → concat (text ∷ []) ≡ text
 alone text = append-nil text
 
--- A text that is left out without a message has no bytes.
+-- `if_any` keeps the bytes of `text`, for it leaves out only a text without bytes.
 if_any_is : (text : List ℕ) → concat (if_any text) ≡ text
 if_any_is [] = refl
 if_any_is (byte ∷ bytes) = alone (byte ∷ bytes)
 
--- All texts have all bytes.
+-- The texts of `all_texts`, one after another, are the bytes of `texts`.
 all_are : (texts : Filling) → concat (all_texts texts) ≡ bytes_of texts
 all_are texts =
     concat-append texts.full (if_any texts.last) ∙ ap (λ bytes. concat texts.full ++ bytes) (if_any_is texts.last)
 
--- One more message is at the end of the bytes, whichever text it is in.
+-- After one more `message` the bytes are those before, and then `message`, whether it begins a text or not (`begins`).
 step : (begins : Bool) (texts : Filling) (message : List ℕ)
     → bytes_of (if begins then record { full = texts.full ++ texts.last ∷ []; last = message }
     else record { full = texts.full; last = texts.last ++ message })
@@ -44,6 +44,6 @@ all_follow (message ∷ messages) texts =
     (step (nat_lt (1048576 - length texts.last) (length message)) texts message)
     ∙ append_assoc (bytes_of texts) message (concat messages)
 
--- The texts have all messages.
+-- The texts of letters, one after another, are `messages`, one after another.
 pub texts_have_all : (messages : List (List ℕ)) → concat (texts_of messages) ≡ concat messages
 texts_have_all messages = all_are (fold with_message no_texts messages) ∙ all_follow messages no_texts

@@ -15,11 +15,11 @@ pub record BackupState : Type 0 where
   pub keeps_sign : Bool
   pub is_honest : Bool
 
--- Returns true if it is honest.
+-- Returns true if a backup does as it answers.
 abbrev pub is_honest_backup : BackupState → Bool
 is_honest_backup state = state.is_honest
 
--- The same is wanted in both states.
+-- `new` wants a copy if `old` does, and a sign of life if `old` does, and not else.
 pub record IsSameWish (old new : BackupState) : Type 0 where
   pub copy : new.keeps_copy ≡ old.keeps_copy
   pub sign : new.keeps_sign ≡ old.keeps_sign
@@ -32,7 +32,7 @@ HasCopy own state = (state.keeps_copy ≡ false) ⊎ (state.copied ≡ Some (sid
 abbrev pub MayCopy : SidesOf → Option (List ℕ) → Option (List ℕ) → Type 0
 MayCopy own before after = (after ≡ before) ⊎ (Replaces own before Done × (after ≡ Some (sides_encoding own)))
 
--- If a copy is done, it is there.
+-- If the answer is Ok, no copy is wanted in `new`, or it has the record of `own`.
 abbrev pub HasCopyIfDone : {A : Type 0} → SidesOf → Result A ToolFault → BackupState → Type 0
 HasCopyIfDone own (Ok done) new = HasCopy own new
 HasCopyIfDone own (Err fault) new = Unit {0}
@@ -49,7 +49,7 @@ pub record CopiesDesk {A : Type 0} (own : SidesOf) (old : BackupState) (answer :
 abbrev pub signs_after : BackupState → ℕ
 signs_after old = if old.keeps_sign then suc old.signs else old.signs
 
--- If a sign of life is done, it is there. If it failed, it is there or not.
+-- If a sign of life is done, `signs` is the number after it (`signs_after`). If it failed, that or the number before.
 abbrev pub HasSigned : {A : Type 0} → BackupState → Result A ToolFault → ℕ → Type 0
 HasSigned old (Ok done) signs = signs ≡ signs_after old
 HasSigned old (Err fault) signs = (signs ≡ old.signs) ⊎ (signs ≡ signs_after old)

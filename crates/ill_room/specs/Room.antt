@@ -19,7 +19,8 @@ place_of state mail = slice_get state.places mail
 
 -- ---- calls
 
--- A call leads from `old` to `new`, with this answer. If `is_honest` holds of `old`, it does as `does` says.
+-- A call leads from `old` to `new`, with this answer. If `is_honest` holds of `old`, it does as `does` says. The call
+-- does not change `is_honest`.
 pub record Answers {S A : Type 0} (is_honest : S → Bool) (does : S → A → S → Type 0) (old : S) (answer : A) (new : S)
     : Type 0 where
   pub done : is_honest old ≡ true → does old answer new
@@ -63,7 +64,8 @@ pub record GivesBack {A : Type 0} (mail : ℕ) (old : RoomState) (answer : A) (n
   pub here : MayMove Waiting (place_of old mail) (place_of new mail)
   pub else_same : IsElseSame mail old new
 
--- A call keeps `asked`, messages that ask. If it failed, the messages before stay, or these are kept.
+-- A call keeps `asked`, messages that ask; they were `before`, and are `after`. If it failed, `after` is `before` or
+-- `asked`.
 abbrev pub KeepsBytes : {A : Type 0} → List ℕ → List ℕ → Result A ToolFault → List ℕ → Type 0
 KeepsBytes asked before (Ok done) after = after ≡ asked
 KeepsBytes asked before (Err fault) after = (after ≡ before) ⊎ (after ≡ asked)

@@ -20,6 +20,7 @@ pub struct MemoryRoom {
     calls: u32,
 }
 
+// The value of a room in memory has its places and the messages that ask. It has not the calls that are left.
 impl Model for MemoryRoom {
     ghost Value = { RoomState };
 
@@ -27,7 +28,7 @@ impl Model for MemoryRoom {
 }
 
 impl MemoryRoom {
-    /// Returns a room of mails at these places, whose first `calls` calls do not fail.
+    /// Returns a room with mails at these places and no messages that ask. Its first `calls` calls do not fail.
     pub fn new(places: Vec<Place>, calls: u32) -> MemoryRoom
         ensures { result ≡ record { places = places.items; asked = []; is_honest = true } }
     {
@@ -87,6 +88,7 @@ impl Place {
     }
 }
 
+// A call that moves a mail or keeps messages takes one of the calls away. If none is left, it fails.
 impl Room for MemoryRoom {
     ghost state = { λ room. room };
 

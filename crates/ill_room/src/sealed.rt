@@ -104,6 +104,7 @@ pub(crate) struct Gathered {
     pub(crate) messages: Vec<Vec<u8>>,
 }
 
+// A mail that is put is appended to the messages. Its name is dropped.
 impl Outgoing for Gathered {
     ghost Mails = { List (List ℕ) };
 

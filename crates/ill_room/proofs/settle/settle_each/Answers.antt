@@ -6,7 +6,7 @@ use Rattle.ill_room.proofs.RoomLemmas.{SettlesTo, one_settled, one_not_settled, 
 use Rattle.ill_room.proofs.settle.settle_each.Goals as goal
 use Rattle.ill_room.proofs.settle.settle_each.Goals.{in-Ok, in-Err}
 
--- Memory ran out at a mail. Those before it may be settled.
+-- Memory ran out at a mail. By `stops_there` this mail and those before it were settled, or stay.
 pub returns-in-Err-OutOfMemory-clause-settles : goal.returns-in-Err-OutOfMemory-clause-settles
 returns-in-Err-OutOfMemory-clause-settles g c =
     stops_there c.loop-mail.mail c.args.judged.verdicts.now (g.R.Room.state c.args.room.now)
@@ -14,7 +14,7 @@ returns-in-Err-OutOfMemory-clause-settles g c =
     (Err c.in-Err-OutOfMemory.field-0)
     OutOfMemory c.loop-mail.invariant.there c.in-Err-OutOfMemory.ensures.settles
 
--- One more mail is settled, or could not be.
+-- If the call for the next mail is done, `one_settled` gives the invariant. Else `one_not_settled` does.
 pub loop-mail-preserved : goal.loop-mail-preserved
 loop-mail-preserved g c =
     let all = c.args.judged.verdicts.now in

@@ -1,4 +1,4 @@
--- The calls of a room keep the mails of its run.
+-- Lemmas on the calls of a room: if each crash leaves the mails before a call, it leaves them after it (`AreKept`).
 use Rattle.std.proofs.Common.{◌≡◌, inl, inr, ⊎_elim, sym, ◌∙◌, ap, subst, ℕ, true, slice_get, List, Option, Some, option_map}
 use Rattle.std.proofs.Common.{Result, Ok, Err}
 use Rattle.std.proofs.lemmas.Bool.{cases_eq}
@@ -9,26 +9,26 @@ use Rattle.ill_mail_disk.specs.Spots.{SpotOf, Place, Waiting, Gone, IsKept, move
 use Rattle.ill_mail_disk.specs.Runs.{AllStayKept, AnyMail, AreKept, ComesAt, GivesBackInRun, KeepsInRun, MailRunOf}
 use Rattle.ill_mail_disk.specs.Runs.{MailsSurvive, MayComeAt, MovesInRun, place_of, run_state}
 
--- A mail that is gone stays so.
+-- If a mail was gone, and stays or is to move to `to`, it is gone.
 gone_stays : (to : Place) (before after : Option Place) → MayComeAt to before after → before ≡ Some Gone →
     after ≡ Some Gone
 gone_stays to before after may gone =
     ⊎_elim (λ same. same ∙ gone) (λ moves. moves ∙ ap (option_map (moved to)) gone) may
 
--- A mail that comes to a place may come there.
+-- If a call was to move a mail to `to`, done or not, the mail stays or has moved there.
 may_come : {A E : Type 0} (to : Place) (before after : Option Place) (answer : Result A E) →
     ComesAt to before answer after → MayComeAt to before after
 may_come to before after (Ok done) comes = inr comes
 may_come to before after (Err fault) may = may
 
 module _ {D : Type 0} (state : D → DiskState) where
-  -- The place of a mail of which the run takes care.
+  -- If `spot` is the mail `mail` of the run, the list of places has its place at `mail`.
   place_found : (run : MailRunOf D) (mail : ℕ) (spot : SpotOf) → slice_get run.spots mail ≡ Some (Some spot) →
       slice_get (run_state state run).places mail ≡ Some (place_in (state run.disk).now.names spot)
   place_found run mail spot found = slice_get-map (place_of (state run.disk).now.names) run.spots mail
       ∙ ap (option_map (place_of (state run.disk).now.names)) found
 
-  -- The mails of a run are kept if the disk and the mails are those before.
+  -- If the disk and the mails of `new` are those of `old`, and the mails were kept, they are kept.
   pub same_kept : (old new : MailRunOf D) → new.spots ≡ old.spots → state new.disk ≡ state old.disk →
       AreKept state old → AreKept state new
   same_kept old new spots disk kept h mail spot found =
@@ -36,13 +36,14 @@ module _ {D : Type 0} (state : D → DiskState) where
       (kept (ap (λ (s : DiskState). s.is_honest) (sym disk) ∙ h) mail spot
       (ap (λ l. slice_get l mail) (sym spots) ∙ found))
 
+  -- A call leads from the run `old` to `new`, which has the same mails.
   module _ (old new : MailRunOf D) (same : new.spots ≡ old.spots) where
     -- Each mail stays at its place, or moves to some place.
     abbrev AreMoved : Type 0
     AreMoved = (mail : ℕ) → (to : Place)
         × MayComeAt to (slice_get (run_state state old).places mail) (slice_get (run_state state new).places mail)
 
-    -- The mails are kept if each moves to some place, and survives.
+    -- If each mail stays or moves to some place, and each survives, the mails that were kept are kept.
     all_kept : (state new.disk).is_honest ≡ (state old.disk).is_honest → ((state old.disk).is_honest ≡ true → AreMoved) →
         MailsSurvive state AnyMail old new → AreKept state old → AreKept state new
     all_kept honest moves survive kept h mail spot found =
@@ -54,7 +55,7 @@ module _ {D : Type 0} (state : D → DiskState) where
         (λ outlasts. inr (survive mail spot tt before was outlasts).last)
         (kept was mail spot before)
 
-    -- A move keeps each mail.
+    -- If a call moves `mail`, and each mail survives it, the mails that were kept are kept.
     pub moves_keep : {A E : Type 0} (to : Place) (mail : ℕ) (answer : Result A E) →
         MovesInRun to mail (run_state state old) answer (run_state state new) → MailsSurvive state AnyMail old new →
         AreKept state old → AreKept state new
@@ -68,7 +69,7 @@ module _ {D : Type 0} (state : D → DiskState) where
           (λ differ. inl ((moves.else_same h).others other differ)) (cases_eq other mail),
     ))
 
-    -- A giving back keeps each mail.
+    -- If a call gives `mail` back, or leaves it, and each mail survives, the mails that were kept are kept.
     pub gives_keep : (mail : ℕ) → GivesBackInRun mail (run_state state old) (run_state state new) →
         MailsSurvive state AnyMail old new → AreKept state old → AreKept state new
     gives_keep mail gives = all_kept gives.honest (λ h other. (
@@ -79,14 +80,14 @@ module _ {D : Type 0} (state : D → DiskState) where
           (λ differ. inl ((gives.else_same h).others other differ)) (cases_eq other mail),
     ))
 
-    -- A call that keeps messages that ask keeps each mail.
+    -- If a call keeps messages that ask, and each mail survives it, the mails that were kept are kept.
     pub asks_keep : {A E : Type 0} (asked : List ℕ) (answer : Result A E) →
         KeepsInRun asked (run_state state old) answer (run_state state new) → MailsSurvive state AnyMail old new →
         AreKept state old → AreKept state new
     asks_keep asked answer keeps = all_kept keeps.honest
         (λ h other. (Waiting, inl (ap (λ l. slice_get l other) (keeps.places h))))
 
-    -- A removal keeps each mail that it does not remove.
+    -- If each mail that was kept stays kept in a removal (`AllStayKept`), the mails of the run are kept.
     pub removal_keeps : (state new.disk).is_honest ≡ (state old.disk).is_honest →
         AllStayKept old.spots (state old.disk) (state new.disk) → AreKept state old → AreKept state new
     removal_keeps honest stay kept h mail spot found =

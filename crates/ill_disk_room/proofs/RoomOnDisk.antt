@@ -1,4 +1,4 @@
--- The calls of a room, by those of the run on its disk.
+-- Lemmas that turn what a call of a run does into what the call of its room does.
 use Rattle.std.proofs.Common.{◌≡◌, inl, inr, ⊎_elim, refl, sym, ◌∙◌, ap, ℕ, slice_get, List, Option, Some, None, option_map}
 use Rattle.std.proofs.Common.{Result, Ok, Err}
 use Rattle.std.proofs.lemmas.Option.{slice_get-map}
@@ -30,7 +30,8 @@ moves_on to (Some place) = ap Some (place_moves to place)
 place_is : (run : RunState) (mail : ℕ) → place_of (room_on run) mail ≡ option_map place_on (slice_get run.places mail)
 place_is run mail = slice_get-map place_on run.places mail
 
--- A mail that comes to a place on the disk does so in the room.
+-- Let the answers agree, and let a mail stay or move in the room as on the disk. Then it comes to `to` in the room if
+-- it comes to `on` on the disk.
 comes_to : {A B E : Type 0} (to : Place) (before after : Option Place) (on : disks.Place) (here there : Option disks.Place)
     (answer : Result A E) (other : Result B ToolFault) → Agree answer other →
     (there ≡ here → after ≡ before) → (there ≡ option_map (disks.moved on) here → after ≡ moved_at to before) →
@@ -41,7 +42,7 @@ comes_to to before after on here there (Err fault) (Err other) agree stays moves
 comes_to to before after on here there (Ok done) (Err other) agree stays moves comes = absurd agree
 comes_to to before after on here there (Err fault) (Ok value) agree stays moves comes = absurd agree
 
--- Messages that are kept on the disk are kept in the room.
+-- If the answers agree, messages that are kept on the disk are kept in the room.
 keeps_bytes : {A B E : Type 0} (asked before after : List ℕ) (answer : Result A E) (other : Result B ToolFault) →
     Agree answer other → runs.KeepsAsked asked before answer after → KeepsBytes asked before other after
 keeps_bytes asked before after (Ok done) (Ok value) agree keeps = keeps
@@ -49,6 +50,7 @@ keeps_bytes asked before after (Err fault) (Err other) agree keeps = keeps
 keeps_bytes asked before after (Ok done) (Err other) agree keeps = absurd agree
 keeps_bytes asked before after (Err fault) (Ok value) agree keeps = absurd agree
 
+-- A call of the run leads from the state `old` to `new`.
 module _ (old new : RunState) where
   -- A mail that stays on the disk stays in the room.
   stays_on : (mail : ℕ) → slice_get new.places mail ≡ slice_get old.places mail →
@@ -61,11 +63,11 @@ module _ (old new : RunState) where
   comes_on to mail moves = place_is new mail ∙ ap (option_map place_on) moves ∙ moves_on to (slice_get old.places mail)
       ∙ ap (moved_at (place_on to)) (sym (place_is old mail))
 
-  -- What stays on the disk stays in the room.
+  -- If all but `mail` stays on the disk, all but `mail` stays in the room.
   else_on : (mail : ℕ) → runs.IsElseSame mail old new → IsElseSame mail (room_on old) (room_on new)
   else_on mail same = record { others = λ other differ. stays_on other (same.others other differ); asked = same.asked }
 
-  -- A move on the disk is one in the room.
+  -- If the answers agree, and a call moves `mail` on the disk, it moves `mail` in the room.
   pub moves_in_room : {A B E : Type 0} (to : disks.Place) (mail : ℕ) (answer : Result A E) (other : Result B ToolFault) →
       Agree answer other → runs.MovesInRun to mail old answer new →
       Answers is_honest_room (Moves (place_on to) mail) (room_on old) other (room_on new)
@@ -79,7 +81,7 @@ module _ (old new : RunState) where
     honest = moves.honest;
   }
 
-  -- A mail that is given back on the disk is given back in the room.
+  -- If a call gives `mail` back on the disk, it gives it back in the room, with any answer.
   pub gives_in_room : {A : Type 0} (mail : ℕ) (answer : A) → runs.GivesBackInRun mail old new →
       Answers is_honest_room (GivesBack mail) (room_on old) answer (room_on new)
   gives_in_room mail answer gives = record {
@@ -90,7 +92,7 @@ module _ (old new : RunState) where
     honest = gives.honest;
   }
 
-  -- Messages that are kept on the disk are kept in the room, and each mail stays there.
+  -- If the answers agree, and a call keeps `asked` on the disk, it keeps `asked` in the room.
   pub keeps_in_room : {A B E : Type 0} (asked : List ℕ) (answer : Result A E) (other : Result B ToolFault) →
       Agree answer other → runs.KeepsInRun asked old answer new →
       Answers is_honest_room (Keeps asked) (room_on old) other (room_on new)

@@ -41,6 +41,7 @@ pub struct DiskRoom<'a, D: MailDisk> {
     folders: &'a [Vec<u8>],
 }
 
+// The value of a room is its run. By the invariant each mail of the run is gone, or each crash leaves it.
 impl<'a, D: MailDisk> Model for DiskRoom<'a, D> {
     ghost Value = { runs.MailRunOf D };
 

@@ -1,4 +1,4 @@
--- A disk in memory that has mails stays whole.
+-- Lemmas on a disk in memory that has mails: each change leaves it whole, and a look answers as `Finds` says.
 use Rattle.std.proofs.Common.{◌≡◌, refl, sym, ◌∙◌, ap, subst, arith, ℕ, zero, suc, ◌<◌, List, [], ◌∷◌, length, slice_get, Option}
 use Rattle.std.proofs.Common.{Some, None, option_map, Result, Ok}
 use Rattle.ill_disk.specs.Disk.{File, Name, Disk, AreMade, IsWhole, after_change, bytes_of, found_at, with_name, without}
@@ -12,7 +12,7 @@ use Rattle.ill_mail_disk_kit.specs.MemoryMails.{IsBelow, IsMadeBy, names_after}
 use Rattle.ill_mail_disk_kit.specs.declared.memory_mail_disk.Change.{Change}
 use Rattle.ill_mail_disk_kit.specs.declared.memory_mail_disk.Change.TheVariants.{Make, Remove, Rename}
 
--- A whole disk is whole after a change in memory by a file that was made.
+-- If a disk is whole, and the file of `change` was made, the disk is whole after `change`.
 pub change_by_whole : (change : Change) (d : Disk) → IsMadeBy (length d.files) change → IsWhole d →
     IsWhole (after_change (names_after change) d)
 change_by_whole (Make path file) d lt whole = change_whole (with_name path.now file) d
@@ -22,13 +22,13 @@ change_by_whole (Rename from to file) d lt whole = change_whole (λ names. with_
     (λ names made. made_with (length d.files) to.now file (without from.now names) lt
     (made_without (length d.files) from.now names made)) whole
 
--- Names that are settled by a file that was made are of files that were made.
+-- If `names` and `found` are of the first `count` files, the names with `found` at `path` are too.
 made_found_with : (count : ℕ) (path : List ℕ) (found : Option ℕ) (names : List Name) → IsBelow count found →
     AreMade count names → AreMade count (with_found path found names)
 made_found_with count path None names below made = made_without count path names made
 made_found_with count path (Some file) names below made = made_with count path file names below made
 
--- The file that was found, if there is one, is of the first so many.
+-- If `found` is of the first `count` files by the definition of `ill_disk`, it is by the one here.
 below_as : (count : ℕ) (found : Option ℕ) → IsFoundBelow count found → IsBelow count found
 below_as count None below = tt
 below_as count (Some file) below = below
@@ -50,14 +50,14 @@ flush_name_whole path d whole =
       now = in_mapped settle d.may_stand d.names whole.now;
     }
 
--- A file that was made has its place among the files.
+-- If `k` is below the number of files, a file is found at `k`. Here `number` stands in its place.
 got_made : (files : List File) (k number : ℕ) → k < length files →
     option_map (λ f. number) (slice_get files k) ≡ Some number
 got_made [] k number lt = absurd (omega (arith, lt))
 got_made (f ∷ files) zero number lt = refl
 got_made (f ∷ files) (suc k) number lt = got_made files k number (omega (arith, lt))
 
--- A look at a path without a file gives none.
+-- If no file stands at `path`, a look that answers None and changes nothing answers as `Finds` says.
 pub finds_none : {E : Type 0} (path : List ℕ) (old new : Disk) (answer : Result (Option Found) E) →
     found_at path old.names ≡ None → answer ≡ Ok None → new ≡ old → Finds path old answer new
 finds_none path old new answer none is same = subst (λ a. Finds path old a new) (sym is) (record {
@@ -66,7 +66,7 @@ finds_none path old new answer none is same = subst (λ a. Finds path old a new)
   same = same;
 })
 
--- A look at a path gives the file there.
+-- If `file` stands at `path`, a look that answers its number and size, and changes nothing, answers as `Finds` says.
 pub finds_some : {E : Type 0} (path : List ℕ) (old new : Disk) (answer : Result (Option Found) E) (file : ℕ)
     (found : Option Found) → found_at path old.names ≡ Some file → answer ≡ Ok found →
     option_map (λ f. f.file) found ≡ option_map (λ f. file) (slice_get old.files file) →

@@ -10,13 +10,13 @@ names_after (Make path file) names = with_name path.now file names
 names_after (Remove path) names = without path.now names
 names_after (Rename from to file) names = with_name to.now file (without from.now names)
 
--- The file of the change is one of the first so many.
+-- The file of the change, if it has one, is one of the first `count` files.
 abbrev pub IsMadeBy : ℕ → Change → Type 0
 IsMadeBy count (Make path file) = file < count
 IsMadeBy count (Remove path) = Unit {0}
 IsMadeBy count (Rename from to file) = file < count
 
--- The file, if there is one, is of the first so many.
+-- The file, if there is one, is one of the first `count` files.
 abbrev pub IsBelow : ℕ → Option ℕ → Type 0
 IsBelow count None = Unit {0}
 IsBelow count (Some file) = file < count

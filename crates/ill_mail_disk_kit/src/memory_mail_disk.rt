@@ -21,6 +21,7 @@ struct MemoryFile {
     is_flushed: bool,
 }
 
+// The value of a file has its bytes, and if they are flushed.
 impl Model for MemoryFile {
     ghost Value = { disks.File };
 
@@ -34,6 +35,7 @@ struct MemoryName {
     file: usize,
 }
 
+// The value of a name has its path, and the place of its file among all files.
 impl Model for MemoryName {
     ghost Value = { disks.Name };
 
@@ -64,6 +66,8 @@ pub struct MemoryMailDisk {
     calls: u32,
 }
 
+// The value of the disk has all but the calls that are left. By the invariant it is whole: each name is of a file that
+// was made.
 impl Model for MemoryMailDisk {
     ghost Value = { disks.Disk };
 
@@ -143,7 +147,7 @@ impl MemoryName {
         MemoryName::new(alloc, &self.path, self.file)
     }
 
-    /// Returns the file, if the name is at this path.
+    /// Returns true if the name is at this path.
     fn is_at(&self, path: &[u8]) -> bool
         ensures { result ≡ bytes_eq path.now self.now.path }
     {
@@ -158,7 +162,7 @@ impl MemoryName {
     }
 }
 
-/// Returns the file that stands at a path.
+/// Returns the file that stands at `path`.
 fn find(names: &[MemoryName], path: &[u8]) -> Option<usize>
     ensures { result ≡ found_at path.now names.now }
 {
@@ -170,7 +174,7 @@ fn find(names: &[MemoryName], path: &[u8]) -> Option<usize>
     None
 }
 
-/// Adds copies of the names to others.
+/// Appends copies of `names` to `all`.
 fn add_names(
     alloc: Global,
     all: &mut Vec<MemoryName>,
@@ -184,7 +188,7 @@ fn add_names(
     Ok(())
 }
 
-/// Adds copies of the names without the one of a path to others.
+/// Appends copies of `names` to `all`, but for the name at `path`.
 fn add_without(
     alloc: Global,
     all: &mut Vec<MemoryName>,
@@ -201,7 +205,7 @@ fn add_without(
     Ok(())
 }
 
-/// Returns copies of the names with a file put at a path.
+/// Returns copies of `names` with `file` put at `path`.
 fn put(
     alloc: Global,
     names: &[MemoryName],
@@ -216,7 +220,7 @@ fn put(
     Ok(put)
 }
 
-/// Returns copies of the names without the one of a path.
+/// Returns copies of `names` without the one at `path`.
 fn take_out(alloc: Global, names: &[MemoryName], path: &[u8]) -> Result<Vec<MemoryName>, AllocError>
     ensures { IfOk result (λ rest. rest.items ≡ without path.now names.now) }
 {
@@ -225,7 +229,7 @@ fn take_out(alloc: Global, names: &[MemoryName], path: &[u8]) -> Result<Vec<Memo
     Ok(rest)
 }
 
-/// Returns copies of the names after a change.
+/// Returns copies of `names` after `change`.
 fn change_names(
     alloc: Global,
     names: &[MemoryName],
@@ -243,7 +247,8 @@ fn change_names(
     }
 }
 
-/// Returns the change that puts at a path what was found there.
+/// Returns the change that puts `found`, which stands at `path`, there again. If nothing stands there, it removes
+/// `path`.
 fn settling<'a>(path: &'a [u8], found: Option<usize>) -> Change<'a>
     ensures names { (names : List disks.Name) → names_after result names ≡ with_found path.now found names }
     ensures made { (count : ℕ) → IsBelow count found → IsMadeBy count result }
@@ -254,7 +259,7 @@ fn settling<'a>(path: &'a [u8], found: Option<usize>) -> Change<'a>
     }
 }
 
-/// Adds copies of the lists to others.
+/// Appends copies of `lists` to `all`.
 fn add_lists(
     alloc: Global,
     all: &mut Vec<Vec<MemoryName>>,
@@ -270,7 +275,7 @@ fn add_lists(
     Ok(())
 }
 
-/// Adds copies of the lists after a change to others.
+/// Appends copies of `lists` to `all`, each after `change`.
 fn add_changed(
     alloc: Global,
     all: &mut Vec<Vec<MemoryName>>,
@@ -340,7 +345,7 @@ fn one_list(alloc: Global, names: &[MemoryName]) -> Result<Vec<Vec<MemoryName>>,
     Ok(lists)
 }
 
-/// Flushes a file.
+/// Flushes the file `file`, if it was made.
 fn flush_at(files: &mut [MemoryFile], file: usize)
     ensures { files.new ≡ flush_found files.old (Some file) }
 {
@@ -545,6 +550,7 @@ impl Disk for MemoryMailDisk {
     }
 }
 
+/// A call for a folder changes nothing, since the disk has no folders.
 impl MailDisk for MemoryMailDisk {
     fn find(&mut self, path: &[u8]) -> Result<Option<Found>, DiskFault>
         ensures finds { Finds path.now self.old result self.new }

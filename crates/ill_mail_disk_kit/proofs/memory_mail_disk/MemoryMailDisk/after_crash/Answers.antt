@@ -1,3 +1,4 @@
+-- Answers the contract of `MemoryMailDisk::after_crash` (`src/memory_mail_disk.rt`).
 use Rattle.std.proofs.Common.{◌≡◌, [], ◌∷◌, map, rules, slice_get, Some}
 use Rattle.ill_disk.specs.Disk.{Disk, IsWhole}
 use Rattle.ill_disk.specs.MemoryDisk.{file_after_crash, lists_of}
@@ -5,6 +6,7 @@ use Rattle.ill_disk.proofs.Wholes.{crash_whole}
 use Rattle.ill_disk.proofs.Memory.{memory_crash}
 use Rattle.ill_mail_disk_kit.proofs.memory_mail_disk.MemoryMailDisk.after_crash.Goals as goal
 
+-- The disk that a crash leaves of a whole disk is whole.
 pub invariant_of-result : goal.invariant_of-result
 invariant_of-result c =
     let stands : slice_get c.args.self.now.may_stand c.args.which ≡ Some c.in_ok-names.names.items = search rules in
@@ -18,6 +20,7 @@ invariant_of-result c =
     } in
     crash_whole c.args.self.now after (memory_crash c.args.self.now after c.args.which stands only files) whole
 
+-- The list of names may stand, and the files are as a crash leaves them.
 pub returns-clause-crash : goal.returns-clause-crash
 returns-clause-crash c =
     let stands : slice_get c.args.self.now.may_stand c.args.which ≡ Some c.in_ok-names.names.items = search rules in

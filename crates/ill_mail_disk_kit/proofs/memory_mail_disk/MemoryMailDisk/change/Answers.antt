@@ -1,3 +1,4 @@
+-- Answers the contract of `MemoryMailDisk::change` (`src/memory_mail_disk.rt`).
 use Rattle.std.proofs.Common.{◌≡◌, rules, subst, sym}
 use Rattle.ill_disk.specs.Disk.{Disk, IsWhole, after_change}
 use Rattle.ill_disk.specs.MemoryDisk.{lists_of}
@@ -5,6 +6,7 @@ use Rattle.ill_mail_disk_kit.specs.MemoryMails.{names_after}
 use Rattle.ill_mail_disk_kit.proofs.MemoryMails.{change_by_whole}
 use Rattle.ill_mail_disk_kit.proofs.memory_mail_disk.MemoryMailDisk.change.Goals as goal
 
+-- The disk is whole after a change by a file that was made.
 pub invariant_of-self : goal.invariant_of-self
 invariant_of-self c =
     let whole : IsWhole c.args.self.now = search rules in

@@ -1,9 +1,11 @@
+-- Answers the contract of `create_new` of a disk in memory (`src/memory_mail_disk.rt`).
 use Rattle.std.proofs.Common.{◌≡◌, rules, subst, sym}
 use Rattle.ill_disk.specs.Disk.{Disk, IsWhole, after_create}
 use Rattle.ill_disk.specs.MemoryDisk.{lists_of}
 use Rattle.ill_disk.proofs.Wholes.{create_whole}
 use Rattle.ill_mail_disk_kit.proofs.memory_mail_disk.MemoryMailDiskDisk.create_new.Goals as goal
 
+-- The disk is whole after a new file is made.
 pub invariant_of-self-2 : goal.invariant_of-self-2
 invariant_of-self-2 c =
     let whole : IsWhole c.args.self.now = search rules in

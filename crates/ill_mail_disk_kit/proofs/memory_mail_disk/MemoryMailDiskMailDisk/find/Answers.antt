@@ -1,9 +1,11 @@
+-- Answers the contract of `find` of a disk in memory (`src/memory_mail_disk.rt`).
 use Rattle.std.proofs.Common.{◌≡◌, rules, length, slice_get, Some, None, option_map, Ok}
 use Rattle.ill_disk.specs.Disk.{bytes_of, found_at}
 use Rattle.ill_mail_disk_kit.proofs.MemoryMails.{finds_none, finds_some}
 use Rattle.ill_mail_disk_kit.proofs.memory_mail_disk.MemoryMailDiskMailDisk.find.Goals as goal
 use Rattle.ill_mail_disk_kit.proofs.memory_mail_disk.MemoryMailDiskMailDisk.find.Goals.{in-None, in-Some}
 
+-- If no file stands at the path, the answer is None. Else it has the number and the size of the file.
 pub returns-clause-finds : goal.returns-clause-finds
 returns-clause-finds c = elim c.match-find.branch [
   | in-None w ↦

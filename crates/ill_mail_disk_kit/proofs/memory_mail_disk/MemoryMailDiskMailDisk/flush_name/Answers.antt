@@ -1,3 +1,4 @@
+-- Answers the contract of `flush_name` of a disk in memory (`src/memory_mail_disk.rt`).
 use Rattle.std.proofs.Common.{◌≡◌, rules, subst, sym}
 use Rattle.ill_disk.specs.Disk.{Disk, IsWhole}
 use Rattle.ill_disk.specs.MemoryDisk.{lists_of}
@@ -5,6 +6,7 @@ use Rattle.ill_mail_disk.specs.MailCalls.{after_flush_name}
 use Rattle.ill_mail_disk_kit.proofs.MemoryMails.{flush_name_whole}
 use Rattle.ill_mail_disk_kit.proofs.memory_mail_disk.MemoryMailDiskMailDisk.flush_name.Goals as goal
 
+-- The disk is whole after one of its names is flushed.
 pub invariant_of-self : goal.invariant_of-self
 invariant_of-self c =
     let whole : IsWhole c.args.self.now = search rules in

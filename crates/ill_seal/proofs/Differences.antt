@@ -42,7 +42,7 @@ itself_differs so_far (x ∷ xs) =
     ap (λ (bits : ℕ). difference bits xs xs) (ap (λ (bits : ℕ). bit_or so_far bits) (xor_self x) ∙ or_zero_r so_far)
     ∙ itself_differs so_far xs
 
--- The test for no difference is the test for equal bytes.
+-- If two lists have one length, the test for no difference is the test for equal bytes.
 pub differs_is_eq : (xs ys : List ℕ) → length xs ≡ length ys → (difference 0 xs ys == 0) ≡ bytes_eq xs ys
 differs_is_eq xs ys size =
     elim (cases_Bool (difference 0 xs ys == 0)) [

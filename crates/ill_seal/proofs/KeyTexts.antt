@@ -1,4 +1,4 @@
--- A key is read from its text.
+-- A key is read from its text: the spaces are left out, and the digits are decoded and checked.
 use Rattle.std.proofs.Common.{◌≡◌, ◌==◌, ℕ, zero, suc, ◌+◌, ◌/◌, ◌%◌, Bool, true, false, cond, not}
 use Rattle.std.proofs.Common.{List, [], ◌∷◌, ◌++◌, length, take, drop, Ok, refl, ap, ◌∙◌, arith}
 use Rattle.std.proofs.Common.{length-append, inl, inr}
@@ -16,13 +16,13 @@ use Rattle.hex.specs.Hex.{IsBytes, encode_lower, encode_with, lower_digits, deco
 use Rattle.hex.proofs.HexLemmas.{length-encode_with, decode_of-encode_lower, decode_of-ok, decode_sized-encode_lower}
 use Rattle.ill_seal.specs.KeyText.{check_of, begins_group, grouped, key_text, is_white, digits_of, key_of, key_in}
 
--- A list that is a byte and then bytes, or bytes and then bytes, has bytes alone.
+-- If `xs` and `ys` have bytes alone, `xs` followed by `ys` has bytes alone.
 both_bytes : (xs ys : List ℕ) → IsBytes xs → IsBytes ys → IsBytes (xs ++ ys)
 both_bytes [] ys first second i = second i
 both_bytes (x ∷ xs) ys first second zero = first 0
 both_bytes (x ∷ xs) ys first second (suc i) = both_bytes xs ys (λ k. first (suc k)) second i
 
--- The bytes of a word are bytes.
+-- The list of the four bytes of a word has bytes alone.
 word_bytes : (word : ℕ) → IsBytes (to_be_bytes w32 word)
 word_bytes word zero = omega arith
 word_bytes word (suc zero) = omega arith
@@ -30,7 +30,7 @@ word_bytes word (suc (suc zero)) = omega arith
 word_bytes word (suc (suc (suc zero))) = omega arith
 word_bytes word (suc (suc (suc (suc i)))) = omega arith
 
--- The bytes of words are bytes.
+-- The bytes of the first `n` words of `h` are bytes alone.
 words_bytes : (h : List ℕ) (n : ℕ) → IsBytes (digest_bytes h n)
 unfolding digest_bytes
 words_bytes h zero = λ i. omega arith
@@ -42,7 +42,7 @@ digest_has_bytes : (m : List ℕ) → IsBytes (sha256 m)
 unfolding sha256
 digest_has_bytes m = words_bytes (final_hash initial_hash_256 m) 8
 
--- A front of a list of bytes has bytes alone.
+-- If `xs` has bytes alone, its first `n` bytes are bytes alone.
 front_bytes : (n : ℕ) (xs : List ℕ) → IsBytes xs → IsBytes (take n xs)
 front_bytes zero xs fits i = omega arith
 front_bytes (suc n) [] fits i = omega arith
@@ -57,7 +57,7 @@ IsDigit digit = is_hex_digit digit ≡ true
 not_white : (digit : ℕ) → is_hex_digit digit ≡ true → is_white digit ≡ false
 not_white digit is = grind (arith)
 
--- No digit is left out of a list of digits.
+-- If `digits` are hexadecimal digits, `digits_of` leaves none out.
 digits_stay : (digits : List ℕ) → AllPass is_hex_digit digits → digits_of digits ≡ digits
 digits_stay [] all = refl
 digits_stay (digit ∷ rest) all =
@@ -65,7 +65,7 @@ digits_stay (digit ∷ rest) all =
     (not_white digit (All-head IsDigit digit rest all))
     ∙ ap (λ (l : List ℕ). digit ∷ l) (digits_stay rest (All-tail IsDigit digit rest all))
 
--- The spaces between groups are left out.
+-- `digits_of` leaves out the spaces that `grouped` has put between groups.
 spaces_go : (place : ℕ) (digits : List ℕ) → digits_of (grouped place digits) ≡ digits_of digits
 unfolding grouped
 spaces_go place [] = refl
@@ -86,7 +86,8 @@ digits_append table [] ys = refl
 digits_append table (x ∷ xs) ys =
     ap (λ (l : List ℕ). slice_index table (x / 16) ∷ slice_index table (x % 16) ∷ l) (digits_append table xs ys)
 
--- A key is read from its digits and those of its check.
+-- A key of 32 bytes is read from its digits and those of its check. They are split at 64: `first` gives the key, and
+-- `second` its check.
 key_again : (key : List ℕ) → length key ≡ 32 → IsBytes key → key_of (encode_lower (key ++ check_of key)) ≡ Ok key
 key_again key size fits =
     let check = check_of key in
@@ -108,7 +109,7 @@ key_again key size fits =
     let same : bytes_eq check check ≡ true = (bytes_eq-Decides check check).1 refl in
     ap key_of halves ∙ rw (is_long, first, second, same) refl
 
--- A key is read from its text.
+-- A key of 32 bytes is read from its text.
 pub key_read_again : (key : List ℕ) → length key ≡ 32 → IsBytes key → key_in (key_text key) ≡ Ok key
 key_read_again key size fits =
     let bytes = key ++ check_of key in

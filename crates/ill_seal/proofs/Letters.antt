@@ -54,7 +54,7 @@ no_text fault text e = cc
 five_first : (a b c d e : ℕ) (rest : List ℕ) → 5 ≤ length (a ∷ b ∷ c ∷ d ∷ e ∷ rest)
 five_first a b c d e rest = omega arith
 
--- A sealed letter opens, and gives its text.
+-- A sealed letter opens, and gives its text: it passes each test of `opened`.
 pub opens : (key : List ℕ) (sender : Sender) (text : List ℕ) → opened key sender (sealed key sender text) ≡ Ok text
 unfolding opened sealed
 opens key sender text =
@@ -82,7 +82,8 @@ split_five (a ∷ b ∷ c ∷ []) long = absurd (omega (arith, long))
 split_five (a ∷ b ∷ c ∷ d ∷ []) long = absurd (omega (arith, long))
 split_five (a ∷ b ∷ c ∷ d ∷ e ∷ rest) long = refl
 
--- Bytes that open are the sealed letter of the text that they give.
+-- Bytes that open are the sealed letter of the text that they give. They have passed each test of `opened`, so their
+-- parts are known, and are joined.
 pub only : (key : List ℕ) (sender : Sender) (letter text : List ℕ) → opened key sender letter ≡ Ok text
     → letter ≡ sealed key sender text
 unfolding opened sealed
@@ -139,7 +140,8 @@ not_of_responder key other text =
     let long : ltb (length letter) 37 ≡ false = le-ltb (length letter) 37 (omega (arith, size, all, five)) in
     rw long refl
 
--- Lists that end with equally many bytes and are equal have equal fronts and ends.
+-- Let two lists be equal, and their ends `x` and `y` have one length. Then the ends are equal, and so is what stands
+-- before them.
 ends_alike : (xs ys x y : List ℕ) → length x ≡ length y → xs ++ x ≡ ys ++ y → (xs ≡ ys) × (x ≡ y)
 ends_alike xs ys x y size e =
     let left = length-append xs x in
@@ -167,7 +169,7 @@ pub one_seal : (key : List ℕ) (sender : Sender) (body changed seal text other 
 one_seal key sender body changed seal text other size before after =
     sym (seal_fits key sender body seal text size before).1 ∙ (seal_fits key sender changed seal other size after).1
 
--- A letter that opens as one of `sender` was sealed by it.
+-- If a letter that `by` has sealed opens as one of `sender`, that sender has sealed the text.
 is_of : (key : List ℕ) (texts : Sender → List (List ℕ)) (sender by : Sender) (text other : List ℕ)
     → opened key sender (sealed key by other) ≡ Ok text → Contains (texts by) other → Contains (texts sender) text
 is_of key texts Requester Requester text other e has =

@@ -37,6 +37,7 @@ pub enum KeyFault {
     OutOfMemory,
 }
 
+// A failed allocation is the fault `OutOfMemory`.
 impl From<AllocError> for KeyFault {
     ghost from_gives = { λ _ fault. fault ≡ keys.OutOfMemory };
 
@@ -45,6 +46,7 @@ impl From<AllocError> for KeyFault {
     }
 }
 
+// A failed allocation is the fault `OutOfMemory`, and the value that found no room is dropped.
 impl<T: Drop> From<AllocFailed<T>> for KeyFault {
     ghost from_gives = { λ _ fault. fault ≡ keys.OutOfMemory };
 

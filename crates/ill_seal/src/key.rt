@@ -24,12 +24,14 @@ pub struct Key {
     bytes: [u8; 32],
 }
 
+// The value of a key is the list of its bytes.
 impl Model for Key {
     ghost Value = { List ℕ };
 
     ghost view = { λ key. key.bytes };
 }
 
+// The text of all keys is the same, so no byte of a key is written.
 impl Debug for Key {
     ghost debug_output = { λ _. Some (codes "Key(..)") };
 

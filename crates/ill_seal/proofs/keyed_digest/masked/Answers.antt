@@ -1,3 +1,4 @@
+-- Answers the contract of `masked` (`src/keyed_digest.rt`).
 use Rattle.std.proofs.Common.{◌∷◌, ◌++◌, [], List, ℕ, ap, sym, ◌∙◌, arith, take}
 use Rattle.std.specs.Prelude.{bit_xor}
 use Rattle.std.proofs.lemmas.List.{length-set, take_more_set}
@@ -5,6 +6,7 @@ use Rattle.ill_seal.specs.Hmac.{masked, filled}
 use Rattle.ill_seal.proofs.Blocks.{more_masked}
 use Rattle.ill_seal.proofs.keyed_digest.masked.Goals as goal
 
+-- One more byte of the block is set, by `more_masked`. The block keeps its length.
 pub loop-place-preserved : goal.loop-place-preserved
 loop-place-preserved c =
     let mask = c.args.mask in

@@ -15,7 +15,7 @@ ghost use Rattle.ill_runs.specs.ShelfLibraries.{GroupVisit, IsShelfHistory, firs
 ghost use Rattle.ill_nights.specs.BadNights.{AreApartIn, HoldsBack, IsLeftUndone, IsLost};
 ghost use Rattle.ill_nights.specs.Nights.{AreAtWork, AreDone, AreInStepIn, CanAnswerIn, IsCarried, IsGoodNight, IsNight, LeftOf, TakesAll, TookOf, messages_of_all};
 
-/// From each library whose file can be read a whole night leads on, in which no mail comes.
+/// If the file of the library `before` can be read, a whole night leads from `before` to some library `after`.
 pub fn a_night_can_be_whole()
     ensures { (others : List Apdu) (before : Library) (held : SidesOf) → records_at before.file ≡ Ok held →
         (after : Library) × IsNight others before after }

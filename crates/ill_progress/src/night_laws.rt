@@ -96,6 +96,7 @@ pub fn two_nights_are_enough()
 
 /// A responder that a message would change has not heard all. Parties of which one has not landed have not both landed.
 /// Each deed, save and restart of the responder may stand in a night with people, and no event of the requester may.
+/// Such a night is the requester's half, a save of the responder, what people do, and the responder's half.
 #[tactic(auto, using(crate::proofs::BadNightWithPeople::none_unheard, crate::proofs::BadNightWithPeople::none_unlanded, crate::proofs::BadNightWithPeople::by_responder))]
 pub fn no_bad_night_with_people_passes()
     ensures heard { (x : RequesterRecord) (y : ResponderRecord) → HasNotHeard x y → HasHeard x y → ⊥ }

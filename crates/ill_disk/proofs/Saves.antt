@@ -160,8 +160,8 @@ unflushed_tears aside path bytes other d =
     (found_with aside (length d.files) d.names))
     (last_get d.files (record { bytes = bytes; is_flushed = false })) refl
 
--- Without the flush of names a crash may leave at `path` each content `found` that a crash of `d` may leave.
--- It leaves the names that the crash of `d` leaves, since they still may stand.
+-- Let `d` be whole. Without the flush of names a crash after the rename may leave at `path` each content `found` that a
+-- crash of `d` may leave. The names that the crash of `d` leaves still may stand.
 pub unflushed_names_return : (aside path bytes : List ℕ) (d : Disk) (found : Option (List ℕ)) → IsWhole d →
     Leaves d path found → Leaves (after_rename aside path (after_flush aside (after_create aside bytes d))) path found
 unflushed_names_return aside path bytes d found whole left =

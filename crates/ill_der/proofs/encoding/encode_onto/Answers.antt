@@ -14,6 +14,7 @@ use Rattle.ill_der.proofs.encoding.encode_onto.Goals as goal
 abbrev start_of : Apdu → List ℕ
 start_of apdu = identifier_of (type_of apdu.body) ∷ length_octets (length (contents_of apdu))
 
+-- If memory ran out in `push_start`, a proper prefix of the identifier and the length was appended.
 pub returns-in_err-push_start-clause-prefix : goal.returns-in_err-push_start-clause-prefix
 unfolding encoding element
 returns-in_err-push_start-clause-prefix c =
@@ -21,6 +22,7 @@ returns-in_err-push_start-clause-prefix c =
     let start : AddsPrefix c.args.bytes.now.items c.push_start.new.bytes.items (start_of apdu) = search rules in
     at_err c.from_residual.result (adds_first _ _ (start_of apdu) (contents_of apdu) start)
 
+-- If memory ran out in `push_head`, the start and a proper prefix of the head were appended.
 pub returns-in_err-push_head-clause-prefix : goal.returns-in_err-push_head-clause-prefix
 unfolding encoding element
 returns-in_err-push_head-clause-prefix c =
@@ -31,6 +33,7 @@ returns-in_err-push_head-clause-prefix c =
     (adds_second _ middle _ (start_of apdu) (contents_of apdu) start
     (adds_first _ _ (head_of apdu) (encode_body apdu.body) c.in_err-push_head.ensures.prefix))
 
+-- If memory ran out in `push_body`, the start, the head and a proper prefix of the further fields were appended.
 pub returns-clause-prefix : goal.returns-clause-prefix
 unfolding encoding element
 returns-clause-prefix c =

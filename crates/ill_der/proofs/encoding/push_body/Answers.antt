@@ -9,6 +9,7 @@ use Rattle.ill_der.specs.ShortForm.{encode_body}
 use Rattle.ill_der.proofs.AddingLemmas.{adds_first, adds_last, at_err}
 use Rattle.ill_der.proofs.encoding.push_body.Goals as goal
 
+-- If memory ran out in `push_optional_date`, a proper prefix of the expiry date was appended.
 pub returns-in_err-push_optional_date-in-IllRequest-clause-prefix :
     goal.returns-in_err-push_optional_date-in-IllRequest-clause-prefix
 returns-in_err-push_optional_date-in-IllRequest-clause-prefix c =
@@ -20,6 +21,7 @@ returns-in_err-push_optional_date-in-IllRequest-clause-prefix c =
     (at_err result (adds_first old new expiry (element 134 c.in-IllRequest.item)
     c.in_err-push_optional_date-in-IllRequest.ensures.prefix))
 
+-- If memory ran out in `push_element`, the expiry date and a proper prefix of the item were appended.
 pub returns-in_ok-push_optional_date-in-IllRequest-clause-prefix :
     goal.returns-in_ok-push_optional_date-in-IllRequest-clause-prefix
 returns-in_ok-push_optional_date-in-IllRequest-clause-prefix c =

@@ -7,6 +7,7 @@ use Rattle.ill_der.specs.Format.{element, optional}
 use Rattle.ill_der.proofs.AddingLemmas.{adds_first, adds_last, at_err}
 use Rattle.ill_der.proofs.encoding.push_grant.Goals as goal
 
+-- If memory ran out in `push_reply`, a proper prefix of the number and the yes or no was appended.
 pub returns-in_err-push_reply-clause-prefix : goal.returns-in_err-push_reply-clause-prefix
 returns-in_err-push_reply-clause-prefix c =
     let old = c.args.bytes.now.items in
@@ -18,6 +19,7 @@ returns-in_err-push_reply-clause-prefix c =
     at_err c.from_residual.result (subst (AddsPrefix old new) (append_assoc answers yes day)
     (adds_first old new (answers ++ yes) day prefix))
 
+-- If memory ran out in `push_optional_date`, the reply and a proper prefix of the date were appended.
 pub returns-clause-prefix : goal.returns-clause-prefix
 returns-clause-prefix c =
     let old = c.args.bytes.now.items in

@@ -20,12 +20,14 @@ txn_field apdu = txn_id.encode (apdu.txn.group, apdu.txn.transaction)
 abbrev number_field : Apdu → List ℕ
 number_field apdu = element 130 (number_octets apdu.number)
 
+-- If memory ran out in `push_element`, a proper prefix of the version was appended.
 pub returns-in_err-push_element-clause-prefix : goal.returns-in_err-push_element-clause-prefix
 returns-in_err-push_element-clause-prefix c =
     let apdu = c.args.apdu.now in
     at_err c.from_residual.result (adds_first _ _ version_field (txn_field apdu ++ number_field apdu)
     c.in_err-push_element.ensures.prefix)
 
+-- If memory ran out in `push_id`, the version and a proper prefix of the transaction id were appended.
 pub returns-in_err-push_id-clause-prefix : goal.returns-in_err-push_id-clause-prefix
 returns-in_err-push_id-clause-prefix c =
     let apdu = c.args.apdu.now in
@@ -33,6 +35,7 @@ returns-in_err-push_id-clause-prefix c =
     (adds_second _ _ _ version_field (txn_field apdu ++ number_field apdu) c.in_ok-push_element.ensures.bytes
     (adds_first _ _ (txn_field apdu) (number_field apdu) c.in_err-push_id.ensures.prefix))
 
+-- If memory ran out in `push_number`, the version, the id and a proper prefix of the number were appended.
 pub returns-clause-prefix : goal.returns-clause-prefix
 returns-clause-prefix c =
     let apdu = c.args.apdu.now in

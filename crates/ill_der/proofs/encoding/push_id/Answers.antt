@@ -15,6 +15,7 @@ qualifiers_of id = element 129 id.group ++ element 130 id.transaction
 abbrev start_of : Qualifiers → List ℕ
 start_of id = 161 ∷ length_octets (length (qualifiers_of id))
 
+-- If memory ran out in `push_start`, a proper prefix of the identifier and the length was appended.
 pub returns-in_err-push_start-clause-prefix : goal.returns-in_err-push_start-clause-prefix
 unfolding element
 returns-in_err-push_start-clause-prefix c =
@@ -22,6 +23,7 @@ returns-in_err-push_start-clause-prefix c =
     let start : AddsPrefix c.args.bytes.now.items c.push_start.new.bytes.items (start_of id) = search rules in
     at_err c.from_residual.result (adds_first _ _ (start_of id) (qualifiers_of id) start)
 
+-- If memory ran out in the first `push_element`, the start and a proper prefix of the group qualifier were appended.
 pub returns-in_err-push_element-clause-prefix : goal.returns-in_err-push_element-clause-prefix
 unfolding element
 returns-in_err-push_element-clause-prefix c =
@@ -33,6 +35,8 @@ returns-in_err-push_element-clause-prefix c =
     (adds_second _ middle _ (start_of id) (qualifiers_of id) start
     (adds_first _ _ (element 129 id.group) (element 130 id.transaction) group))
 
+-- If memory ran out in the second `push_element`, the start, the group qualifier and a proper prefix of the transaction
+-- qualifier were appended.
 pub returns-clause-prefix : goal.returns-clause-prefix
 unfolding element
 returns-clause-prefix c =

@@ -1,5 +1,6 @@
 -- Proves the contract of `Feed::complete`: a push of the piece, whose first APDU may begin with the held bytes.
 -- The held bytes are unfinished, so the first APDU contains all of them and ends within the piece.
+-- In the answers `first` says what `handle_first` did with the filled bytes, and `was` what the feed held.
 use Rattle.std.proofs.Common.{◌≡◌, ℕ, ◌-◌, length, take, drop, [], None, Option, Result, Ok, Err, refl, sym, ap, subst, ◌∙◌}
 use Rattle.ill_der.specs.declared.fault.DerFault.{DerFault}
 use Rattle.ill_der.specs.ShortForm.{apdu_at}

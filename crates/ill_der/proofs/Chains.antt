@@ -28,9 +28,9 @@ passed true r d x e = (refl, e)
 passed false r d x e = absurd cc
 
 -- If `cond b (Err d) r` gives `x`, `b` is false and `r` gives `x`.
-pub went_on : {E A : Type 0} (b : Bool) (r : Result A E) (d : E) (x : A) → cond b (Err d) r ≡ Ok x → (b ≡ false) × (r ≡ Ok x)
-went_on true r d x e = absurd cc
-went_on false r d x e = (refl, e)
+pub test_failed : {E A : Type 0} (b : Bool) (r : Result A E) (d : E) (x : A) → cond b (Err d) r ≡ Ok x → (b ≡ false) × (r ≡ Ok x)
+test_failed true r d x e = absurd cc
+test_failed false r d x e = (refl, e)
 
 -- If `cond b x y` is `z`, then `x` is `z` for a true `b`, or `y` is `z` for a false one.
 pub chosen : {A : Type 0} (b : Bool) (x y z : A) → cond b x y ≡ z → ((b ≡ true) × (x ≡ z)) ⊎ ((b ≡ false) × (y ≡ z))

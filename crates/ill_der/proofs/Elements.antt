@@ -10,7 +10,7 @@ use Rattle.ill_der.specs.declared.length.LengthForm.{LengthForm}
 use Rattle.ill_der.specs.declared.length.LengthForm.TheVariants.{Truncated, Invalid, Definite}
 use Rattle.ill_der.specs.Format.{length_octets, length_of, element, Cursor, cursor_at, contents_by, begins_with, element_at}
 use Rattle.ill_der.specs.Format.{ended}
-use Rattle.ill_der.proofs.Chains.{passed, went_on, chosen, ok_is, no_value, IsInside, tag_inside, length_inside}
+use Rattle.ill_der.proofs.Chains.{passed, test_failed, chosen, ok_is, no_value, IsInside, tag_inside, length_inside}
 use Rattle.ill_der.specs.Laws.{IsBytes}
 use Rattle.ill_der.proofs.Bytes.{IsBytes-drop, IsBytes-take}
 use Rattle.ill_der.proofs.Lengths.{length_again, length_takes, overhead, few_octets}
@@ -40,7 +40,7 @@ contents_found Invalid left inside rest f e = absurd cc
 contents_found (Definite n octets) left inside rest f e =
     let part : Cursor = cursor_at (left.at + octets) (take n (drop octets left.bytes)) in
     let later : Cursor = cursor_at (left.at + (octets + n)) (drop (octets + n) left.bytes) in
-    let there = went_on (ltb (length left.bytes) (octets + n)) (Ok (part, later)) (Length left.at) (inside, rest) e in
+    let there = test_failed (ltb (length left.bytes) (octets + n)) (Ok (part, later)) (Length left.at) (inside, rest) e in
     let both : (part, later) ≡ (inside, rest) = ok_is (part, later) (inside, rest) there.1 in
     record {
       n = n;

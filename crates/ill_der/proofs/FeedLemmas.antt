@@ -302,10 +302,10 @@ begins_held held piece prefix k size apdu few parts later within begins =
 -- ---- the outcome of a push
 
 -- If the filled bytes begin with an APDU of `end` bytes, it contains all held bytes and ends within `piece`.
-pub goes_on_from : {S F : Type 0} (handles : Handles S F) → AgainLaw
+pub first_ends_in_piece : {S F : Type 0} (handles : Handles S F) → AgainLaw
     → (old new piece : List ℕ) (size filled end : ℕ) (before now : S) → Fills old new size piece filled → Holds size old
     → HandlesFirst handles (take filled new) before (Ok (Ok end)) now → (size ≤ end) × (end - size ≤ length piece)
-goes_on_from handles again old new piece size filled end before now fills is first =
+first_ends_in_piece handles again old new piece size filled end before now fills is first =
     let apdu = first.2 in
     let later = ends_after again (take size old) (take (filled - size) piece) (take filled new) end apdu.0 is.unfinished
     fills.parts first.1 apdu.1 in
@@ -314,12 +314,12 @@ goes_on_from handles again old new piece size filled end before now fills is fir
     (omega (arith, later, long), omega (arith, first.1, whole, fills.count))
 
 -- If the first APDU of `held ++ piece` was handled, handling the rest has the outcome of a push of `piece`.
-on_after : {S F : Type 0} (handles : Handles S F) (held piece later : List ℕ) (apdu : Apdu) (before now after : S)
+push_after_first : {S F : Type 0} (handles : Handles S F) (held piece later : List ℕ) (apdu : Apdu) (before now after : S)
     (result : Result (Option DerFault) F) (new : FeedState)
     → Begins (held ++ piece) (apdu ∷ []) later → handles before apdu (Ok tt) now
     → HandlesRest handles (Ok held, now) later result (new, after)
     → HandlesEach handles (Ok held, before) piece result (new, after)
-on_after handles held piece later apdu before now after (Ok fault) new begins first on =
+push_after_first handles held piece later apdu before now after (Ok fault) new begins first on =
     let others = on.1 in
     let feeds = others.1 in (
       on.0,
@@ -329,13 +329,13 @@ on_after handles held piece later apdu before now after (Ok fault) new begins fi
         (now, first, others.2),
       ),
     )
-on_after handles held piece later apdu before now after (Err fault) new begins first on =
+push_after_first handles held piece later apdu before now after (Err fault) new begins first on =
     (on.0, fails_later handles (held ++ piece) later before now after apdu fault begins first on.1)
 
 -- If the first APDU of the filled bytes was handled, handling the rest has the outcome of a push of `piece`.
 -- `begun` says that `held ++ piece` begins with this APDU. `on_rest` is `on`, with the slice of `piece` as a `drop`,
 -- and `on_held` is that with the held bytes of `old`.
-pub goes_on_after : {S F : Type 0} (handles : Handles S F) → AgainLaw
+pub push_after_filled : {S F : Type 0} (handles : Handles S F) → AgainLaw
     → (old new piece : List ℕ) (size filled end : ℕ) (before now after : S) (was : FeedState)
     (result : Result (Option DerFault) F)
     (feed : FeedState)
@@ -344,9 +344,9 @@ pub goes_on_after : {S F : Type 0} (handles : Handles S F) → AgainLaw
     → HandlesRest handles (Ok (take size new), now) (take (length piece - (end - size)) (drop (end - size) piece)) result
     (feed, after)
     → HandlesEach handles (was, before) piece result (feed, after)
-goes_on_after handles again old new piece size filled end before now after was result feed fills is opened first on =
+push_after_filled handles again old new piece size filled end before now after was result feed fills is opened first on =
     let held = take size old in
-    let there = goes_on_from handles again old new piece size filled end before now fills is first in
+    let there = first_ends_in_piece handles again old new piece size filled end before now fills is first in
     let long : length held ≡ size = length-take-le size old (omega (arith, fills.few, fills.room)) in
     let later : length held ≤ end = omega (arith, long, there.0) in
     let few : filled - size ≤ length piece = omega (arith, fills.count) in
@@ -358,27 +358,27 @@ goes_on_after handles again old new piece size filled end before now after was r
     let on_held = subst (λ (x : List ℕ). HandlesRest handles (Ok x, now) (drop (end - size) piece) result (feed, after))
     (still_held old new piece size filled fills) on_rest in
     subst (λ (h : FeedState). HandlesEach handles (h, before) piece result (feed, after)) (sym opened)
-    (on_after handles held piece (drop (end - size) piece) apdu.0 before now after result feed begun apdu.2 on_held)
+    (push_after_first handles held piece (drop (end - size) piece) apdu.0 before now after result feed begun apdu.2 on_held)
 
 -- If nothing was held, handling `piece` has the outcome of a push of `piece`.
-on_alone : {S F : Type 0} (handles : Handles S F) (held piece : List ℕ) (before after : S) (result : Result (Option DerFault) F)
+push_when_empty : {S F : Type 0} (handles : Handles S F) (held piece : List ℕ) (before after : S) (result : Result (Option DerFault) F)
     (new : FeedState)
     → held ≡ []
     → HandlesRest handles (Ok held, before) piece result (new, after)
     → HandlesEach handles (Ok held, before) piece result (new, after)
-on_alone handles held piece before after (Ok fault) new none on =
+push_when_empty handles held piece before after (Ok fault) new none on =
     subst (λ (x : List ℕ). HandlesEach handles (Ok x, before) piece (Ok fault) (new, after)) (sym none) on
-on_alone handles held piece before after (Err fault) new none on =
+push_when_empty handles held piece before after (Err fault) new none on =
     (on.0, subst (λ (x : List ℕ). FailsIn handles (x ++ piece) before fault after) (sym none) on.1)
 
 -- If `was` is open and holds nothing, handling `piece` has the outcome of a push of `piece`.
-pub goes_on_alone : {S F : Type 0} (handles : Handles S F) (held piece : List ℕ) (before after : S) (was : FeedState)
+pub push_when_open_and_empty : {S F : Type 0} (handles : Handles S F) (held piece : List ℕ) (before after : S) (was : FeedState)
     (result : Result (Option DerFault) F) (new : FeedState)
     → was ≡ Ok held → held ≡ []
     → HandlesRest handles (was, before) piece result (new, after) → HandlesEach handles (was, before) piece result (new, after)
-goes_on_alone handles held piece before after was result new opened none on =
+push_when_open_and_empty handles held piece before after was result new opened none on =
     subst (λ (h : FeedState). HandlesEach handles (h, before) piece result (new, after)) (sym opened)
-    (on_alone handles held piece before after result new none
+    (push_when_empty handles held piece before after result new none
     (subst (λ (h : FeedState). HandlesRest handles (h, before) piece result (new, after)) opened on))
 
 -- If `held ++ piece` begins with no APDU and leaves `new`, a push of `piece` handles no APDU and keeps the state.

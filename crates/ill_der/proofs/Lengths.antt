@@ -31,9 +31,9 @@ long_form n le = let big : 128 ≤ n = omega arith in rw (le-ltb n 128 big, le-l
 -- ---- an encoding is read as its length
 
 -- If `n` is at least 1, the test for 0 is false.
-not_zero : (n : ℕ) → 1 ≤ n → eqb n 0 ≡ false
-not_zero zero h = absurd (omega arith)
-not_zero (suc n) h = eqb-suc-zero n
+test_of_positive : (n : ℕ) → 1 ≤ n → eqb n 0 ≡ false
+test_of_positive zero h = absurd (omega arith)
+test_of_positive (suc n) h = eqb-suc-zero n
 
 -- `length_of` reads each length below 65536 from its octets, whatever follows.
 pub length_again : (n : ℕ) (more : List ℕ) → n < 65536
@@ -45,16 +45,16 @@ length_again n more small =
       | inr le ↦ elim (cases_lt n 256) [
         | inl lt ↦ rw (middle_form n le lt) (rw (le-ltb n 128 le) refl)
         | inr big ↦
-            let high : eqb (n / 256) 0 ≡ false = not_zero (n / 256) (omega arith) in
+            let high : eqb (n / 256) 0 ≡ false = test_of_positive (n / 256) (omega arith) in
             let value : 256 * (n / 256) + n % 256 ≡ n = omega arith in
             rw (long_form n big) (rw (high, value) refl)
       ]
     ]
 
 -- If the test of `n` for 0 is false, `n` is at least 1.
-not_zero_is : (n : ℕ) → eqb n 0 ≡ false → 1 ≤ n
-not_zero_is zero e = absurd (let both : eqb 0 0 ≡ false = e in cc)
-not_zero_is (suc n) e = omega arith
+positive_of_test : (n : ℕ) → eqb n 0 ≡ false → 1 ≤ n
+positive_of_test zero e = absurd (let both : eqb 0 0 ≡ false = e in cc)
+positive_of_test (suc n) e = omega arith
 
 -- ---- octets that are read as a length are its encoding
 
@@ -63,9 +63,9 @@ abbrev pub IsEncodedLength : List ℕ → ℕ → ℕ → Type 0
 IsEncodedLength bytes n octets = (bytes ≡ length_octets n ++ drop octets bytes) × (length (length_octets n) ≡ octets)
 
 -- If `Definite a b` is `Definite n octets`, `IsEncodedLength` for `a` and `b` gives it for `n` and `octets`.
-along : (bytes : List ℕ) (a b n octets : ℕ) → Definite a b ≡ Definite n octets → IsEncodedLength bytes a b
+with_equal_form : (bytes : List ℕ) (a b n octets : ℕ) → Definite a b ≡ Definite n octets → IsEncodedLength bytes a b
     → IsEncodedLength bytes n octets
-along bytes a b n octets e h =
+with_equal_form bytes a b n octets e h =
     let ea : a ≡ n = cc in
     let eb : b ≡ octets = cc in
     subst (λ (x : ℕ). IsEncodedLength bytes x octets) ea (subst (λ (x : ℕ). IsEncodedLength bytes a x) eb h)
@@ -77,7 +77,7 @@ one_takes [] n octets fits e = absurd cc
 one_takes (m ∷ rest) n octets fits e =
     elim (chosen (ltb m 128) Invalid (Definite m 2) (Definite n octets) e) [
       | inl h ↦ absurd (let no_form : Invalid ≡ Definite n octets = h.1 in cc)
-      | inr h ↦ along (0x81 ∷ m ∷ rest) m 2 n octets h.1 (rw (middle_form m (ltb-false m 128 h.0) (fits 0)) (refl, refl))
+      | inr h ↦ with_equal_form (0x81 ∷ m ∷ rest) m 2 n octets h.1 (rw (middle_form m (ltb-false m 128 h.0) (fits 0)) (refl, refl))
     ]
 
 -- If `two_octet_length rest` is `Definite n octets`, 82 and `rest` begin with the length octets of `n`.
@@ -89,11 +89,11 @@ two_takes (high ∷ low ∷ rest) n octets fits e =
     elim (chosen (eqb high 0) Invalid (Definite (256 * high + low) 3) (Definite n octets) e) [
       | inl h ↦ absurd (let no_form : Invalid ≡ Definite n octets = h.1 in cc)
       | inr h ↦
-          let positive : 1 ≤ high = not_zero_is high h.0 in
+          let positive : 1 ≤ high = positive_of_test high h.0 in
           let small : low < 256 = fits 1 in
           let quotient : (256 * high + low) / 256 ≡ high = omega arith in
           let remainder : (256 * high + low) % 256 ≡ low = omega arith in
-          along (0x82 ∷ high ∷ low ∷ rest) (256 * high + low) 3 n octets h.1
+          with_equal_form (0x82 ∷ high ∷ low ∷ rest) (256 * high + low) 3 n octets h.1
           (rw (long_form (256 * high + low) (omega arith), quotient, remainder) (refl, refl))
     ]
 
@@ -108,7 +108,7 @@ length_takes (first ∷ rest) n octets fits e =
     elim (chosen (ltb first 128) (Definite first 1)
     (cond (eqb first 0x81) (one_octet_length rest) (cond (eqb first 0x82) (two_octet_length rest) Invalid))
     (Definite n octets) e) [
-      | inl h ↦ along (first ∷ rest) first 1 n octets h.1 (rw (short_form first (ltb-true first 128 h.0)) (refl, refl))
+      | inl h ↦ with_equal_form (first ∷ rest) first 1 n octets h.1 (rw (short_form first (ltb-true first 128 h.0)) (refl, refl))
       | inr h ↦ elim (chosen (eqb first 0x81) (one_octet_length rest) (cond (eqb first 0x82) (two_octet_length rest) Invalid)
           (Definite n octets) h.1) [
             | inl g ↦ subst (λ (x : ℕ). IsEncodedLength (x ∷ rest) n octets) (sym (eqb-true first 0x81 g.0))

@@ -107,9 +107,9 @@ wanted_outer (first ∷ bytes) more lt =
     (subst (λ (k : ℕ). length more < k) (missing_is first bytes) lt) ∙ ap (λ (k : ℕ). Err (Short k)) (omega arith)
 
 -- If `more` has fewer bytes than `bytes` lacks, `bytes ++ more` is unfinished.
-pub wanted : (bytes more : List ℕ) → length more < missing_of bytes → IsUnfinished (bytes ++ more)
+pub unfinished_with_fewer : (bytes more : List ℕ) → length more < missing_of bytes → IsUnfinished (bytes ++ more)
 unfolding apdu_at
-wanted bytes more lt = rw (wanted_outer bytes more lt) refl
+unfinished_with_fewer bytes more lt = rw (wanted_outer bytes more lt) refl
 
 -- ---- bytes that lack none
 
@@ -146,9 +146,9 @@ enough_outer (first ∷ bytes) n none e =
     enough_of (type_with first) bytes n (sym (missing_is first bytes) ∙ none) (sym (outer_is first bytes) ∙ e)
 
 -- If `bytes` lacks no byte, `apdu_at bytes` is not Short.
-enough : Values → (bytes : List ℕ) (n : ℕ) → missing_of bytes ≡ 0 → apdu_at bytes ≡ Err (Short n) → ⊥
+never_short : Values → (bytes : List ℕ) (n : ℕ) → missing_of bytes ≡ 0 → apdu_at bytes ≡ Err (Short n) → ⊥
 unfolding apdu_at
-enough values bytes n none e =
+never_short values bytes n none e =
     elim (bind_err (outer_at bytes) (λ outer. inside_of outer.apdu_type outer.inside >>= λ apdu. Ok (apdu, drop outer.size bytes))
     (Short n) e) [
       | inl h ↦ enough_outer bytes n none h
@@ -161,7 +161,7 @@ enough values bytes n none e =
 
 -- If `bytes` lacks no byte, its fault is not Short.
 pub not_short : Values → (bytes : List ℕ) (fault : DerFault) → missing_of bytes ≡ 0 → apdu_at bytes ≡ Err fault → IfShort fault ⊥
-not_short values bytes (Short n) none e = enough values bytes n none e
+not_short values bytes (Short n) none e = never_short values bytes n none e
 not_short values bytes (Tag at) none e = tt
 not_short values bytes (Length at) none e = tt
 not_short values bytes (Field at) none e = tt
@@ -190,11 +190,11 @@ judged_fault values bytes (Field at) fits prefixes none h = refused values bytes
 
 -- Let `bytes` lack no byte, and let its proper prefixes be unfinished.
 -- If decoding has `fault`, and `r` is the error `read_fault fault`, `r` is the right result for `bytes` (`IsJudged`).
-pub handed_on : Values → (bytes : List ℕ) (fault : DerFault) (r : Result (Option Apdu) ReadFault) → IsBytes bytes
+pub judged_error : Values → (bytes : List ℕ) (fault : DerFault) (r : Result (Option Apdu) ReadFault) → IsBytes bytes
     → AreUnfinished bytes → missing_of bytes ≡ 0
     → Decodes bytes (apdu_at bytes) (Err fault) → IsErrAnd r (λ handed. handed ≡ read_fault fault) → IsJudged bytes r
-handed_on values bytes fault (Ok found) fits prefixes none h is = absurd is
-handed_on values bytes fault (Err handed) fits prefixes none h is =
+judged_error values bytes fault (Ok found) fits prefixes none h is = absurd is
+judged_error values bytes fault (Err handed) fits prefixes none h is =
     subst (λ (f : ReadFault). IsJudged bytes (Err f)) (sym is) (judged_fault values bytes fault fits prefixes none h)
 
 -- ---- no APDU is longer than 359 bytes
@@ -231,7 +231,7 @@ most_missing (first ∷ bytes) some =
 
 -- If `bytes` lacks a byte, it is unfinished.
 pub unfinished_alone : (bytes : List ℕ) → 0 < missing_of bytes → IsUnfinished bytes
-unfinished_alone bytes some = subst IsUnfinished (append-nil bytes) (wanted bytes [] some)
+unfinished_alone bytes some = subst IsUnfinished (append-nil bytes) (unfinished_with_fewer bytes [] some)
 
 -- Let `prefix` have unfinished proper prefixes, and `more` at most the bytes that it lacks.
 -- Then the proper prefixes of `prefix ++ more` are unfinished.
@@ -245,7 +245,7 @@ read_on prefix more prefixes few size lt =
           ap (λ (m : ℕ). take m (prefix ++ more)) (let e : size ≡ length prefix + k = omega (arith, le) in e)
           ∙ take-append-add prefix more k in
           let fewer : k < length more = omega (arith, le, lt, length-append prefix more) in
-          subst IsUnfinished (sym is) (wanted prefix (take k more)
+          subst IsUnfinished (sym is) (unfinished_with_fewer prefix (take k more)
           (omega (arith, few, fewer, length-take-le k more (omega (arith, fewer)))))
     ]
 

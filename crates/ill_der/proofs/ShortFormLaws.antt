@@ -28,7 +28,7 @@ use Rattle.ill_der.specs.Types.{identifier_of, type_with}
 use Rattle.ill_der.specs.ShortForm.{txn_id, head, request, due_date, answer, reply, wish, grant, encode_body, made_of, read_body}
 use Rattle.ill_der.specs.ShortForm.{contents_of, encoding, Outer, header_by, header_of, header_at, outer_by, outer_at, body_of}
 use Rattle.ill_der.specs.ShortForm.{inside_of, apdu_at}
-use Rattle.ill_der.proofs.Chains.{bind_ok, bind_err, went_on, chosen, done, ok_is, no_value, short_is, short_or_memory, IsInside}
+use Rattle.ill_der.proofs.Chains.{bind_ok, bind_err, test_failed, chosen, done, ok_is, no_value, short_is, short_or_memory, IsInside}
 use Rattle.ill_der.proofs.Chains.{tag_inside, length_inside, fault_is}
 use Rattle.ill_der.specs.Laws.{IsBytes}
 use Rattle.ill_der.proofs.Bytes.{IsBytes-drop, IsBytes-take}
@@ -482,10 +482,10 @@ outer_by_takes : (first : ℕ) (apdu_type : ApduType) (form : LengthForm) (bytes
 outer_by_takes first apdu_type Truncated bytes outer fits k f e = absurd cc
 outer_by_takes first apdu_type Invalid bytes outer fits k f e = absurd cc
 outer_by_takes first apdu_type (Definite n octets) bytes outer fits k f e =
-    let small = went_on (ltb 355 n)
+    let small = test_failed (ltb 355 n)
     (cond (ltb (length bytes) (octets + n)) (Err (Short (length bytes + 1))) (Ok (outer_with apdu_type n octets bytes)))
     (Length 1) outer e in
-    let whole = went_on (ltb (length bytes) (octets + n)) (Ok (outer_with apdu_type n octets bytes)) (Short (length bytes + 1))
+    let whole = test_failed (ltb (length bytes) (octets + n)) (Ok (outer_with apdu_type n octets bytes)) (Short (length bytes + 1))
     outer small.1 in
     let is : outer_with apdu_type n octets bytes ≡ outer = ok_is (outer_with apdu_type n octets bytes) outer whole.1 in
     let enough = ltb-false (length bytes) (octets + n) whole.0 in
@@ -697,32 +697,32 @@ IsFinal (Definite n octets) = Unit {0}
 
 -- If a choice is final with Truncated in its cases `one` and `two`, `y` and `z` in these cases change nothing.
 -- In `length_more` these cases are a single octet 81 or 82, after which the length is missing.
-form_of_one : (short one two : Bool) (x y z w : LengthForm)
+final_after_one_octet : (short one two : Bool) (x y z w : LengthForm)
     → IsFinal (cond short x (cond one Truncated (cond two Truncated w)))
     → cond short x (cond one y (cond two z w)) ≡ cond short x (cond one Truncated (cond two Truncated w))
-form_of_one true one two x y z w final = refl
-form_of_one false true two x y z w final = absurd final
-form_of_one false false true x y z w final = absurd final
-form_of_one false false false x y z w final = refl
+final_after_one_octet true one two x y z w final = refl
+final_after_one_octet false true two x y z w final = absurd final
+final_after_one_octet false false true x y z w final = absurd final
+final_after_one_octet false false false x y z w final = refl
 
 -- If a choice is final with Truncated in its case `two`, `z` in this case changes nothing.
 -- In `length_more` this case is an octet 82, after which one of two octets is missing.
-form_of_two : (short one two : Bool) (x y z w : LengthForm) → IsFinal (cond short x (cond one y (cond two Truncated w)))
+final_after_two_octets : (short one two : Bool) (x y z w : LengthForm) → IsFinal (cond short x (cond one y (cond two Truncated w)))
     → cond short x (cond one y (cond two z w)) ≡ cond short x (cond one y (cond two Truncated w))
-form_of_two true one two x y z w final = refl
-form_of_two false true two x y z w final = refl
-form_of_two false false true x y z w final = absurd final
-form_of_two false false false x y z w final = refl
+final_after_two_octets true one two x y z w final = refl
+final_after_two_octets false true two x y z w final = refl
+final_after_two_octets false false true x y z w final = absurd final
+final_after_two_octets false false false x y z w final = refl
 
 -- If `bytes` begins with a final length, `bytes ++ more` begins with an equal one.
 pub length_more : (bytes more : List ℕ) → IsFinal (length_of bytes) → length_of (bytes ++ more) ≡ length_of bytes
 unfolding length_of
 length_more [] more final = absurd final
 length_more (first ∷ []) more final =
-    form_of_one (ltb first 128) (eqb first 0x81) (eqb first 0x82) (Definite first 1) (one_octet_length more)
+    final_after_one_octet (ltb first 128) (eqb first 0x81) (eqb first 0x82) (Definite first 1) (one_octet_length more)
     (two_octet_length more) Invalid final
 length_more (first ∷ second ∷ []) more final =
-    form_of_two (ltb first 128) (eqb first 0x81) (eqb first 0x82) (Definite first 1) (one_octet_length (second ∷ []))
+    final_after_two_octets (ltb first 128) (eqb first 0x81) (eqb first 0x82) (Definite first 1) (one_octet_length (second ∷ []))
     (two_octet_length (second ∷ more)) Invalid final
 length_more (first ∷ second ∷ third ∷ rest) more final = refl
 
@@ -740,10 +740,10 @@ outer_by_more : (apdu_type : ApduType) (form : LengthForm) (bytes more : List �
 outer_by_more apdu_type Truncated bytes more outer e = absurd cc
 outer_by_more apdu_type Invalid bytes more outer e = absurd cc
 outer_by_more apdu_type (Definite n octets) bytes more outer e =
-    let small = went_on (ltb 355 n)
+    let small = test_failed (ltb 355 n)
     (cond (ltb (length bytes) (octets + n)) (Err (Short (length bytes + 1))) (Ok (outer_with apdu_type n octets bytes)))
     (Length 1) outer e in
-    let whole = went_on (ltb (length bytes) (octets + n)) (Ok (outer_with apdu_type n octets bytes)) (Short (length bytes + 1))
+    let whole = test_failed (ltb (length bytes) (octets + n)) (Ok (outer_with apdu_type n octets bytes)) (Short (length bytes + 1))
     outer small.1 in
     let enough = ltb-false (length bytes) (octets + n) whole.0 in
     let longer : ltb (length (bytes ++ more)) (octets + n) ≡ false = le-ltb _ _ (omega (arith, length-append bytes more)) in

@@ -14,7 +14,7 @@ use Rattle.ill_text.specs.declared.fault.ToolFault.TheVariants.{Arguments, OutOf
 use Rattle.ill_saved.specs.Holdings.{Effects}
 use Rattle.ill_saved.specs.ManySides.{DeskContents, many_sides}
 use Rattle.ill_desk.specs.Performing.{CommandState}
-use Rattle.ill_desk.specs.Act.{EntersDone, NamesNone, RunsAct, fine_of}
+use Rattle.ill_desk.specs.Act.{EntersDone, FailsToName, RunsAct, fine_of}
 use Rattle.ill_desk.specs.ActAs.{Asking, EntersUnlessTried, IfSo, RunsActAs, RunsTrial, WritesChange, action_asked, is_as_seen}
 use Rattle.ill_desk.specs.ActAs.{not_done}
 use Rattle.ill_desk.specs.Telling.{Words, WritesOutcome, is_fine, shown_at}
@@ -32,7 +32,7 @@ module _ {L K : Type 0} (effects : Effects L K) (key : K) where
       (inl refl, refl, Appends-nil now.written)
 
   -- If the words have no action because of `fault`, `act` may return it when it writes and changes nothing.
-  pub not_named : (named : Option Action) (now : CommandState L) (fault : ToolFault) → NamesNone named fault
+  pub not_named : (named : Option Action) (now : CommandState L) (fault : ToolFault) → FailsToName named fault
       → RunsAct effects key named now (Err fault) now
   not_named named now fault is = elim is [
     | inl none ↦
@@ -53,7 +53,7 @@ module _ {L K : Type 0} (effects : Effects L K) (key : K) where
       (inl refl, refl, Appends-nil now.written)
 
   -- If the words have no action because of `fault`, a trial may return it when it writes and changes nothing.
-  pub not_tried : (named : Option Action) (now : CommandState L) (fault : ToolFault) → NamesNone named fault
+  pub not_tried : (named : Option Action) (now : CommandState L) (fault : ToolFault) → FailsToName named fault
       → RunsTrial effects key named now (Err fault) now
   not_tried named now fault is = elim is [
     | inl none ↦

@@ -19,8 +19,8 @@ ActsAndSaves effects key old action result new =
     Performs effects (Unit {0}) old (acted old.live (effects.acts old.live key action)) result new
 
 -- `fault` is `Arguments`, and the words name no action (`named` is none). Or `fault` is `OutOfMemory`.
-abbrev pub NamesNone : Option Action → ToolFault → Type 0
-NamesNone named fault = ((fault ≡ Arguments) × (named ≡ None)) ⊎ (fault ≡ OutOfMemory)
+abbrev pub FailsToName : Option Action → ToolFault → Type 0
+FailsToName named fault = ((fault ≡ Arguments) × (named ≡ None)) ⊎ (fault ≡ OutOfMemory)
 
 -- The command `act`. If the words name an action, it was performed, and its line written. If they name none,
 -- nothing changed. The fault `OutOfMemory` is possible in both cases.

@@ -8,7 +8,7 @@ ghost use Rattle.ill_saved.specs.ManySides.{many_sides};
 ghost use Rattle.ill_desk.specs.Performing.{command_state, view_of};
 ghost use Rattle.ill_text.specs.Diary.{diary_state};
 ghost use Rattle.ill_text.specs.Fault.{CountsToolFailure};
-ghost use Rattle.ill_desk.specs.Act.{ActsAndSaves, EntersDone, NamesNone, RunsAct, fine_of};
+ghost use Rattle.ill_desk.specs.Act.{ActsAndSaves, EntersDone, FailsToName, RunsAct, fine_of};
 
 use crate::action::action;
 use crate::refusal::refused;
@@ -89,7 +89,7 @@ pub(crate) fn named(
     words: &[&str],
 ) -> Result<Action, ToolFault>
     ensures action { IfOk result (λ action. action_named role today (map (λ word. word.now) words.now) ≡ Some action) }
-    ensures fault { IfErr result (λ fault. NamesNone (action_named role today (map (λ word. word.now) words.now)) fault) }
+    ensures fault { IfErr result (λ fault. FailsToName (action_named role today (map (λ word. word.now) words.now)) fault) }
 {
     match action(alloc, role, today, words) {
         Ok(Some(action)) => Ok(action),

@@ -52,12 +52,12 @@ pub record LeftLast (files : List File) (after : List File) : Type 0 where
   pub left : AreLeft files first
 
 -- If a crash may leave `after` of `files` and a new file `f`, it may leave all but the last of `after` of `files`.
-pub left_first : (files : List File) (f : File) (after : List File) → AreLeft (files ++ f ∷ []) after → LeftLast files after
-left_first [] f [] left = absurd left
-left_first [] f (g ∷ []) left = record { first = []; last = g; is = refl; left = tt }
-left_first [] f (g ∷ h ∷ after) left = absurd left.1
-left_first (e ∷ files) f [] left = absurd left
-left_first (e ∷ files) f (g ∷ after) left = let rest = left_first files f after left.1 in record {
+pub left_without_last : (files : List File) (f : File) (after : List File) → AreLeft (files ++ f ∷ []) after → LeftLast files after
+left_without_last [] f [] left = absurd left
+left_without_last [] f (g ∷ []) left = record { first = []; last = g; is = refl; left = tt }
+left_without_last [] f (g ∷ h ∷ after) left = absurd left.1
+left_without_last (e ∷ files) f [] left = absurd left
+left_without_last (e ∷ files) f (g ∷ after) left = let rest = left_without_last files f after left.1 in record {
   first = g ∷ rest.first;
   last = rest.last;
   is = ap (λ (l : List File). g ∷ l) rest.is;
@@ -168,16 +168,16 @@ with_all_bytes [] = []
 with_all_bytes (f ∷ files) = record { bytes = f.bytes; is_flushed = true } ∷ with_all_bytes files
 
 -- A crash may leave all bytes of `files`.
-pub settled_left : (files : List File) → AreLeft files (with_all_bytes files)
-settled_left [] = tt
-settled_left (f ∷ files) = (record { bytes = λ was. refl; flushed = refl }, settled_left files)
+pub all_bytes_left : (files : List File) → AreLeft files (with_all_bytes files)
+all_bytes_left [] = tt
+all_bytes_left (f ∷ files) = (record { bytes = λ was. refl; flushed = refl }, all_bytes_left files)
 
 -- If `names` may stand on the disk `d`, some crash of `d` leaves a disk with these names.
 pub each_may_stand : (d : Disk) (names : List Name) → In d.may_stand names →
     (after : Disk) × Crash d after × (after.names ≡ names)
 each_may_stand d names stands = (
   record { files = with_all_bytes d.files; names = names; may_stand = names ∷ [] },
-  record { names = stands; only = refl; files = settled_left d.files },
+  record { names = stands; only = refl; files = all_bytes_left d.files },
   refl,
 )
 
@@ -203,7 +203,7 @@ any_left (e ∷ files) zero f bytes found unflushed = record {
       bytes = λ was. absurd (true≢false (sym was ∙ ap flushed_or_none found ∙ unflushed));
       flushed = refl;
     },
-    settled_left files,
+    all_bytes_left files,
   );
   is = refl;
 }

@@ -22,15 +22,15 @@ followed_by_none [] = refl
 followed_by_none {X = X} (x ∷ xs) = ap (λ (l : List X). x ∷ l) (followed_by_none xs)
 
 -- Appending of lists is associative.
-together : {X : Type 0} (xs ys zs : List X) → (xs ++ ys) ++ zs ≡ xs ++ (ys ++ zs)
-together [] ys zs = refl
-together {X = X} (x ∷ xs) ys zs = ap (λ (l : List X). x ∷ l) (together xs ys zs)
+append_associative : {X : Type 0} (xs ys zs : List X) → (xs ++ ys) ++ zs ≡ xs ++ (ys ++ zs)
+append_associative [] ys zs = refl
+append_associative {X = X} (x ∷ xs) ys zs = ap (λ (l : List X). x ∷ l) (append_associative xs ys zs)
 
 -- ---- moments
 
 -- If the disk of the state `old` has P, each disk from `old` to `old` has P, since no other has passed.
-pub begins : {P : Disk → Type 0} {old : DiskState} → P old.now → Throughout P old old
-begins {old = old} has = record {
+pub throughout_nothing : {P : Disk → Type 0} {old : DiskState} → P old.now → Throughout P old old
+throughout_nothing {old = old} has = record {
   during = [];
   past = no_more old.past;
   each = λ d none. absurd none;
@@ -42,17 +42,17 @@ begins {old = old} has = record {
   no_more (Some disks) = ap (λ (l : List Disk). Some l) (followed_by_none disks)
 
 -- The past followed by `first` and then by `second` is the past followed by `first ++ second`.
-twice : (past : Option (List Disk)) (first second : List Disk) →
+followed_twice : (past : Option (List Disk)) (first second : List Disk) →
     followed_by (followed_by past first) second ≡ followed_by past (first ++ second)
-twice None first second = refl
-twice (Some disks) first second = ap (λ (l : List Disk). Some l) (together disks first second)
+followed_twice None first second = refl
+followed_twice (Some disks) first second = ap (λ (l : List Disk). Some l) (append_associative disks first second)
 
 -- If each disk from `old` to `now` has P, and each from `now` to `new`, each disk from `old` to `new` has P.
 pub joins : {P : Disk → Type 0} {old now new : DiskState} → Throughout P old now → Throughout P now new → Throughout P old new
 joins {P = P} {old = old} {now = now} {new = new} first second = record {
   during = first.during ++ second.during;
   past = second.past ∙ ap (λ (p : Option (List Disk)). followed_by p second.during) first.past
-      ∙ twice old.past first.during second.during;
+      ∙ followed_twice old.past first.during second.during;
   each = λ d passed. ⊎_elim (first.each d) (second.each d) (in_append first.during second.during d passed);
   last = second.last;
 }
@@ -70,17 +70,17 @@ holds_too {P = P} {Q = Q} {old = old} {new = new} gives held = record {
 -- Let each disk from `old` to `now` have P, and let a call lead from `now` to `new` (`Passes`).
 -- If the disk of `new` has P, each disk from `old` to `new` has P.
 -- The cases are: the call adds the disk of `now` to the past, and it changes nothing.
-pub goes_on : {P : Disk → Type 0} {old now new : DiskState} → Throughout P old now → Passes now new → P new.now →
+pub one_more_call : {P : Disk → Type 0} {old now new : DiskState} → Throughout P old now → Passes now new → P new.now →
     Throughout P old new
-goes_on {P = P} {old = old} {now = now} {new = new} so_far (inl grown) has = record {
+one_more_call {P = P} {old = old} {now = now} {new = new} so_far (inl grown) has = record {
   during = so_far.during ++ now.now ∷ [];
   past = grown ∙ ap (λ (p : Option (List Disk)). followed_by p (now.now ∷ [])) so_far.past
-      ∙ twice old.past so_far.during (now.now ∷ []);
+      ∙ followed_twice old.past so_far.during (now.now ∷ []);
   each = λ d passed. ⊎_elim (so_far.each d) (λ is. ⊎_elim (λ same. subst P (sym same) so_far.last) (λ none. absurd none) is)
       (in_append so_far.during (now.now ∷ []) d passed);
   last = has;
 }
-goes_on so_far (inr same) has = record {
+one_more_call so_far (inr same) has = record {
   during = so_far.during;
   past = same.0 ∙ so_far.past;
   each = so_far.each;
@@ -107,10 +107,10 @@ each_moment P old new d held (meanwhile before during was is passed) =
 -- ---- answers
 
 -- If `new` is neither `old` nor `change old`, no answer of a call that makes `change` leads to it (`Changes`).
-neither : {E : Type 0} (change : Disk → Disk) (old new : Disk) (answer : Result (Unit {0}) E) → Changes change old answer new →
+no_other_change : {E : Type 0} (change : Disk → Disk) (old new : Disk) (answer : Result (Unit {0}) E) → Changes change old answer new →
     (new ≡ old → ⊥) → (new ≡ change old → ⊥) → ⊥
-neither change old new (Ok done) is not_old not_new = not_new is
-neither change old new (Err fault) is not_old not_new = ⊎_elim not_old not_new is
+no_other_change change old new (Ok done) is not_old not_new = not_new is
+no_other_change change old new (Err fault) is not_old not_new = ⊎_elim not_old not_new is
 
 -- If the answer of a call that makes `change` is a success, `new` is `change old`.
 done_is : {E : Type 0} (change : Disk → Disk) (old new : Disk) (done : Unit {0}) (answer : Result (Unit {0}) E) →
@@ -124,7 +124,7 @@ pub no_bad_answer : {E : Type 0} (change : Disk → Disk) (old : DiskState) (ans
 no_bad_answer change old answer new given (not_changed done h is differ) =
     differ (done_is change old.now new.now done answer is (given.done h))
 no_bad_answer change old answer new given (other_change h not_old not_new) =
-    neither change old.now new.now answer (given.done h) not_old not_new
+    no_other_change change old.now new.now answer (given.done h) not_old not_new
 no_bad_answer change old answer new given (broken h differ) = differ (given.whole h)
 no_bad_answer change old answer new given (past_lost before h was differ lost) = ⊎_elim
     (λ grown. lost (grown ∙ ap (λ (p : Option (List Disk)). followed_by p (old.now ∷ [])) was))

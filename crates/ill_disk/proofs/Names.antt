@@ -6,9 +6,9 @@ use Rattle.std.proofs.lemmas.Slice.Eq.{bytes_eq-Decides}
 use Rattle.ill_disk.specs.Disk.{Name, found_at, without, with_name, with_rename, AreMade}
 
 -- A test is true or false.
-either : (b : Bool) → (b ≡ true) ⊎ (b ≡ false)
-either true = inl refl
-either false = inr refl
+true_or_false : (b : Bool) → (b ≡ true) ⊎ (b ≡ false)
+true_or_false true = inl refl
+true_or_false false = inr refl
 
 -- The test `bytes_eq` of a path and itself is true.
 pub same_path : (path : List ℕ) → bytes_eq path path ≡ true
@@ -16,7 +16,7 @@ same_path path = (bytes_eq-Decides path path).1 refl
 
 -- If the paths `p` and `q` differ, the test `bytes_eq p q` is false.
 pub other_path : (p q : List ℕ) → (p ≡ q → ⊥) → bytes_eq p q ≡ false
-other_path p q differ = ⊎_elim (λ same. absurd (differ ((bytes_eq-Decides p q).0 same))) (λ is. is) (either (bytes_eq p q))
+other_path p q differ = ⊎_elim (λ same. absurd (differ ((bytes_eq-Decides p q).0 same))) (λ is. is) (true_or_false (bytes_eq p q))
 
 -- If `file` is put at `path`, it is found there.
 pub found_with : (path : List ℕ) (file : ℕ) (names : List Name) → found_at path (with_name path file names) ≡ Some file
@@ -31,7 +31,7 @@ found_without path (name ∷ names) = ⊎_elim
     (λ other. ap (λ (b : Bool). found_at path (if b then without path names else name ∷ without path names)) other
     ∙ ap (λ (b : Bool). if b then Some name.file else found_at path (without path names)) other
     ∙ found_without path names)
-    (either (bytes_eq path name.path))
+    (true_or_false (bytes_eq path name.path))
 
 -- If `q` is another path than `p`, removing `q` does not change what is found at `p`. The cases are: the first name is
 -- at `q`, and it is not.
@@ -46,7 +46,7 @@ found_without_other p q (name ∷ names) differ = ⊎_elim
     (λ other. ap (λ (b : Bool). found_at p (if b then without q names else name ∷ without q names)) other
     ∙ ap (λ (rest : Option ℕ). if bytes_eq p name.path then Some name.file else rest)
     (found_without_other p q names differ))
-    (either (bytes_eq q name.path))
+    (true_or_false (bytes_eq q name.path))
 
 -- If `q` is another path than `p`, putting `file` at `q` does not change what is found at `p`.
 pub found_with_other : (p q : List ℕ) (file : ℕ) (names : List Name) → (q ≡ p → ⊥) →

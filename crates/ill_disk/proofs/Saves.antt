@@ -8,7 +8,7 @@ use Rattle.ill_disk.specs.Disk.{without, with_name, with_rename, bytes_of, conte
 use Rattle.ill_disk.specs.Disk.{after_flush, after_flush_names, empty_disk}
 use Rattle.ill_disk.proofs.Names.{found_with, found_with_other, found_without, found_without_other, found_moved, gone_moved}
 use Rattle.ill_disk.proofs.Names.{made_found}
-use Rattle.ill_disk.proofs.Crashes.{in_first, left_length, left_first, left_bytes, last_bytes, first_bytes, flushed_bytes}
+use Rattle.ill_disk.proofs.Crashes.{in_first, left_length, left_without_last, left_bytes, last_bytes, first_bytes, flushed_bytes}
 use Rattle.ill_disk.proofs.Crashes.{change_left, flush_left, names_left, any_bytes_left}
 use Rattle.ill_disk.proofs.Memory.{value_or}
 
@@ -43,7 +43,7 @@ module _ (aside path bytes : List ℕ) (d : Disk) (whole : IsWhole d) (differ : 
       found_at path after.names ≡ found_at path names → AreLeft (d.files ++ new_file ∷ []) after.files →
       Leaves d path (content path after)
   old_content after names stands found left =
-      let parts = left_first d.files new_file after.files left in
+      let parts = left_without_last d.files new_file after.files left in
       let before : Disk = record { files = parts.first; names = names; may_stand = names ∷ [] } in
       let made : AreMade (length parts.first) names =
       subst (λ (n : ℕ). AreMade n names) (sym (left_length d.files parts.first parts.left)) (whole.made names stands) in (

@@ -36,9 +36,9 @@ spread_both one other is =
     and_from (spares other one) (spares one other) parts.1 parts.0
 
 -- If `x` is admitted, if it is a mail, and `x` is `spot`, then `spot` is admitted.
-told : (asked : KeeperOf) (spots : List (Option SpotOf)) (x : Option SpotOf) (spot : SpotOf) →
+admitted_as : (asked : KeeperOf) (spots : List (Option SpotOf)) (x : Option SpotOf) (spot : SpotOf) →
     IfSome x (λ s. is_admitted asked spots s ≡ true) → x ≡ Some spot → is_admitted asked spots spot ≡ true
-told asked spots x spot is same = subst (λ (o : Option SpotOf). IfSome o (λ s. is_admitted asked spots s ≡ true)) same is
+admitted_as asked spots x spot is same = subst (λ (o : Option SpotOf). IfSome o (λ s. is_admitted asked spots s ≡ true)) same is
 
 -- If the mails of a run are spread, and it admits `x`, they are spread with `x` after them.
 pub add_spread : (asked : KeeperOf) (spots : List (Option SpotOf)) (x : Option SpotOf) → IsSpread asked spots →
@@ -48,17 +48,17 @@ add_spread asked spots x spread is = record {
       (λ first. ⊎_elim
       (λ also. spread.mails mail other spot second first also differ)
       (λ last. spread_both second spot (spread_each second spots mail spot
-      (and_parts (keeps_off asked second) (is_spread_from_all second spots) (told asked spots x second is last.1)).1 first))
+      (and_parts (keeps_off asked second) (is_spread_from_all second spots) (admitted_as asked spots x second is last.1)).1 first))
       (last_or spots x other (Some second) two))
       (λ last. ⊎_elim
       (λ also. spread_each spot spots other second
-      (and_parts (keeps_off asked spot) (is_spread_from_all spot spots) (told asked spots x spot is last.1)).1 also)
+      (and_parts (keeps_off asked spot) (is_spread_from_all spot spots) (admitted_as asked spots x spot is last.1)).1 also)
       (λ both. absurd (differ (last.0 ∙ sym both.0)))
       (last_or spots x other (Some second) two))
       (last_or spots x mail (Some spot) one);
   asked = λ mail spot one. ⊎_elim
       (λ first. spread.asked mail spot first)
-      (λ last. (and_parts (keeps_off asked spot) (is_spread_from_all spot spots) (told asked spots x spot is last.1)).0)
+      (λ last. (and_parts (keeps_off asked spot) (is_spread_from_all spot spots) (admitted_as asked spots x spot is last.1)).0)
       (last_or spots x mail (Some spot) one);
 }
 

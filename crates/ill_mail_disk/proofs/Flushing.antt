@@ -20,23 +20,23 @@ use Rattle.ill_mail_disk.proofs.Steps.{change_fits, one_touches, touches_then}
 use Rattle.ill_mail_disk.proofs.Touching.{flush_name_touches, found_settled}
 
 -- A mail that has its claimed name is not gone.
-not_gone_by : (aside waiting claimed : Bool) → claimed ≡ true → place_by aside waiting claimed ≡ Gone → ⊥
-not_gone_by aside waiting false is gone = true≢false (sym is)
-not_gone_by true waiting true is gone = true≢false (sym (ap is_gone gone))
-not_gone_by false true true is gone = true≢false (sym (ap is_gone gone))
-not_gone_by false false true is gone = true≢false (sym (ap is_gone gone))
+claimed_not_gone_by : (aside waiting claimed : Bool) → claimed ≡ true → place_by aside waiting claimed ≡ Gone → ⊥
+claimed_not_gone_by aside waiting false is gone = true≢false (sym is)
+claimed_not_gone_by true waiting true is gone = true≢false (sym (ap is_gone gone))
+claimed_not_gone_by false true true is gone = true≢false (sym (ap is_gone gone))
+claimed_not_gone_by false false true is gone = true≢false (sym (ap is_gone gone))
 
 -- A mail whose file has its claimed name is not gone, in these names.
 claimed_not_gone : (spot : SpotOf) (names : List Name) → found_at spot.claimed names ≡ Some spot.file →
     place_in names spot ≡ Gone → ⊥
 claimed_not_gone spot names found gone =
-    not_gone_by (is_file spot.file (found_at spot.aside names)) (is_file spot.file (found_at spot.waiting names))
+    claimed_not_gone_by (is_file spot.file (found_at spot.aside names)) (is_file spot.file (found_at spot.waiting names))
     (is_file spot.file (found_at spot.claimed names)) (ap (is_file spot.file) found ∙ this_file spot.file) gone
 
 -- No crash after the flush of its claimed name loses a mail.
-flushed_outlasts : (spot : SpotOf) (d : Disk) → found_at spot.claimed d.names ≡ Some spot.file →
+flushed_claim_outlasts : (spot : SpotOf) (d : Disk) → found_at spot.claimed d.names ≡ Some spot.file →
     Outlasts spot (after_flush_name spot.claimed d)
-flushed_outlasts spot d found names stands gone =
+flushed_claim_outlasts spot d found names stands gone =
     let from = in_map (with_found spot.claimed (found_at spot.claimed d.names)) d.may_stand names stands in
     claimed_not_gone spot names (ap (found_at spot.claimed) from.2
     ∙ found_settled spot.claimed (found_at spot.claimed d.names) from.0 ∙ found) gone
@@ -48,7 +48,7 @@ lasts_if : {E : Type 0} (spot : SpotOf) (looked new : DiskState) (answer : Resul
     OnOk answer (new.is_honest ≡ true → Outlasts spot new.now)
 lasts_if spot looked new (Ok done) flushes found = λ h.
     let was : looked.is_honest ≡ true = sym flushes.honest ∙ h in
-    subst (Outlasts spot) (sym (flushes.done was)) (flushed_outlasts spot looked.now (found was))
+    subst (Outlasts spot) (sym (flushes.done was)) (flushed_claim_outlasts spot looked.now (found was))
 lasts_if spot looked new (Err fault) flushes found = tt
 
 -- If a call only looks at the claimed path, and then fails, it answers as `FlushesClaim` says.

@@ -30,13 +30,13 @@ back_paths spot = spot.claimed ∷ spot.waiting ∷ []
 -- ---- places
 
 -- Let a file have its claimed name but not the one in the folder. If it gets that, its mail moves to `Waiting`.
-waiting_by : (aside waiting waiting' claimed claimed' : Bool) → waiting ≡ false → claimed ≡ true → waiting' ≡ true →
+comes_to_wait_by : (aside waiting waiting' claimed claimed' : Bool) → waiting ≡ false → claimed ≡ true → waiting' ≡ true →
     place_by aside waiting' claimed' ≡ moved Waiting (place_by aside waiting claimed)
-waiting_by aside waiting false claimed claimed' w c t = absurd (true≢false (sym t))
-waiting_by aside true true claimed claimed' w c t = absurd (true≢false w)
-waiting_by aside false true false claimed' w c t = absurd (true≢false (sym c))
-waiting_by true false true true claimed' w c t = refl
-waiting_by false false true true claimed' w c t = refl
+comes_to_wait_by aside waiting false claimed claimed' w c t = absurd (true≢false (sym t))
+comes_to_wait_by aside true true claimed claimed' w c t = absurd (true≢false w)
+comes_to_wait_by aside false true false claimed' w c t = absurd (true≢false (sym c))
+comes_to_wait_by true false true true claimed' w c t = refl
+comes_to_wait_by false false true true claimed' w c t = refl
 
 -- If a file has its name in the folder before and after, its mail stays at its place.
 still_by : (aside waiting waiting' claimed claimed' : Bool) → waiting ≡ true → waiting' ≡ true →
@@ -47,10 +47,10 @@ still_by true true true claimed claimed' w t = refl
 still_by false true true claimed claimed' w t = refl
 
 -- A mail whose file waits is not gone.
-not_gone_by : (aside waiting claimed : Bool) → waiting ≡ true → place_by aside waiting claimed ≡ Gone → ⊥
-not_gone_by aside false claimed is gone = true≢false (sym is)
-not_gone_by true true claimed is gone = true≢false (sym (ap is_gone gone))
-not_gone_by false true claimed is gone = true≢false (sym (ap is_gone gone))
+waiting_not_gone_by : (aside waiting claimed : Bool) → waiting ≡ true → place_by aside waiting claimed ≡ Gone → ⊥
+waiting_not_gone_by aside false claimed is gone = true≢false (sym is)
+waiting_not_gone_by true true claimed is gone = true≢false (sym (ap is_gone gone))
+waiting_not_gone_by false true claimed is gone = true≢false (sym (ap is_gone gone))
 
 -- In `names` the file of the mail has its name in the folder: it waits.
 abbrev WaitsIn : SpotOf → List Name → Type 0
@@ -63,7 +63,7 @@ is_it spot found is = ap (is_file spot.file) is ∙ this_file spot.file
 -- A mail whose file waits is not gone, in these names.
 waits_not_gone : (spot : SpotOf) (names : List Name) → WaitsIn spot names → place_in names spot ≡ Gone → ⊥
 waits_not_gone spot names waits gone =
-    not_gone_by (is_file spot.file (found_at spot.aside names)) (is_file spot.file (found_at spot.waiting names))
+    waiting_not_gone_by (is_file spot.file (found_at spot.aside names)) (is_file spot.file (found_at spot.waiting names))
     (is_file spot.file (found_at spot.claimed names)) (is_it spot (found_at spot.waiting names) waits) gone
 
 -- A mail whose file waits before and after is at its place, if its path aside was not touched.
@@ -85,7 +85,7 @@ waits_then : (spot : SpotOf) (old new : List Name) → found_at spot.claimed old
 waits_then spot old new claimed free after same =
     ap (λ (o : Option ℕ). place_by (is_file spot.file o) (is_file spot.file (found_at spot.waiting new))
     (is_file spot.file (found_at spot.claimed new))) same
-    ∙ waiting_by (is_file spot.file (found_at spot.aside old)) (is_file spot.file (found_at spot.waiting old))
+    ∙ comes_to_wait_by (is_file spot.file (found_at spot.aside old)) (is_file spot.file (found_at spot.waiting old))
     (is_file spot.file (found_at spot.waiting new)) (is_file spot.file (found_at spot.claimed old))
     (is_file spot.file (found_at spot.claimed new)) (ap (is_file spot.file) free)
     (is_it spot (found_at spot.claimed old) claimed) (is_it spot (found_at spot.waiting new) after)

@@ -28,11 +28,11 @@ is_gone Gone = true
 is_gone place = false
 
 -- If a file has its name in the folder, its mail is not claimed. So a move to `to` leaves it.
-waiting_by : (to : Place) (aside waiting claimed : Bool) → waiting ≡ true →
+waiting_stays_by : (to : Place) (aside waiting claimed : Bool) → waiting ≡ true →
     place_by aside waiting claimed ≡ moved to (place_by aside waiting claimed)
-waiting_by to true waiting claimed is = refl
-waiting_by to false true claimed is = refl
-waiting_by to false false claimed is = absurd (true≢false (sym is))
+waiting_stays_by to true waiting claimed is = refl
+waiting_stays_by to false true claimed is = refl
+waiting_stays_by to false false claimed is = absurd (true≢false (sym is))
 
 -- Let a file have its claimed name but not the one in the folder. If it then stands aside, its mail moves to `Aside`.
 aside_by : (aside aside' waiting waiting' claimed claimed' : Bool) → waiting ≡ false → claimed ≡ true → aside' ≡ true →
@@ -146,7 +146,7 @@ aside_waits {spot = spot} {old = old} {looked = looked} is first second =
     let stays = stays_then one two in record {
       touches = stays.touches;
       comes = λ h. two.place (first.honest ∙ h)
-          ∙ waiting_by Aside (is_file spot.file (found_at spot.aside looked.now.names))
+          ∙ waiting_stays_by Aside (is_file spot.file (found_at spot.aside looked.now.names))
           (is_file spot.file (found_at spot.waiting looked.now.names))
           (is_file spot.file (found_at spot.claimed looked.now.names))
           (sym (second.done (first.honest ∙ h)).stands ∙ is)

@@ -28,10 +28,10 @@ waits_by false true claimed is = refl
 waits_by false false claimed is = absurd (true≢false (sym is))
 
 -- If a file stands aside, its mail is not claimed, and a removal leaves it.
-aside_by : (aside waiting claimed : Bool) → aside ≡ true →
+aside_stays_by : (aside waiting claimed : Bool) → aside ≡ true →
     place_by aside waiting claimed ≡ moved Gone (place_by aside waiting claimed)
-aside_by true waiting claimed is = refl
-aside_by false waiting claimed is = absurd (true≢false (sym is))
+aside_stays_by true waiting claimed is = refl
+aside_stays_by false waiting claimed is = absurd (true≢false (sym is))
 
 -- If a file stands neither aside nor in the folder, a removal brings its mail to `Gone`.
 alone_by : (aside waiting claimed : Bool) → aside ≡ false → waiting ≡ false →
@@ -89,7 +89,7 @@ pub aside_stays : {A E F : Type 0} {spot : SpotOf} {old looked new : DiskState} 
 aside_stays {spot = spot} {old = old} {looked = looked} is stays tells =
     stays_done (stays_then stays (stays_tell (spot.claimed ∷ []) spot tells))
     (λ h. subst (λ (p : Place). p ≡ moved Gone p) (stays.place h)
-    (aside_by (is_file spot.file (found_at spot.aside looked.now.names))
+    (aside_stays_by (is_file spot.file (found_at spot.aside looked.now.names))
     (is_file spot.file (found_at spot.waiting looked.now.names)) (is_file spot.file (found_at spot.claimed looked.now.names))
     (sym (tells.done (stays.touches.honest ∙ h)).stands ∙ is)))
 

@@ -10,11 +10,11 @@ use Rattle.ill_mail_disk.proofs.Apart.{AreApart}
 use Rattle.ill_mail_disk.proofs.Placing.{place_at}
 
 -- If a file has lost its claimed name, its mail has moved to `Gone`: only a claimed mail moves.
-gone_by : (aside waiting claimed : Bool) → place_by aside waiting false ≡ moved Gone (place_by aside waiting claimed)
-gone_by true waiting claimed = refl
-gone_by false true claimed = refl
-gone_by false false true = refl
-gone_by false false false = refl
+moved_to_gone_by : (aside waiting claimed : Bool) → place_by aside waiting false ≡ moved Gone (place_by aside waiting claimed)
+moved_to_gone_by true waiting claimed = refl
+moved_to_gone_by false true claimed = refl
+moved_to_gone_by false false true = refl
+moved_to_gone_by false false false = refl
 
 -- If a file has not its claimed name, its mail is not claimed, and a move to `to` leaves it.
 pub unclaimed_by : (to : Place) (aside waiting claimed : Bool) → claimed ≡ false →
@@ -32,7 +32,7 @@ gone_place spot old new apart differs gone =
     None (found_at spot.claimed new)
     (differs spot.aside (λ same. apart.claimed.1.0 (sym same), tt))
     (differs spot.waiting (λ same. apart.claimed.0 (sym same), tt)) gone
-    ∙ gone_by (is_file spot.file (found_at spot.aside old)) (is_file spot.file (found_at spot.waiting old))
+    ∙ moved_to_gone_by (is_file spot.file (found_at spot.aside old)) (is_file spot.file (found_at spot.waiting old))
     (is_file spot.file (found_at spot.claimed old))
 
 -- If a call clears the claimed path of a mail, done or not, the mail moves to `Gone`. If the call failed, it may stay.

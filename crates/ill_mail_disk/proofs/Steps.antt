@@ -2,7 +2,7 @@
 use Rattle.std.proofs.Common.{◌≡◌, ⊎_elim, sym, ◌∙◌, subst, ℕ, true, List, Result, Ok, Err, OnOk}
 use Rattle.ill_disk.specs.Disk.{Disk}
 use Rattle.ill_disk.specs.Calls.{DiskState, Answers, Changes}
-use Rattle.ill_disk.proofs.Moments.{begins, goes_on, holds_too, joins}
+use Rattle.ill_disk.proofs.Moments.{throughout_nothing, one_more_call, holds_too, joins}
 use Rattle.ill_mail_disk.specs.Touches.{IsNoneOf, TouchesOnly, Touches}
 use Rattle.ill_mail_disk.specs.Spots.{SpotOf, Outlasts, Survives}
 use Rattle.ill_mail_disk.proofs.Touching.{touch_self, touch_then, touch_more}
@@ -15,7 +15,7 @@ pub one_touches : {A E : Type 0} (does : Disk → Result A E → Disk → Type 0
     ((d e : Disk) → does d answer e → TouchesOnly paths d e) → Touches paths old new
 one_touches does paths old answer new answers touches = record {
   whole = answers.whole;
-  moments = λ h. goes_on (begins (touch_self paths old.now)) (answers.past h) (touches old.now new.now (answers.done h));
+  moments = λ h. one_more_call (throughout_nothing (touch_self paths old.now)) (answers.past h) (touches old.now new.now (answers.done h));
   honest = answers.honest;
 }
 
@@ -63,7 +63,7 @@ done_gives P change old new (Err fault) is with_it = tt
 
 -- A mail survives where nothing happens.
 pub survives_none : (spot : SpotOf) (a : DiskState) → Survives spot a a
-survives_none spot a h outlasts = begins outlasts
+survives_none spot a h outlasts = throughout_nothing outlasts
 
 -- If a mail survives from `a` to `b`, and from `b` to `c`, it survives from `a` to `c`.
 pub survives_then : (spot : SpotOf) (a b c : DiskState) → b.is_honest ≡ a.is_honest → Survives spot a b → Survives spot b c →
@@ -77,4 +77,4 @@ pub survives_one : {A E : Type 0} (does : Disk → Result A E → Disk → Type 
     ((old.is_honest ≡ true) → does old.now answer new.now → Outlasts spot old.now → Outlasts spot new.now) →
     Survives spot old new
 survives_one does spot old answer new answers keeps h outlasts =
-    goes_on (begins outlasts) (answers.past h) (keeps h (answers.done h) outlasts)
+    one_more_call (throughout_nothing outlasts) (answers.past h) (keeps h (answers.done h) outlasts)

@@ -116,7 +116,7 @@ key_put (Err fault) keys new key path old bytes same put = tt
 -- ---- one other mail
 
 -- Six tests pass. For two mails, three are of the paths of one, and three of the paths of the other.
-record AreBoth (a b c d e f : Bool) : Type 0 where
+record AllSix (a b c d e f : Bool) : Type 0 where
   first : a ≡ true
   second : b ≡ true
   third : c ≡ true
@@ -125,8 +125,8 @@ record AreBoth (a b c d e f : Bool) : Type 0 where
   sixth : f ≡ true
 
 -- If the six tests together are true, each passes.
-six : (a b c d e f : Bool) → ((a && b && c) && (d && e && f)) ≡ true → AreBoth a b c d e f
-six a b c d e f is =
+each_of_six : (a b c d e f : Bool) → ((a && b && c) && (d && e && f)) ≡ true → AllSix a b c d e f
+each_of_six a b c d e f is =
     let halves = and_parts (a && b && c) (d && e && f) is in
     let one = and_parts (a && b) c halves.0 in
     let two = and_parts (d && e) f halves.1 in
@@ -141,7 +141,7 @@ six a b c d e f is =
     }
 
 -- If each of six tests passes, they are true together.
-all_six : (a b c d e f : Bool) → AreBoth a b c d e f → ((a && b && c) && (d && e && f)) ≡ true
+all_six : (a b c d e f : Bool) → AllSix a b c d e f → ((a && b && c) && (d && e && f)) ≡ true
 all_six a b c d e f are =
     and_from (a && b && c) (d && e && f)
     (and_from (a && b) c (and_from a b are.first are.second) are.third)
@@ -159,15 +159,15 @@ module _ (a b c d e f : List ℕ) where
 
 module _ (spot other : SpotOf) where
   -- The six tests of a mail by the paths of one other.
-  abbrev Clears1 : Type 0
-  Clears1 = AreBoth (misses spot.reason other) (misses spot.claimed other) (misses spot.aside other)
+  abbrev PassesBeside : Type 0
+  PassesBeside = AllSix (misses spot.reason other) (misses spot.claimed other) (misses spot.aside other)
       (is_none_of (aside_paths other) spot.claimed) (is_none_of (aside_paths other) spot.waiting)
       (is_none_of (aside_paths other) spot.aside)
 
   -- A mail that is spread from another passes the six tests.
-  spread_clears : is_spread_from spot (Some other) ≡ true → Clears1
+  spread_clears : is_spread_from spot (Some other) ≡ true → PassesBeside
   spread_clears is =
-      let are = six (misses spot.reason other) (misses spot.claimed other) (misses spot.aside other)
+      let are = each_of_six (misses spot.reason other) (misses spot.claimed other) (misses spot.aside other)
       (misses other.reason spot) (misses other.claimed spot) (misses other.aside spot) is in
       let back = turned other.reason other.claimed other.aside spot.claimed spot.waiting spot.aside
       (none_of (paths_of spot) other.reason are.fourth) (none_of (paths_of spot) other.claimed are.fifth)
@@ -181,7 +181,7 @@ module _ (spot other : SpotOf) where
       }
 
   -- A mail that passes the six tests is spread from the other.
-  clear_spreads : Clears1 → is_spread_from spot (Some other) ≡ true
+  clear_spreads : PassesBeside → is_spread_from spot (Some other) ≡ true
   clear_spreads are =
       let back = turned spot.claimed spot.waiting spot.aside other.reason other.claimed other.aside
       (none_of (aside_paths other) spot.claimed are.fourth) (none_of (aside_paths other) spot.waiting are.fifth)
@@ -199,29 +199,29 @@ module _ (spot other : SpotOf) where
 -- ---- all mails
 
 -- The six tests of a mail by the paths of all mails pass.
-abbrev Clears : SpotOf → List (Option SpotOf) → Type 0
-Clears spot spots = AreBoth (misses_mails paths_of spots spot.reason) (misses_mails paths_of spots spot.claimed)
+abbrev PassesBesideAll : SpotOf → List (Option SpotOf) → Type 0
+PassesBesideAll spot spots = AllSix (misses_mails paths_of spots spot.reason) (misses_mails paths_of spots spot.claimed)
     (misses_mails paths_of spots spot.aside) (misses_mails aside_paths spots spot.claimed)
     (misses_mails aside_paths spots spot.waiting) (misses_mails aside_paths spots spot.aside)
 
 -- The six tests of a mail by the paths of one more, if there is one.
-abbrev ClearsOne : SpotOf → Option SpotOf → Type 0
-ClearsOne spot x = AreBoth (misses_mail paths_of spot.reason x) (misses_mail paths_of spot.claimed x)
+abbrev PassesBesideIfAny : SpotOf → Option SpotOf → Type 0
+PassesBesideIfAny spot x = AllSix (misses_mail paths_of spot.reason x) (misses_mail paths_of spot.claimed x)
     (misses_mail paths_of spot.aside x) (misses_mail aside_paths spot.claimed x)
     (misses_mail aside_paths spot.waiting x) (misses_mail aside_paths spot.aside x)
 
 -- A mail that is spread from one more passes the tests.
-one_clears : (spot : SpotOf) (x : Option SpotOf) → is_spread_from spot x ≡ true → ClearsOne spot x
+one_clears : (spot : SpotOf) (x : Option SpotOf) → is_spread_from spot x ≡ true → PassesBesideIfAny spot x
 one_clears spot None is = record { first = refl; second = refl; third = refl; fourth = refl; fifth = refl; sixth = refl }
 one_clears spot (Some other) is = spread_clears spot other is
 
 -- A mail that passes the tests is spread from one more.
-one_spreads : (spot : SpotOf) (x : Option SpotOf) → ClearsOne spot x → is_spread_from spot x ≡ true
+one_spreads : (spot : SpotOf) (x : Option SpotOf) → PassesBesideIfAny spot x → is_spread_from spot x ≡ true
 one_spreads spot None are = refl
 one_spreads spot (Some other) are = clear_spreads spot other are
 
 -- A mail that is spread from all passes the six tests.
-all_clear : (spot : SpotOf) (spots : List (Option SpotOf)) → is_spread_from_all spot spots ≡ true → Clears spot spots
+all_clear : (spot : SpotOf) (spots : List (Option SpotOf)) → is_spread_from_all spot spots ≡ true → PassesBesideAll spot spots
 all_clear spot [] is = record { first = refl; second = refl; third = refl; fourth = refl; fifth = refl; sixth = refl }
 all_clear spot (x ∷ spots) is =
     let parts = and_parts (is_spread_from spot x) (is_spread_from_all spot spots) is in
@@ -239,7 +239,7 @@ all_clear spot (x ∷ spots) is =
     }
 
 -- A mail that passes the six tests is spread from all.
-clear_of_all : (spot : SpotOf) (spots : List (Option SpotOf)) → Clears spot spots → is_spread_from_all spot spots ≡ true
+clear_of_all : (spot : SpotOf) (spots : List (Option SpotOf)) → PassesBesideAll spot spots → is_spread_from_all spot spots ≡ true
 clear_of_all spot [] are = refl
 clear_of_all spot (x ∷ spots) are =
     let a = and_parts (misses_mail paths_of spot.reason x) (misses_mails paths_of spots spot.reason) are.first in
@@ -271,7 +271,7 @@ module _ (taken : TakenOf) (spots : List (Option SpotOf)) (are : AreTaken taken 
   -- A mail that is free by the sets is spread from all.
   free_spreads : is_free taken spot ≡ true → is_spread_from_all spot spots ≡ true
   free_spreads is =
-      let tests = six (is_none_of taken.places spot.reason) (is_none_of taken.places spot.claimed)
+      let tests = each_of_six (is_none_of taken.places spot.reason) (is_none_of taken.places spot.claimed)
       (is_none_of taken.places spot.aside) (is_none_of taken.moves spot.claimed) (is_none_of taken.moves spot.waiting)
       (is_none_of taken.moves spot.aside) is in
       clear_of_all spot spots record {

@@ -2,7 +2,7 @@
 use Rattle.std.proofs.Common.{◌≡◌, inl, inr, ⊎_elim, refl, ◌∙◌, ℕ, List, [], ◌∷◌, Some, Result, Ok, Err}
 use Rattle.ill_disk.specs.Disk.{Disk, after_remove, content}
 use Rattle.ill_disk.specs.Calls.{DiskState, Answers, Changes}
-use Rattle.ill_disk.proofs.Moments.{begins, holds_too, joins}
+use Rattle.ill_disk.proofs.Moments.{throughout_nothing, holds_too, joins}
 use Rattle.ill_disk.proofs.Saves.{remove_elsewhere}
 use Rattle.ill_store.specs.DiskStore.{DiskPlaces, IsOld, IsOldOrNew}
 use Rattle.ill_store.proofs.DiskSaves.{HasKept, old_left, remove_has_kept, save_fails}
@@ -14,7 +14,7 @@ use Rattle.ill_mail_disk.proofs.Touching.{remove_touches}
 
 -- Before the first call the path has what it had (`HasKept`).
 kept_first : (path : List ℕ) (old : DiskState) → HasKept path old old
-kept_first path old = record { moments = λ h. begins (refl, old_left path old.now); honest = refl }
+kept_first path old = record { moments = λ h. throughout_nothing (refl, old_left path old.now); honest = refl }
 
 -- If the disk `d` has what stood at the path, it has that or new bytes.
 old_is_fine : (path bytes : List ℕ) (old d : Disk) → IsOld path old d → IsOldOrNew path bytes old d

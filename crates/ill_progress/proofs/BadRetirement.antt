@@ -38,9 +38,9 @@ no_word w (events.Noise role bytes) silent = refl
 no_word w (events.Restart role) silent = refl
 
 -- If the library of an event has a mark, and the event sends no last word, it does not happen.
-cannot : (w : MarkedShelves) (e : ShelfEvent) → has_mark w (who_of (plain e.event)) (home e) ≡ true
+cannot_happen : (w : MarkedShelves) (e : ShelfEvent) → has_mark w (who_of (plain e.event)) (home e) ≡ true
     → is_last_word (w.shelves (home e)) e.event ≡ false → can_happen w e ≡ false
-cannot w e marked none =
+cannot_happen w e marked none =
     ap (λ b. not b || is_last_word (w.shelves (home e)) e.event) marked ∙ none
 
 -- If `n` is not `last`, the test of both numbers is false.
@@ -191,18 +191,18 @@ pub none_mishandled : (w : MarkedShelves) (event : RetiringEvent)
     → IsMishandled w (retiring_happens w event).0 (retiring_happens w event).1 event → ⊥
 none_mishandled w _ (changes_retired e marked silent changed) =
     changed (ap (λ (after : RetiringOutcome × MarkedShelves). after.1.shelves (home e))
-    (stays_if w e (cannot w e marked (no_word (w.shelves (home e)) e.event silent))))
+    (stays_if w e (cannot_happen w e marked (no_word (w.shelves (home e)) e.event silent))))
 none_mishandled w _ (is_told_of_desk e marked silent told) =
     told (ap (λ (after : RetiringOutcome × MarkedShelves). after.0)
-    (stays_if w e (cannot w e marked (no_word (w.shelves (home e)) e.event silent))))
+    (stays_if w e (cannot_happen w e marked (no_word (w.shelves (home e)) e.event silent))))
 none_mishandled w _ (requester_sends said txn n marked changed) =
     let e = sends_on_shelf said who.Requester txn n in
     changed (ap (λ (after : RetiringOutcome × MarkedShelves). after.1.shelves txn.group)
-    (stays_if w e (cannot w e marked refl)))
+    (stays_if w e (cannot_happen w e marked refl)))
 none_mishandled w _ (sends_earlier said txn n marked apart changed) =
     let e = sends_on_shelf said who.Responder txn n in
     changed (ap (λ (after : RetiringOutcome × MarkedShelves). after.1.shelves txn.group)
-    (stays_if w e (cannot w e marked (not_last n (last_number txn (w.shelves txn.group)) apart))))
+    (stays_if w e (cannot_happen w e marked (not_last n (last_number txn (w.shelves txn.group)) apart))))
 none_mishandled w _ (keeps_last_word said txn n is changed) =
     let e = sends_on_shelf said who.Responder txn n in
     let unmarked = not (has_mark w who.Responder txn.group) in

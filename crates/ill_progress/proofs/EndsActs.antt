@@ -71,16 +71,16 @@ can_decline x false is turn few = (
 can_decline x true is turn few = absurd cc
 
 -- A requester in RECALL can return the item, or receive it first.
-can_end : (x : RequesterRecord) (received : Bool) → is_received_by x ≡ received → length x.issued < 255
+can_end_recall : (x : RequesterRecord) (received : Bool) → is_received_by x ≡ received → length x.issued < 255
     → CanWish (asks_in x states.Recall)
-can_end x true is few = (
+can_end_recall x true is few = (
   wishes.Return,
   refl,
   subst (λ (b : Bool). IsOk (acts_by (asks_in x states.Recall)
       (if b then leads_to states.Returned types.Returned (asks_in x states.Recall) else not_now (asks_in x states.Recall))
       (next_number x.issued))) (sym is) (wish_done (asks_in x states.Recall) _ few),
 )
-can_end x false is few = (
+can_end_recall x false is few = (
   wishes.Receive,
   refl,
   subst (λ (b : Bool). IsOk (acts_by (asks_in x states.Recall)
@@ -102,7 +102,7 @@ wish_in x states.Shipped turn few = (wishes.Receive, refl, wish_done (asks_in x 
 wish_in x states.NotReceivedOverdue turn few = (wishes.Receive, refl, wish_done (asks_in x states.NotReceivedOverdue) _ few)
 wish_in x states.Received turn few = (wishes.Return, refl, wish_done (asks_in x states.Received) _ few)
 wish_in x states.Overdue turn few = (wishes.Return, refl, wish_done (asks_in x states.Overdue) _ few)
-wish_in x states.Recall turn few = can_end x (is_received_by x) refl few
+wish_in x states.Recall turn few = can_end_recall x (is_received_by x) refl few
 wish_in x states.Returned turn few = returned_waits x.checked_in turn
 wish_in x states.Pending turn few = absurd cc
 wish_in x states.CancelPending turn few = absurd cc

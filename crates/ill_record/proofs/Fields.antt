@@ -29,7 +29,7 @@ use Rattle.ill_record.specs.Layout.{encode_all}
 use Rattle.ill_record.specs.Layout.{read_all, counted_by, counted}
 use Rattle.ill_record.specs.Records.{state_code, state_with, state_in, role_octet, role_with, role}
 use Rattle.ill_record.specs.Ranges.{Each}
-use Rattle.ill_der.proofs.Chains.{bind_ok, passed, went_on, chosen, ok_is}
+use Rattle.ill_der.proofs.Chains.{bind_ok, passed, test_failed, chosen, ok_is}
 use Rattle.ill_der.proofs.ContentsLaws.{found_with}
 use Rattle.ill_der.proofs.Formats.{IsCodec, Both, followed_codec, where_codec}
 use Rattle.ill_record.proofs.Steps.{IsBytes-take, IsBytes-rest}
@@ -89,7 +89,7 @@ sized_takes {V} P n contents is left v rest fits e =
     let found = bind_ok (value_at left.at (contents.read part.value.0)) (λ value. Ok (value, part.value.1)) (v, rest)
     part.follows in
     let both : (found.value, part.value.1) ≡ (v, rest) = ok_is (found.value, part.value.1) (v, rest) found.follows in
-    let there = went_on (ltb (length left.bytes) n) (Ok whole) Short part.value part.given in
+    let there = test_failed (ltb (length left.bytes) n) (Ok whole) Short part.value part.given in
     let taken : whole ≡ part.value = ok_is whole part.value there.1 in
     let read = ap (λ (p : List ℕ × Cursor). contents.read p.0) taken
     ∙ value_found left.at (contents.read part.value.0) found.value found.given in

@@ -30,7 +30,7 @@ use Rattle.ill_record.specs.RecordsV2.{version_2, two_octets, few_sides, side_co
 use Rattle.ill_record.specs.RecordsV2.{body_of, sides_encoding, body, unsealed, consistent_sides, sides_at, read_alone}
 use Rattle.ill_record.specs.RecordsV2.{is_version_1, records_at, AreSides}
 use Rattle.ill_record.specs.Ranges.{IsSide}
-use Rattle.ill_der.proofs.Chains.{bind_ok, ok_is, passed, went_on}
+use Rattle.ill_der.proofs.Chains.{bind_ok, ok_is, passed, test_failed}
 use Rattle.ill_record.proofs.Steps.{IsBytes-take, IsBytes-rest}
 use Rattle.ill_der.proofs.Formats.{Both}
 use Rattle.ill_record.proofs.Fields.{ReadsAgain, Takes, IsField, IsSized, Any, CountedBy, rest_fits, sized_is, followed_is}
@@ -246,8 +246,8 @@ unsealed_is : (bytes octets : List ℕ) → IsBytes bytes → unsealed bytes ≡
 unfolding unsealed
 unsealed_is bytes octets fits e =
     let size = length bytes - 32 in
-    let long = went_on (ltb (length bytes) 39) _ faults.Short octets e in
-    let begun = went_on (not (starts_with nat_eq bytes version_2)) _ (faults.Bad 0) octets long.1 in
+    let long = test_failed (ltb (length bytes) 39) _ faults.Short octets e in
+    let begun = test_failed (not (starts_with nat_eq bytes version_2)) _ (faults.Bad 0) octets long.1 in
     let closed = passed (bytes_eq (drop size bytes) (sha256 (body bytes))) (Ok (drop 4 (body bytes))) faults.Digest octets
     begun.1 in
     let enough : 39 ≤ length bytes = ltb-false (length bytes) 39 long.0 in

@@ -46,11 +46,11 @@ may_move to a b (Ok done) moves = inr moves
 may_move to a b (Err fault) moves = moves
 
 -- If a call settles `mail` by `verdict`, done or not, its file was settled, or stays (`MaySettle`).
-here_may : {A : Type 0} (mail : ℕ) (verdict : Verdict) (x y : RoomState) (answer : Result A ToolFault) →
+file_may_settle : {A : Type 0} (mail : ℕ) (verdict : Verdict) (x y : RoomState) (answer : Result A ToolFault) →
     SettlesOne mail verdict x answer y → MaySettle (Some verdict) (place_of x mail) (place_of y mail)
-here_may mail (verdicts.Done outcome) x y answer one = may_move Gone (place_of x mail) (place_of y mail) answer one.here
-here_may mail (verdicts.Aside unfit) x y answer one = may_move Aside (place_of x mail) (place_of y mail) answer one.here
-here_may mail (verdicts.Left delay) x y answer one = one.here
+file_may_settle mail (verdicts.Done outcome) x y answer one = may_move Gone (place_of x mail) (place_of y mail) answer one.here
+file_may_settle mail (verdicts.Aside unfit) x y answer one = may_move Aside (place_of x mail) (place_of y mail) answer one.here
+file_may_settle mail (verdicts.Left delay) x y answer one = one.here
 
 -- If a call settles `mail` by `verdict` and is done, its file is settled (`IsSettled`).
 here_settled : {A : Type 0} (mail : ℕ) (verdict : Verdict) (x y : RoomState) (done : A) →
@@ -107,7 +107,7 @@ settles_then all mail verdict x y z answer so_far is one =
       each = λ other. ⊎_elim
           (λ here. subst (λ m. MaySettle (slice_get all m) (place_of x m) (place_of z m)) (sym here)
           (may_settle_then (slice_get all mail) verdict (place_of x mail) (place_of y mail) (place_of z mail) is
-          (so_far.each mail) (here_may mail verdict y z answer one)))
+          (so_far.each mail) (file_may_settle mail verdict y z answer one)))
           (λ differ. subst (λ place. MaySettle (slice_get all other) (place_of x other) place) (sym (same.others other differ))
           (so_far.each other))
           (cases_eq other mail);
@@ -137,10 +137,10 @@ settles_next count all verdict x y z all_done done to is one =
 
 -- Let the mails below `count` be settled or stay, and let a call for `count` be done or fail. Then `SettlesTo` holds
 -- below `count + 1`. Its `all_done` is false, so it does not say that each was settled.
-pub settles_not : {A : Type 0} (count : ℕ) (all : List Verdict) (verdict : Verdict) (x y z : RoomState) (all_done : Bool)
+pub settles_some_next : {A : Type 0} (count : ℕ) (all : List Verdict) (verdict : Verdict) (x y z : RoomState) (all_done : Bool)
     (answer : Result A ToolFault) → SettlesTo count all x all_done y → slice_get all count ≡ Some verdict →
     SettlesOne count verdict y answer z → SettlesTo (suc count) all x false z
-settles_not count all verdict x y z all_done answer to is one =
+settles_some_next count all verdict x y z all_done answer to is one =
     let same = else_same count verdict y z answer one in
     record {
       so_far = settles_then all count verdict x y z answer to.so_far is one;
@@ -173,9 +173,9 @@ stays_next count all x y all_done to is = record {
 }
 
 -- If `SettlesTo` holds with some `all_done`, it holds with false, which says less.
-not_each : (count : ℕ) (all : List Verdict) (x y : RoomState) (all_done : Bool) → SettlesTo count all x all_done y →
+without_all_done : (count : ℕ) (all : List Verdict) (x y : RoomState) (all_done : Bool) → SettlesTo count all x all_done y →
     SettlesTo count all x false y
-not_each count all x y all_done to = record {
+without_all_done count all x y all_done to = record {
   so_far = to.so_far;
   well = λ each mail below. absurd (true≢false (sym each));
   rest = to.rest;
@@ -191,20 +191,20 @@ at_settled count all None x y z all_done done is to same =
 at_settled count all (Some verdict) x y z all_done done is to one =
     settles_next count all verdict x y z all_done done to is one
 
--- `settles_not` holds also if `count` has no verdict: `v` is the verdict, or None.
+-- `settles_some_next` holds also if `count` has no verdict: `v` is the verdict, or None.
 at_not_settled : {A : Type 0} (count : ℕ) (all : List Verdict) (v : Option Verdict) (x y z : RoomState) (all_done : Bool)
     (answer : Result A ToolFault) → slice_get all count ≡ v → SettlesTo count all x all_done y →
     SettlesAt count v y answer z → SettlesTo (suc count) all x false z
 at_not_settled count all None x y z all_done answer is to same =
     subst (λ w. SettlesTo (suc count) all x false w) (sym same)
-    (not_each (suc count) all x y all_done (stays_next count all x y all_done to is))
+    (without_all_done (suc count) all x y all_done (stays_next count all x y all_done to is))
 at_not_settled count all (Some verdict) x y z all_done answer is to one =
-    settles_not count all verdict x y z all_done answer to is one
+    settles_some_next count all verdict x y z all_done answer to is one
 
 -- `SettlesTo` up to `suc count` is `SettlesTo` up to `count + 1`, as the loop counts.
-one_more : (count : ℕ) (all : List Verdict) (x y : RoomState) (all_done : Bool) → SettlesTo (suc count) all x all_done y →
+suc_is_plus_one : (count : ℕ) (all : List Verdict) (x y : RoomState) (all_done : Bool) → SettlesTo (suc count) all x all_done y →
     SettlesTo (count + 1) all x all_done y
-one_more count all x y all_done to = subst (λ n. SettlesTo n all x all_done y) (sym (add-one count)) to
+suc_is_plus_one count all x y all_done to = subst (λ n. SettlesTo n all x all_done y) (sym (add-one count)) to
 
 -- In any room: if the mails below `count` are settled, and then `count`, the mails below `count + 1` are.
 pub one_settled : {A : Type 0} (count : ℕ) (all : List Verdict) (x y z : RoomState) (all_done : Bool) (done : A) →
@@ -212,7 +212,7 @@ pub one_settled : {A : Type 0} (count : ℕ) (all : List Verdict) (x y z : RoomS
     Answers is_honest_room (SettlesAt count (slice_get all count)) y (Ok done) z →
     Answers is_honest_room (SettlesTo (count + 1) all) x all_done z
 one_settled count all x y z all_done done to one = record {
-  done = λ honest. one_more count all x z all_done
+  done = λ honest. suc_is_plus_one count all x z all_done
       (at_settled count all (slice_get all count) x y z all_done done refl (to.done honest)
       (one.done (to.honest ∙ honest)));
   honest = one.honest ∙ to.honest;
@@ -224,7 +224,7 @@ pub one_not_settled : {A : Type 0} (count : ℕ) (all : List Verdict) (x y z : R
     Answers is_honest_room (SettlesAt count (slice_get all count)) y answer z →
     Answers is_honest_room (SettlesTo (count + 1) all) x false z
 one_not_settled count all x y z all_done answer to one = record {
-  done = λ honest. one_more count all x z false (at_not_settled count all (slice_get all count) x y z all_done answer refl
+  done = λ honest. suc_is_plus_one count all x z false (at_not_settled count all (slice_get all count) x y z all_done answer refl
       (to.done honest) (one.done (to.honest ∙ honest)));
   honest = one.honest ∙ to.honest;
 }

@@ -66,12 +66,12 @@ digits_stay (digit ∷ rest) all =
     ∙ ap (λ (l : List ℕ). digit ∷ l) (digits_stay rest (All-tail IsDigit digit rest all))
 
 -- `digits_of` leaves out the spaces that `grouped` has put between groups.
-spaces_go : (place : ℕ) (digits : List ℕ) → digits_of (grouped place digits) ≡ digits_of digits
+spaces_left_out : (place : ℕ) (digits : List ℕ) → digits_of (grouped place digits) ≡ digits_of digits
 unfolding grouped
-spaces_go place [] = refl
-spaces_go place (digit ∷ rest) =
+spaces_left_out place [] = refl
+spaces_left_out place (digit ∷ rest) =
     let more : digits_of (digit ∷ grouped (place + 1) rest) ≡ digits_of (digit ∷ rest) =
-    ap (λ (l : List ℕ). cond (not (is_white digit)) (digit ∷ l) l) (spaces_go (place + 1) rest) in
+    ap (λ (l : List ℕ). cond (not (is_white digit)) (digit ∷ l) l) (spaces_left_out (place + 1) rest) in
     elim (cases_Bool (begins_group place)) [
       | inl begins ↦
           ap (λ (b : Bool). digits_of (cond b (32 ∷ digit ∷ []) (digit ∷ []) ++ grouped (place + 1) rest)) begins ∙ more
@@ -117,4 +117,4 @@ key_read_again key size fits =
     let all_fit : IsBytes bytes = both_bytes key (check_of key) fits check_fits in
     let digits = encode_lower bytes in
     let hex = decode_of-ok digits bytes (decode_of-encode_lower bytes all_fit) in
-    ap key_of (spaces_go 0 digits ∙ digits_stay digits hex.1) ∙ key_again key size fits
+    ap key_of (spaces_left_out 0 digits ∙ digits_stay digits hex.1) ∙ key_again key size fits

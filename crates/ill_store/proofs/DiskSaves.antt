@@ -11,7 +11,7 @@ use Rattle.ill_disk.specs.Disk.{after_flush_names}
 use Rattle.ill_disk.specs.Calls.{DiskState, Reads, Changes, Creates, Answers, Throughout, unchanged}
 use Rattle.ill_disk.proofs.Names.{found_without_other, made_found}
 use Rattle.ill_disk.proofs.Crashes.{change_left, flush_left, flushes_last, names_left, flush_is_not_read}
-use Rattle.ill_disk.proofs.Moments.{begins, goes_on, holds_too, joins}
+use Rattle.ill_disk.proofs.Moments.{throughout_nothing, one_more_call, holds_too, joins}
 use Rattle.ill_disk.proofs.Saves.{created_left, create_elsewhere, remove_elsewhere, save_moments, save_is_read, save_lasts}
 use Rattle.ill_store.specs.DiskStore.{Lasts, LeavesOld, LeavesOldOr, ReadsOldOr, IsOld, IsOldOrNew, DiskLoads}
 use Rattle.ill_store.specs.DiskStore.{DiskPlaces, DiskSaves, after_placing}
@@ -120,7 +120,7 @@ pub record HasKept (path : List ℕ) (old new : DiskState) : Type 0 where
 pub read_has_kept : {X E : Type 0} {bytes_of : X → List ℕ} {path : List ℕ} {old read : DiskState}
     {answer : Result (Option X) E} → Answers (Reads bytes_of path) old answer read → HasKept path old read
 read_has_kept {path = path} {old = old} reads = record {
-  moments = λ h. goes_on (begins (refl, old_left path old.now)) (reads.past h) (
+  moments = λ h. one_more_call (throughout_nothing (refl, old_left path old.now)) (reads.past h) (
     ap (content path) (reads.done h).same,
     subst (LeavesOld path old.now) (sym (reads.done h).same) (old_left path old.now),
   );
@@ -131,7 +131,7 @@ read_has_kept {path = path} {old = old} reads = record {
 pub flush_has_kept : {E : Type 0} {path : List ℕ} {old read flushed : DiskState} {answer : Result (Unit {0}) E} →
     HasKept path old read → Answers (Changes (after_flush path)) read answer flushed → HasKept path old flushed
 flush_has_kept {path = path} {old = old} {read = read} {flushed = flushed} {answer = answer} so_far flushes = record {
-  moments = λ h. goes_on (so_far.moments h) (flushes.past (so_far.honest ∙ h)) (flush_keeps path old.now read.now flushed.now
+  moments = λ h. one_more_call (so_far.moments h) (flushes.past (so_far.honest ∙ h)) (flush_keeps path old.now read.now flushed.now
       answer (so_far.moments h).last (flushes.done (so_far.honest ∙ h)));
   honest = flushes.honest ∙ so_far.honest;
 }
@@ -140,7 +140,7 @@ flush_has_kept {path = path} {old = old} {read = read} {flushed = flushed} {answ
 pub names_have_kept : {E : Type 0} {path : List ℕ} {old flushed last : DiskState} {answer : Result (Unit {0}) E} →
     HasKept path old flushed → Answers (Changes after_flush_names) flushed answer last → HasKept path old last
 names_have_kept {path = path} {old = old} {flushed = flushed} {last = last} {answer = answer} so_far flushes = record {
-  moments = λ h. goes_on (so_far.moments h) (flushes.past (so_far.honest ∙ h)) (names_keep path old.now flushed.now last.now
+  moments = λ h. one_more_call (so_far.moments h) (flushes.past (so_far.honest ∙ h)) (names_keep path old.now flushed.now last.now
       answer (flushes.whole (so_far.honest ∙ h)) (so_far.moments h).last (flushes.done (so_far.honest ∙ h)));
   honest = flushes.honest ∙ so_far.honest;
 }
@@ -303,7 +303,7 @@ module _ {E : Type 0} {aside path bytes : List ℕ} {old made : DiskState} {maki
   -- The disk has the old record after the new file was made, or was not.
   so_made : HasSaved path bytes old made
   so_made = record {
-    moments = λ h. goes_on {now = old} (begins {old = old} (inl refl, λ found left. inl left)) (creates.past h)
+    moments = λ h. one_more_call {now = old} (throughout_nothing {old = old} (inl refl, λ found left. inl left)) (creates.past h)
         (after_making aside path bytes old.now differ (creates.whole h) made.now making (creates.done h));
     honest = creates.honest;
   }
@@ -326,7 +326,7 @@ module _ {E : Type 0} {aside path bytes : List ℕ} {old made flushed : DiskStat
   so_flushed : HasSaved path bytes old flushed
   so_flushed =
       let before : HasSaved path bytes old made = so_made differ creates in record {
-        moments = λ h. goes_on (before.moments h) (flushes.past (creates.honest ∙ h))
+        moments = λ h. one_more_call (before.moments h) (flushes.past (creates.honest ∙ h))
             (after_flushing aside path bytes old.now differ (creates.whole h) made.now flushed.now flushing (creates.done h)
             (flushes.done (creates.honest ∙ h)));
         honest = flushes.honest ∙ creates.honest;
@@ -363,7 +363,7 @@ module _ {E : Type 0} {aside path bytes : List ℕ} {old made flushed renamed : 
         placed = λ h. after_done_call (λ (x : Disk). x ≡ after_placing aside path bytes old.now) (after_rename aside path)
             flushed.now renamed.now renaming (renames.done (still_honest h))
             (ap (after_rename aside path) (flushed_is h ∙ ap (after_flush aside) (creates.done h)));
-        moments = λ h. goes_on (before.moments h) (renames.past (still_honest h))
+        moments = λ h. one_more_call (before.moments h) (renames.past (still_honest h))
             (after_renaming aside path bytes old.now differ (creates.whole h) made.now flushed.now renamed.now renaming
             (creates.done h) (flushed_is h) (renames.done (still_honest h)));
         whole = creates.whole;
@@ -376,7 +376,7 @@ module _ {E : Type 0} {aside path bytes : List ℕ} {old made flushed renamed : 
 pub look_up_has_kept : {E : Type 0} {path : List ℕ} {old looked : DiskState} {answer : Result (Unit {0}) E} →
     Answers (Changes unchanged) old answer looked → HasKept path old looked
 look_up_has_kept {path = path} {old = old} {looked = looked} {answer = answer} looks = record {
-  moments = λ h. goes_on (begins (refl, old_left path old.now)) (looks.past h) (after_call (IsOld path old.now) unchanged
+  moments = λ h. one_more_call (throughout_nothing (refl, old_left path old.now)) (looks.past h) (after_call (IsOld path old.now) unchanged
       old.now looked.now answer (looks.done h) (refl, old_left path old.now) (refl, old_left path old.now));
   honest = looks.honest;
 }
@@ -387,7 +387,7 @@ pub remove_has_kept : {E : Type 0} {aside path : List ℕ} {old looked cleared :
     HasKept path old cleared
 remove_has_kept {aside = aside} {path = path} {old = old} {looked = looked} {cleared = cleared} {answer = answer} differ
     so_far removes = record {
-      moments = λ h. goes_on (so_far.moments h) (removes.past (so_far.honest ∙ h)) (after_call (IsOld path old.now)
+      moments = λ h. one_more_call (so_far.moments h) (removes.past (so_far.honest ∙ h)) (after_call (IsOld path old.now)
           (after_remove aside) looked.now cleared.now answer (removes.done (so_far.honest ∙ h)) (so_far.moments h).last (
             remove_elsewhere aside path looked.now differ ∙ (so_far.moments h).last.0,
             λ found left. (so_far.moments h).last.1 found (remove_leaves aside path looked.now differ found left),
@@ -453,7 +453,7 @@ save_fails {aside = aside} {path = path} {bytes = bytes} {old = old} {placed = p
     let before : HasSaved path bytes old placed = so_placed so_far places in record {
       saved = λ h. tt;
       lasts = λ h. tt;
-      moments = λ h. goes_on (before.moments h) (removes.past (before.honest ∙ h))
+      moments = λ h. one_more_call (before.moments h) (removes.past (before.honest ∙ h))
           (after_call (IsOldOrNew path bytes old.now) (after_remove aside) placed.now last.now removal
           (removes.done (before.honest ∙ h)) (before.moments h).last
           (fine_without aside path bytes old.now placed.now differ (before.moments h).last));
@@ -472,7 +472,7 @@ save_ends {aside = aside} {path = path} {bytes = bytes} {old = old} {cleared = c
           differ (places.placed (so_far.honest ∙ h)) (names.done (before.honest ∙ h));
       lasts = λ h. save_is_done aside path bytes cleared.now placed.now last.now ending (places.whole (so_far.honest ∙ h))
           differ (places.placed (so_far.honest ∙ h)) (names.done (before.honest ∙ h));
-      moments = λ h. goes_on (before.moments h) (names.past (before.honest ∙ h))
+      moments = λ h. one_more_call (before.moments h) (names.past (before.honest ∙ h))
           (old_then_fine path bytes old.now cleared.now (so_far.moments h).last last.now
           (after_flushing_names aside path bytes cleared.now differ (places.whole (so_far.honest ∙ h)) placed.now last.now
           ending (places.placed (so_far.honest ∙ h)) (names.done (before.honest ∙ h))));
@@ -540,7 +540,7 @@ no_call_loads {bytes_of = bytes_of} {path = path} {old = old} {fault = fault} sa
     subst (λ (d : DiskState). DiskLoads bytes_of path old (Err fault) d) (sym same) (record {
       loaded = λ h. tt;
       lasts = λ h. tt;
-      moments = λ h. begins (refl, old_left path old.now);
+      moments = λ h. throughout_nothing (refl, old_left path old.now);
       honest = refl;
     })
 
@@ -551,7 +551,7 @@ no_call_saves {path = path} {bytes = bytes} {old = old} {fault = fault} same =
     subst (λ (d : DiskState). DiskSaves path bytes old (Err fault) d) (sym same) (record {
       saved = λ h. tt;
       lasts = λ h. tt;
-      moments = λ h. begins (inl refl, λ found left. inl left);
+      moments = λ h. throughout_nothing (inl refl, λ found left. inl left);
       honest = refl;
     })
 

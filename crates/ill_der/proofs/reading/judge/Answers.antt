@@ -3,7 +3,7 @@
 use Rattle.std.proofs.Common.{arith}
 use Rattle.ill_der.proofs.ContentsLaws.{Values}
 use Rattle.ill_der.proofs.StreamLemmas.{encoded_exactly}
-use Rattle.ill_der.proofs.MissingLemmas.{handed_on}
+use Rattle.ill_der.proofs.MissingLemmas.{judged_error}
 use Rattle.ill_der.proofs.reading.judge.Goals as goal
 
 -- If decoding gives an APDU, all of `bytes` is its encoding.
@@ -27,5 +27,5 @@ returns-in_err-apdu c =
       qualifier_size = c.text_sizes.ensures.qualifier;
       item_size = c.text_sizes.ensures.item;
     } in
-    handed_on values c.args.bytes.now c.in_err-apdu.field-0.0 c.from_residual.result (λ i. omega (arith, c.type_inv.bytes i))
+    judged_error values c.args.bytes.now c.in_err-apdu.field-0.0 c.from_residual.result (λ i. omega (arith, c.type_inv.bytes i))
     c.requires.unfinished c.requires.enough c.in_err-apdu.ensures.read c.from_residual.ensures.1

@@ -2,7 +2,7 @@
 use Rattle.std.proofs.Common.{ℕ, List, Bor, map, subst}
 use Rattle.ill_saved.specs.OneSide.{one_side}
 use Rattle.ill_record.specs.declared.role.Role.{Role}
-use Rattle.ill_desk.specs.Act.{NamesNone}
+use Rattle.ill_desk.specs.Act.{FailsToName}
 use Rattle.ill_desk.specs.Actions.{action_named}
 use Rattle.ill_desk.proofs.ActLemmas.{not_named}
 use Rattle.ill_desk.proofs.act.run_act.Goals as goal
@@ -11,6 +11,6 @@ use Rattle.ill_desk.proofs.act.run_act.Goals as goal
 pub returns-in-Err-clause-runs : goal.returns-in-Err-clause-runs
 returns-in-Err-clause-runs g c =
     let words = map (λ (word : Bor (List ℕ)). word.now) c.args.words.now in
-    let none = subst (λ (role : Role). NamesNone (action_named role c.args.today words) c.in-Err.fault) c.role.ensures
+    let none = subst (λ (role : Role). FailsToName (action_named role c.args.today words) c.in-Err.fault) c.role.ensures
     c.in-Err.ensures.fault in
     not_named one_side tt _ _ c.in-Err.fault none

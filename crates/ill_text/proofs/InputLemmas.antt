@@ -24,7 +24,7 @@ use Rattle.ill_text.specs.Input.{encodings, Rest, rest_of, Ends, ReadsInput, ans
 -- `handles` relates states, and `seen` relates their views. `as_seen` says that each step by `handles` is one by
 -- `seen`.
 
--- If `handles` leads from `before` through `apdus` to `after`, `seen` leads so between their views.
+-- If `handles` leads from `before` through `apdus` to `after`, `seen` leads from `view before` to `view after`.
 pub handled_on_views : {S T F : Type 0} (handles : Handles S F) (seen : Handles T F) (view : S → T)
     → ((s t : S) (apdu : Apdu) (r : Result (Unit {0}) F) → handles s apdu r t → seen (view s) apdu r (view t))
     → (before after : S) (apdus : List Apdu) → Handled handles before apdus after → Handled seen (view before) apdus (view after)
@@ -32,7 +32,7 @@ handled_on_views handles seen view as_seen before after [] is = ap view is
 handled_on_views handles seen view as_seen before after (apdu ∷ apdus) is =
     (view is.0, as_seen before is.0 apdu (Ok tt) is.1, handled_on_views handles seen view as_seen is.0 after apdus is.2)
 
--- If an input ends by `handles`, it ends by `seen` on the views.
+-- If an input ends by `handles` from `before` to `after` (`Ends`), it ends so by `seen` between their views.
 ends_on_views : {S T : Type 0} (handles : Handles S ToolFault) (seen : Handles T ToolFault) (view : S → T)
     → ((s t : S) (apdu : Apdu) (r : Result (Unit {0}) ToolFault) → handles s apdu r t → seen (view s) apdu r (view t))
     → (result : Result ℕ ToolFault) (count : ℕ) (rest : Rest) (before after : S)
@@ -43,7 +43,7 @@ ends_on_views handles seen view as_seen (Err fault) count rest before after is =
   | inr fails ↦ inr (fails.0, fails.1, fails.2, fails.3, as_seen before after fails.0 (Err fault) fails.4)
 ]
 
--- If an input is read by `handles`, it is read by `seen` on the views.
+-- If an input is read by `handles` from `before` to `after` (`ReadsInput`), `seen` reads it so between their views.
 pub reads_on_views : {S T : Type 0} (handles : Handles S ToolFault) (seen : Handles T ToolFault) (view : S → T)
     → ((s t : S) (apdu : Apdu) (r : Result (Unit {0}) ToolFault) → handles s apdu r t → seen (view s) apdu r (view t))
     → (old new : Option (List ℕ)) (before after : S) (result : Result ℕ ToolFault)
@@ -62,7 +62,7 @@ reads_on_views handles seen view as_seen old new before after result is = record
       is.ended;
 }
 
--- If handling the APDUs of a piece fails by `handles`, it fails by `seen` on the views.
+-- If handling the APDUs of `piece` fails with `fault` by `handles` (`FailsAt`), it fails so by `seen` on the views.
 fails_as : {S T F : Type 0} (handles : Handles S F) (seen : Handles T F) (view : S → T)
     → ((s t : S) (apdu : Apdu) (r : Result (Unit {0}) F) → handles s apdu r t → seen (view s) apdu r (view t))
     → (old : FeedState) (piece : List ℕ) (before after : S) (fault : F) → FailsAt handles old piece before fault after
@@ -78,7 +78,7 @@ fails_as handles seen view as_seen (Ok held) piece before after fault is = (
 )
 fails_as handles seen view as_seen (Err closed) piece before after fault is = absurd is
 
--- If the APDUs of a piece are handled by `handles`, they are handled by `seen` on the views.
+-- If `piece` is handled by `handles` with `result` (`HandlesEach`), it is handled so by `seen` on the views.
 pub piece_on_views : {S T F : Type 0} (handles : Handles S F) (seen : Handles T F) (view : S → T)
     → ((s t : S) (apdu : Apdu) (r : Result (Unit {0}) F) → handles s apdu r t → seen (view s) apdu r (view t))
     → (old : FeedState) (piece : List ℕ) (before : S) (result : Result (Option DerFault) F) (new : FeedState) (after : S)
@@ -99,8 +99,8 @@ handled_join handles before middle after [] more first second = subst (λ s. Han
 handled_join handles before middle after (apdu ∷ prefix) more first second =
     (first.0, first.1, handled_join handles first.0 middle after prefix more first.2 second)
 
--- Handling and counting `apdus` raises the count by their number, to at most 100,000. Without the count, `handles` has
--- handled them.
+-- If the count is at most 100,000, counting and handling `apdus` raises it by their number, and it stays so. Without
+-- the count, `handles` has handled `apdus`.
 counted_on : {S : Type 0} (handles : Handles S ToolFault) (before after : ℕ × S) (apdus : List Apdu)
     → before.0 ≤ 100000 → Handled (CountsOn handles) before apdus after
     → (after.0 ≡ before.0 + length apdus) × (after.0 ≤ 100000) × Handled handles before.1 apdus after.1
@@ -252,7 +252,8 @@ still_open : (new : FeedState) → None ≡ fault_of new → (held : List ℕ) �
 still_open (Ok held) e = (held, refl)
 still_open (Err fault) e = absurd cc
 
--- If the held bytes grow, or the count of APDUs does, the bound of `most_bytes_left` becomes smaller.
+-- Let `k` APDUs come after `n`, or only `more` bytes after the `size` held ones. Then the bound of `most_bytes_left`
+-- with `m` APDUs and `left` held bytes is smaller.
 more_room : (n k size more left m : ℕ) → ((k ≡ 0) × (left ≡ size + more)) ⊎ (0 < k) → m ≡ n + k → m ≤ 100000
     → size ≤ 358 → left ≤ 358 → 0 < more
     → 35900359 - (m * 359 + left) < 35900359 - (n * 359 + size)
@@ -261,7 +262,8 @@ more_room n k size more left m grown is few held rest some = elim grown [
   | inr handed ↦ omega (arith, is, few, held, rest, handed, some)
 ]
 
--- `piece` either completes an APDU or only makes the held bytes longer.
+-- Let `held ++ piece` be the encodings of `more` and then `rest`. Then `piece` completes an APDU, or only makes the
+-- held bytes longer.
 longer_or_handed : (more : List Apdu) (held piece rest : List ℕ) → held ++ piece ≡ encodings more ++ rest
     → ((length more ≡ 0) × (length rest ≡ length held + length piece)) ⊎ (0 < length more)
 longer_or_handed [] held piece rest e = inl (refl, omega (arith, ap length e, length-append held piece))
@@ -272,7 +274,7 @@ rest_within : (held piece text rest : List ℕ) → held ++ piece ≡ text ++ re
     → length text + length rest ≡ length held + length piece
 rest_within held piece text rest e = omega (arith, ap length e, length-append held piece, length-append text rest)
 
--- A piece that is not empty makes `most_bytes_left` smaller.
+-- If `piece` is not empty and the feed stays open, `most_bytes_left` is smaller after it.
 room_falls : ShortLaw → (count m : ℕ) (feed next : FeedState) (held now piece : List ℕ) (more : List Apdu)
     → feed ≡ Ok held → next ≡ Ok now → held ++ piece ≡ encodings more ++ now
     → m ≡ count + length more → m ≤ 100000 → IsUnfinished held → IsUnfinished now → 0 < length piece
@@ -283,7 +285,8 @@ room_falls law count m feed next held now piece more was is parts counted few un
     (more_room count (length more) (length held) (length piece) (length now) m (longer_or_handed more held piece now parts)
     counted few (few_held law held unfinished) (few_held law now still) some))
 
--- If a piece is handled and the feed stays open, `ReadSoFar` holds after it, and `most_bytes_left` is smaller.
+-- If a piece is handled and the feed stays open, `ReadSoFar` holds after it, and `most_bytes_left` is smaller. The
+-- APDUs `more` of the piece join those so far, and `rest` is held.
 pub one_piece_more : {H C : Type 0} (handles : Handles (H × C) ToolFault) → ShortLaw
     → (old now new : Option (List ℕ)) (before : H × C) (middle after : Counted H × C) (feed next : FeedState) (piece : List ℕ)
     → ReadSoFar handles old now before middle.0.count feed (middle.0.handler, middle.1) → Consumes now new piece
@@ -417,7 +420,8 @@ not_short (Length at) P none = tt
 not_short (Field at) P none = tt
 not_short OutOfMemory P none = tt
 
--- If the bytes of a piece close the feed with `fault`, `ReadsInput` holds with that fault.
+-- If the bytes of a piece close the feed with `fault`, `ReadsInput` holds with that fault. The APDUs `more` before it
+-- were handled, and `rest` has the fault.
 pub ends_closed : {H C : Type 0} (handles : Handles (H × C) ToolFault) → ShortLaw
     → (old now new : Option (List ℕ)) (before : H × C) (middle after : Counted H × C) (feed next : FeedState) (piece : List ℕ)
     (fault : DerFault)
@@ -463,7 +467,8 @@ ends_in_hand handles state after apdu fault count ahead left is counted few on =
   | inr fails ↦ inr (apdu, is, refl, omega (arith, fails.0, counted), fails.1)
 ]
 
--- If an APDU of a piece is one too many, or handling it fails, `ReadsInput` holds with that fault.
+-- If an APDU of a piece is one too many, or handling it fails, `ReadsInput` holds with that fault. The APDUs `more`
+-- before it were handled, and `rest` is read ahead.
 pub ends_failing : {H C : Type 0} (handles : Handles (H × C) ToolFault) → ShortLaw
     → (old now new : Option (List ℕ)) (before : H × C) (middle after : Counted H × C) (feed next : FeedState) (piece : List ℕ)
     (fault : ToolFault)

@@ -11,7 +11,8 @@ from_place : {X : Type 0} (items : List X) (place : ℕ) (item : X) → place < 
 from_place items place item within there =
     drop_more items place item within ∙ ap (λ first. first ∷ drop (place + 1) items) (sym there)
 
--- After the text of the item at `place` is appended, the texts of the later items are left.
+-- Append `before` and the text of the item at `place` to `shown`, and then the join of the later items.
+-- That appends the join of all items from `place` on.
 pub one_joined : {X : Type 0} (text : X → List ℕ) (before shown : List ℕ) (items : List X) (place : ℕ) (item : X)
     → place < length items → item ≡ get_or items place item
     → ((shown ++ before) ++ text item) ++ joined text (codes ",") (drop (place + 1) items)
@@ -23,7 +24,7 @@ one_joined text before shown items place item within there =
     ∙ append_assoc shown (before ++ text item) left
     ∙ ap (λ items. shown ++ joined text before items) (sym (from_place items place item within there))
 
--- After the last item no text is left to append.
+-- If no item is left at `place`, joining the items from `place` on appends nothing to `shown`.
 pub all_joined : {X : Type 0} (text : X → List ℕ) (before shown : List ℕ) (items : List X) (place : ℕ)
     → length items ≤ place → shown ++ joined text before (drop place items) ≡ shown
 unfolding joined

@@ -5,7 +5,8 @@ use Rattle.std.proofs.Math.ListN.{drop_of_length-le}
 use Rattle.std.proofs.lemmas.List.{append-nil, at_drop_more}
 use Rattle.ill_text.specs.LongLines.{indent, indented_on}
 
--- After the byte at `place` and the spaces before it are appended, the later bytes are left.
+-- Append to `shown` the spaces before the byte at `place` (`set`), and then the byte (`shown_further`).
+-- With the later bytes, indented, that appends all bytes from `place` on, indented.
 pub one_byte_further : (text : List ℕ) (place : ℕ) (begins : Bool) (shown set shown_further : List ℕ)
     → place < length text → set ≡ shown ++ indent begins → shown_further ≡ set ++ slice_index_or text place 0 ∷ []
     → shown_further ++ indented_on (slice_index_or text place 0 == 10) (drop (place + 1) text)
@@ -19,7 +20,7 @@ one_byte_further text place begins shown set shown_further lt is_set is_further 
     ∙ append_assoc shown (indent begins) (byte ∷ left)
     ∙ ap (λ (bytes : List ℕ). shown ++ bytes) (sym (at_drop_more (indented_on begins) text place 0 lt))
 
--- After the last byte no text is left to append.
+-- If no byte is left at `place`, indenting the bytes from `place` on appends nothing to `shown`.
 pub none_further : (text : List ℕ) (place : ℕ) (begins : Bool) (shown : List ℕ) → length text ≤ place
     → shown ≡ shown ++ indented_on begins (drop place text)
 unfolding indented_on

@@ -45,7 +45,8 @@ first_visited (path ∷ paths) [] (suc place) within is = absurd cc
 first_visited (path ∷ paths) (stop ∷ stops) zero within is = absurd cc
 first_visited (path ∷ paths) (stop ∷ stops) (suc place) within is = sym (not_first place)
 
--- If visits lead from `before` to `between`, and `stop` begins there, `stop` may follow them.
+-- Let `stops` lead from `before` to `between`, and let `stop` begin there. Then `stops` and `stop` lead from `before`
+-- to the output after `stop`.
 follow_more : (before between : Option (List ℕ)) (stops : List Stop) (stop : Stop)
     → AreConsecutive before stops between → stop.before ≡ between → AreConsecutive before (stops ++ stop ∷ []) stop.after
 unfolding AreConsecutive
@@ -53,7 +54,7 @@ follow_more before between [] stop is begins = (begins ∙ is, refl)
 follow_more before between (first ∷ stops) stop follows begins =
     (follows.0, follow_more first.after between stops stop follows.1 begins)
 
--- If `Runs` holds of `stops`, and then of `stop`, it holds of all of them.
+-- If `Runs` holds at each of `stops` (`RunAtEach`), and at `stop` after them, it holds at each of all.
 run_more : (Runs : Bool → Stop → Type 0) (stops : List Stop) (stop : Stop) → RunAtEach Runs stops
     → Runs (is_nothing stops) stop → RunAtEach Runs (stops ++ stop ∷ [])
 run_more Runs [] stop each run = (run, All-nil (Runs false))
@@ -66,7 +67,8 @@ gravest_more stops stop =
     ap (λ answers. fold graver (Ok true) answers) (map-append answer stops (stop ∷ []))
     ∙ fold-append graver (Ok true) (map answer stops) (stop.answer ∷ [])
 
--- If the desks at the first `place` of `paths` were visited, and then the next, the first `place + 1` were visited.
+-- If the first `place` of `paths` were visited, and then the next one, the first `place + 1` were visited.
+-- The answer of all is the graver of `answer` and `next`.
 pub one_more_visit : (Runs : Bool → Stop → Type 0) (paths : List (List ℕ)) (place : ℕ) (path : List ℕ)
     (before between after : Option (List ℕ)) (answer next : Result Bool ToolFault)
     → place < length paths → path ≡ get_or paths place path → VisitsEach Runs (take place paths) before between answer

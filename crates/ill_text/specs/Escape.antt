@@ -19,7 +19,7 @@ acting_ranges =
     (0x80, 0x9F) ∷ (0xAD, 0xAD) ∷ (0x61C, 0x61C) ∷ (0x200B, 0x200B) ∷ (0x200E, 0x200F) ∷ (0x2028, 0x202E)
     ∷ (0x2060, 0x2064) ∷ (0x2066, 0x2069) ∷ (0xFEFF, 0xFEFF) ∷ (0xE0000, 0xE007F) ∷ []
 
--- Returns true if the character `number` is in one of these ranges. Such a character is an acting one.
+-- Returns true if the character `number` is in one of `acting_ranges`. Such a character is an acting one.
 abbrev pub is_acting : ℕ → Bool
 is_acting number = list_any (λ range. is_within range.0 range.1 number) acting_ranges
 
@@ -116,8 +116,8 @@ written escaping [] = []
 abbrev pub escaped : List ℕ → List ℕ
 escaped text = written Screen text
 
--- The text `first ∷ after` begins with an escaped character, given by its number and the text after it. Or,
--- given None, it begins with a byte of another kind.
+-- Given `Some (number, rest)`, `written` writes `first ∷ after` as the escape of `number`, and then writes `rest`.
+-- Given None, `written` writes the byte `first` by itself.
 abbrev pub IsActingPrefix : Escaping → ℕ → List ℕ → Option (ℕ × List ℕ) → Type 0
 IsActingPrefix escaping first after (Some (number, rest)) =
     (written escaping (first ∷ after) ≡ escape escaping number ++ written escaping rest)

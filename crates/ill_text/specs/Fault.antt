@@ -22,7 +22,7 @@ IsOpenFault (Desk fault) = Unit {0}
 IsOpenFault OutOfMemory = Unit {0}
 IsOpenFault other = ⊥
 
--- If the answer is a failure of the store, their count has risen, or is at its maximum.
+-- If the answer is a failure of the store, the count of these has risen, or is at its maximum.
 abbrev pub ToolFailsCounted : {X : Type 0} → Result X ToolFault → ℕ → ℕ → Type 0
 ToolFailsCounted (Err (Desk (desks.Store Failed))) old new = HasRisen old new
 ToolFailsCounted answer old new = Unit {0}

@@ -14,7 +14,7 @@ html_byte byte =
     else (if byte == 0x27 then codes "&#39;"
     else byte ∷ []))))
 
--- Returns `text` with entities in place of these bytes.
+-- Returns `text` with an HTML entity in place of each byte that has one (`html_byte`).
 abbrev pub html_escaped : List ℕ → List ℕ
 html_escaped text = flat_map html_byte text
 

@@ -41,7 +41,7 @@ StopsReading TooMany count rest = (count ≡ 100000) × EncodesOne rest.bytes
 StopsReading Read count rest = IsUnfinished rest.bytes × (rest.ahead ≡ [])
 StopsReading other count rest = ⊥
 
--- `bytes` are an APDU, within the most that an input may have, and its handling failed.
+-- `bytes` encode an APDU, `count` before it are fewer than 100,000, and its handling failed with `fault`.
 abbrev pub FailsInHand : {S : Type 0} → Handles S ToolFault → ToolFault → ℕ → List ℕ → S → S → Type 0
 FailsInHand handles fault count bytes before after =
     (apdu : Apdu) × IsApdu apdu × (bytes ≡ encoding apdu) × (count < 100000)

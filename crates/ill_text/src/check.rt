@@ -49,6 +49,7 @@ fn count_apdus<R: Read>(alloc: Global, reader: &mut R) -> Result<u32, ToolFault>
 #[derive(Drop)]
 struct Passing;
 
+/// Skips each APDU. The states before and after it do not matter.
 impl Handler<()> for Passing {
     type Fault = ToolFault;
 

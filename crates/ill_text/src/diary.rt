@@ -136,7 +136,9 @@ fn push_came(lines: &mut Vec<u8>, begin: &[u8], apdu: &Apdu) -> Result<(), OutOf
 /// A diary that is written.
 #[derive(Drop)]
 pub struct Diary<D> {
+    /// The stream to which lines are written.
     stream: D,
+    /// Set if a line could not be entered.
     has_failed: bool,
 }
 
@@ -175,7 +177,9 @@ impl<D: Write> Diary<D> {
 /// A line that a command enters in a diary, before it saves the message that the line names.
 #[derive(Drop)]
 pub struct Entry<D> {
+    /// The line.
     line: Vec<u8>,
+    /// The diary.
     diary: Diary<D>,
 }
 
@@ -225,6 +229,7 @@ impl<D: Write> Entry<D> {
 /// A diary of messages that come. Their lines are entered when the messages are flushed.
 #[derive(Drop)]
 pub struct CameDiary<D> {
+    /// The diary.
     diary: Diary<D>,
     /// The text with which each line begins. If it is empty, nothing is entered.
     begin: Vec<u8>,
@@ -292,9 +297,11 @@ pub struct WithDiary<'a, 'b, C, D> {
     pub diary: &'b mut CameDiary<D>,
 }
 
+/// The contents are those of the stream alone. The diary is no part of them.
 impl<C: Write, D: Write> Write for WithDiary<'_, '_, C, D> {
     ghost contents = { λ stream. C.contents stream.came.now };
 
+    /// Writes to the stream, and remembers for the diary what the stream took.
     fn write(&mut self, bytes: &[u8]) -> io::Result<usize> {
         match self.came.write(bytes) {
             Ok(count) => {
@@ -305,6 +312,7 @@ impl<C: Write, D: Write> Write for WithDiary<'_, '_, C, D> {
         }
     }
 
+    /// Flushes the stream, and then enters the lines of the messages since the last flush.
     fn flush(&mut self) -> io::Result<()> {
         match self.came.flush() {
             Ok(()) => {

@@ -78,6 +78,7 @@ pub enum ToolFault {
     OutOfMemory,
 }
 
+/// Returns the fault of a command whose desk had a fault (`desk_fault`).
 impl From<DeskFault> for ToolFault {
     ghost from_gives = { λ fault tool. tool ≡ desk_fault fault };
 
@@ -89,6 +90,7 @@ impl From<DeskFault> for ToolFault {
     }
 }
 
+/// Returns `OutOfMemory`.
 impl From<AllocError> for ToolFault {
     ghost from_gives = { λ _ tool. tool ≡ OutOfMemory };
 
@@ -97,6 +99,7 @@ impl From<AllocError> for ToolFault {
     }
 }
 
+/// Returns `OutOfMemory`, and drops what the failure holds.
 impl<T: Drop> From<AllocFailed<T>> for ToolFault {
     ghost from_gives = { λ _ tool. tool ≡ OutOfMemory };
 
@@ -105,6 +108,7 @@ impl<T: Drop> From<AllocFailed<T>> for ToolFault {
     }
 }
 
+/// Returns `OutOfMemory` if memory ran out, and `STORE_FAILED` for any other error.
 impl From<io::Error> for ToolFault {
     ghost from_gives = { λ _ tool. IsFileFault tool × IsOpenFault tool };
 

@@ -34,6 +34,7 @@ impl<H> Counted<H> {
     }
 }
 
+/// Hands each APDU to the handler inside and counts it, unless it is one too many (`CountsOn`).
 impl<C, H: Handler<C, Fault = ToolFault>> Handler<C> for Counted<H> {
     type Fault = ToolFault;
 

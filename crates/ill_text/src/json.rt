@@ -11,11 +11,17 @@ use itoa::Buffer;
 /// The value of a field.
 #[derive(Clone, Copy)]
 pub enum Value<'a> {
+    /// No value, written as `null`.
     Missing,
+    /// A string.
     Text(&'a [u8]),
+    /// A day, written as a string.
     Date(Day),
+    /// A number.
     Count(usize),
+    /// `true` or `false`.
     Flag(bool),
+    /// An array of strings.
     Words(&'a [&'a str]),
 }
 

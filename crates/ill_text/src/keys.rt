@@ -18,7 +18,7 @@ pub fn loan_key(alloc: Global, txn: &TxnId) -> Result<Vec<u8>, OutOfMemory>
     Ok(begin)
 }
 
-/// Appends the qualifier `text`.
+/// Appends the qualifier `text`, with an escape for each space and each backslash.
 fn push_key(line: &mut Vec<u8>, text: &[u8]) -> Result<(), OutOfMemory>
     ensures { OnOk result (line.new.items ≡ line.old.items ++ key text.now) }
 {

@@ -64,9 +64,11 @@ fn show<R: Read, W: Write, const JSON: bool>(
 /// A handler that writes the text of each APDU, through a buffer.
 #[derive(Drop)]
 struct Showing<const JSON: bool> {
+    /// The text of an APDU, before it is written.
     lines: Vec<u8>,
 }
 
+/// Writes the text of each APDU to the writer, which is the second part of each state.
 impl<W: Write, const JSON: bool> Handler<W> for Showing<JSON> {
     type Fault = ToolFault;
 

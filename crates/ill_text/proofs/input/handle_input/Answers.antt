@@ -22,8 +22,8 @@ returns-in-Ok-eq0 g c =
     (ends_at_end _ c.short_has_the_size.ensures _ _ _ _ c.loop-feed.counted.count c.loop-feed.feed still
     (c.in-Ok-eq0.ensures.bytes.1 c.in-Ok-eq0.field-0-test (omega (arith, size))))
 
--- Proves that each pass of the loop of `handle_input` lowers its measure. The piece has a byte, so `room` becomes
--- smaller.
+-- Proves that each pass of the loop of `handle_input` lowers its measure. The piece has a byte, so by `one_piece_more`
+-- `most_bytes_left` is smaller.
 pub loop-feed-smaller : goal.loop-feed-smaller
 loop-feed-smaller g c =
     let few : c.in-Ok.size ≤ length c.read.new.buf = search rules in

@@ -3,7 +3,8 @@ use Rattle.std.proofs.Common.{◌≡◌, length}
 use Rattle.ill_text.proofs.InputLemmas.{ReadSoFar, most_bytes_left}
 use Rattle.ill_text.proofs.input.handle_input.Given as goal
 
--- The APDUs whose encodings were read have been handled, and the bytes after them are held.
+-- The APDUs whose encodings were read have been handled, and the bytes after them are held (`ReadSoFar`). The buffer
+-- `piece` has 4,096 bytes.
 abbrev pub invariant-loop-feed : goal.invariant-loop-feed
 invariant-loop-feed g l = record {
   size : length l.piece ≡ 4096;

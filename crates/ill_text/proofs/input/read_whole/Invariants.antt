@@ -3,7 +3,7 @@ use Rattle.std.proofs.Common.{◌≡◌, ◌≤◌, ◌-◌, length}
 use Rattle.std.specs.Io.KnownBytes.{Consumes}
 use Rattle.ill_text.proofs.input.read_whole.Given as goal
 
--- The bytes so far were read, and are at most `limit`.
+-- The bytes so far were read, and are at most `limit`. The buffer `piece` has 4,096 bytes.
 abbrev pub invariant-loop-bytes : goal.invariant-loop-bytes
 invariant-loop-bytes g l = record {
   size : length l.piece ≡ 4096;

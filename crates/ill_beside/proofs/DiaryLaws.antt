@@ -49,7 +49,8 @@ or_true : (a : Bool) {b : Bool} → b ≡ true → (a || b) ≡ true
 or_true true is = refl
 or_true false is = is
 
--- If a message is found among `first` and `others`, a part tells of one of them, if that is so of the others alone.
+-- If `message` is found among `first` and `others`, its part tells of one of them. The first premise is the statement
+-- for `others` alone.
 found_here : (says : Said) (test : Named → Bool) (first : Named) (others : List Named) (message : Named) (passes : Bool)
     → (find test others ≡ Some message → list_any (tells_of (part_of says message)) others ≡ true)
     → cond passes (Some first) (find test others) ≡ Some message
@@ -59,15 +60,16 @@ found_here says test first others message true later met =
     (subst (λ (m : Named). tells_of (part_of says m) first ≡ true) (same_Some first message met) (tells_its_own says first))
 found_here says test first others message false later met = or_true (tells_of (part_of says message) first) (later met)
 
--- If a message is found among others, a part tells of one of them.
+-- If `message` is the first of `messages` that passes `test`, its part tells of one of `messages`.
 found_there : (says : Said) (test : Named → Bool) (messages : List Named) (message : Named) → find test messages ≡ Some message
     → list_any (tells_of (part_of says message)) messages ≡ true
 found_there says test [] message is = absurd (true≢false (ap is_some (sym is)))
 found_there says test (first ∷ others) message is =
     found_here says test first others message (test first) (found_there says test others message) is
 
+-- `messages` are those of the record of a loan.
 module _ (messages : List Named) where
-  -- A part tells of one of the messages.
+  -- The part is ours: it tells of one of `messages`.
   abbrev pub IsOurs : Told → Type 0
   IsOurs part = is_of_record messages part ≡ true
 
@@ -82,6 +84,7 @@ module _ (messages : List Named) where
   line_ours : (later : List (List ℕ)) (line : List ℕ) → IfSome (part_at messages later line) IsOurs
   line_ours later line = go (said_by line)
     where
+      -- If no later line names the message of `says`, and it is `found` among `messages`, its part is ours.
       pick : (says : Said) (later_names : Bool) (found : Option Named)
           → find (λ message. bytes_eq message.key says.message) messages ≡ found
           → IfSome (if later_names then None else option_map (part_of says) found) IsOurs
@@ -89,6 +92,7 @@ module _ (messages : List Named) where
       pick says false None is = tt
       pick says false (Some message) is = found_there says (λ other. bytes_eq other.key says.message) messages message is
 
+      -- A line that says nothing tells no part.
       go : (said : Option Said) → IfSome (said >>= part_said messages later) IsOurs
       go None = tt
       go (Some says) = pick says (is_named says.message later) _ refl

@@ -30,13 +30,14 @@ pub mapped_twice : {A B C : Type 0} (first : A → B) (second : B → C) (value 
 mapped_twice first second None = refl
 mapped_twice first second (Some item) = refl
 
+-- `of` maps each item, and `test` tests the mapped items.
 module _ {A B : Type 0} (of : A → B) (test : B → Bool) where
   -- A test passes for one of the mapped items if and only if it does for one of the items.
   pub any_mapped : (items : List A) → list_any test (map of items) ≡ list_any (λ item. test (of item)) items
   any_mapped [] = refl
   any_mapped (item ∷ items) = ap (λ (rest : Bool). test (of item) || rest) (any_mapped items)
 
-  -- What is found among the mapped items after the first is what is found after it, mapped, if that is so without the first.
+  -- If `find_mapped` holds of `items`, it holds with `item` before them. `passes` is true if `item` passes the test.
   found_after : (item : A) (items : List A) (passes : Bool)
       → find test (map of items) ≡ option_map of (find (λ other. test (of other)) items)
       → cond passes (Some (of item)) (find test (map of items))

@@ -19,13 +19,13 @@ use Rattle.ill_beside.proofs.PlacesLemmas.{counted, kept_enough}
 
 -- ---- keys
 
--- Two tests that pass alike are equal.
+-- If `one` is true exactly if `other` is, they are equal.
 same_test : (one other : Bool) → (one ≡ true → other ≡ true) → (other ≡ true → one ≡ true) → one ≡ other
 same_test true other there back = sym (there refl)
 same_test false true there back = back refl
 same_test false false there back = refl
 
--- It does not matter which of two keys comes first.
+-- `bytes_eq` gives the same for `one` and `other` as for `other` and `one`.
 same_key : (one other : List ℕ) → bytes_eq one other ≡ bytes_eq other one
 same_key one other =
     same_test (bytes_eq one other) (bytes_eq other one)
@@ -38,11 +38,11 @@ same_key one other =
 abbrev pub day_of_line : Option LastLine → Option Date
 day_of_line found = option_map (λ last. last.day) found
 
--- A line stands before `place`, if there is one.
+-- If a line is `found`, it stands before `place`.
 abbrev pub IsBefore : (place : ℕ) → Option LastLine → Type 0
 IsBefore place found = IfSome found (λ last. nat_lt last.place place ≡ true)
 
--- Both values of a choice have what a choice has.
+-- If `P` holds of `one` and of `other`, it holds of the one that `test` chooses.
 chosen : {A : Type 0} (P : A → Type 0) (test : Bool) (one other : A) → P one → P other → P (if test then one else other)
 chosen P true one other first second = first
 chosen P false one other first second = second
@@ -61,7 +61,7 @@ next_before place None before = tt
 next_before place (Some last) before =
     lt-ltb last.place (suc place) (lt_trans (ltb-true last.place place before) (lt-suc_self place))
 
--- After one more line, the last of a message stands before the next place.
+-- If the line `found` stands before `place`, the last line after that at `place` stands before the next place.
 after_before : (key : List ℕ) (place : ℕ) (says : Option Said) (found : Option LastLine) → IsBefore place found
     → IsBefore (suc place) (last_after key place says found)
 after_before key place None found before = next_before place found before
@@ -71,20 +71,22 @@ after_before key place (Some says) found before =
 
 -- ---- one more line
 
+-- `last` gives the last line of each key so far. Each is `before` the line `new`, which names the keys of which
+-- `names` is true.
 module _ (last : List ℕ → Option LastLine) (names : List ℕ → Bool) (new : LastLine)
     (before : (key : List ℕ) → IsBefore new.place (last key)) where
   -- Returns the last line of each key: the new one for those that it names.
   abbrev with_new : List ℕ → Option LastLine
   with_new key = if names key then Some new else last key
 
-  -- The new line is the later one.
+  -- If a line is `found` before the new one, the later of both is the new one.
   new_is_later : (found : Option LastLine) → IsBefore new.place found → later found (Some new) ≡ Some new
   new_is_later None is = refl
   new_is_later (Some one) is =
       ap (λ (test : Bool). if test then Some one else Some new)
       (le-ltb new.place one.place (le_of_lt (ltb-true one.place new.place is)))
 
-  -- A line before the new one is not later.
+  -- If the `other` line is before the new one, the later of both is the new one.
   new_stays : (other : Option LastLine) → IsBefore new.place other → later (Some new) other ≡ Some new
   new_stays None is = refl
   new_stays (Some other) is = ap (λ (test : Bool). if test then Some new else Some other) is
@@ -94,7 +96,8 @@ module _ (last : List ℕ → Option LastLine) (names : List ℕ → Bool) (new 
   new_is_itself true = refl
   new_is_itself false = refl
 
-  -- Once the new line is found, it stays.
+  -- The later of the new line and the last line of `key` is the new line. `named_so` is true if the new line names
+  -- `key`.
   stays_at : (key : List ℕ) (named_so : Bool) → later (Some new) (if named_so then Some new else last key) ≡ Some new
   stays_at key true = new_is_itself (nat_lt new.place new.place)
   stays_at key false = new_stays (last key) (before key)
@@ -103,14 +106,15 @@ module _ (last : List ℕ → Option LastLine) (names : List ℕ → Bool) (new 
   abbrev latest_from : (List ℕ → Option LastLine) → Option LastLine → List Named → Option LastLine
   latest_from of found messages = fold (λ found message. later found (of message.key)) found messages
 
-  -- Once the new line is found, it is the latest.
+  -- The latest of the new line and the last lines of `messages` is the new line.
   stays : (messages : List Named) → latest_from with_new (Some new) messages ≡ Some new
   stays [] = refl
   stays (message ∷ messages) =
       ap (λ (found : Option LastLine). latest_from with_new found messages) (stays_at message.key (names message.key))
       ∙ stays messages
 
-  -- The day of the latest line is that of the new one if it names `message`, and else as it is of the other messages.
+  -- `new_counts` holds with `message` before `messages`, if it holds of `messages` (the premise). If the new line
+  -- names `message` (`named_so`), it is the latest.
   counts_at : (found : Option LastLine) → IsBefore new.place found → (message : Named) (messages : List Named)
       → option_or (option_map (λ message. new.day) (find (λ message. names message.key) messages))
       (day_of_line (latest_from last (later found (last message.key)) messages))
@@ -125,7 +129,8 @@ module _ (last : List ℕ → Option LastLine) (names : List ℕ → Bool) (new 
       (ap (λ (so_far : Option LastLine). latest_from with_new so_far messages) (new_is_later found is) ∙ stays messages))
   counts_at found is message messages others false = others
 
-  -- The day of the latest line is that of the new one, if it names one of the messages.
+  -- If the new line names one of `messages`, its day is that of the latest line. Else the latest line is what it was
+  -- without the new one.
   new_counts : (found : Option LastLine) → IsBefore new.place found → (messages : List Named)
       → option_or (option_map (λ message. new.day) (find (λ message. names message.key) messages))
       (day_of_line (latest_from last found messages))
@@ -139,8 +144,10 @@ module _ (last : List ℕ → Option LastLine) (names : List ℕ → Bool) (new 
 
 -- ---- all lines
 
+-- `messages` are those of the record of a loan.
 module _ (messages : List Named) where
-  -- One more line changes the last day as it changes the day of the latest line.
+  -- Let all lines so far stand before `place`. The line there changes the last day as it changes the day of the latest
+  -- line.
   line_counts : (place : ℕ) (last : List ℕ → Option LastLine) → ((key : List ℕ) → IsBefore place (last key))
       → (says : Option Said) → option_or (says >>= day_said messages) (day_of_line (latest last messages))
       ≡ day_of_line (latest (λ key. last_after key place says (last key)) messages)
@@ -150,7 +157,7 @@ module _ (messages : List Named) where
       (day_of_line (latest last messages))) (λ i key. same_key key says.message i)
       ∙ new_counts last (λ key. bytes_eq says.message key) (record { place = place; day = says.day }) before None tt messages
 
-  -- The last day of all lines is the day of the latest line, if that is so of the lines so far.
+  -- Let `day` be the day of the latest line so far. After `lines` the last day is again that of the latest line.
   lines_count : (place : ℕ) (last : List ℕ → Option LastLine) → ((key : List ℕ) → IsBefore place (last key))
       → (day : Option Date) → day ≡ day_of_line (latest last messages) → (lines : List (List ℕ))
       → fold (λ found line. option_or (day_told messages line) found) day lines
@@ -162,32 +169,35 @@ module _ (messages : List Named) where
       (option_or (day_told messages line) day)
       (ap (option_or (day_told messages line)) is ∙ line_counts place last before (said_by line)) lines
 
-  -- The last day is the day of the latest of the last lines.
+  -- The day of the latest of the last lines of `messages` is the last day of `lines`.
   pub latest_counts : (lines : List (List ℕ)) → day_of_line (latest (last_named lines) messages) ≡ last_day messages lines
   latest_counts lines = sym (lines_count 0 (λ key. None) (λ key. tt) None (none messages) lines)
     where
+      -- Before the first line, no message has a last line.
       none : (messages : List Named) → None ≡ day_of_line (latest (λ key. None) messages)
       none [] = refl
       none (message ∷ messages) = none messages
 
 -- ---- the lines that are kept
 
--- A line that names another message is not its last line.
+-- If `line` names no message with this `key`, the last line `found` stays.
 of_another : (key : List ℕ) (found : Option LastLine) (place : ℕ) (line : Vec ℕ Global) → has_key key (key_said line) ≡ false
     → looks_last key found place (Some line) ≡ found
 of_another key found place line = go (said_by line.items)
   where
+    -- A line that says nothing is no last line, and neither is one with another key.
     go : (says : Option Said) → has_key key (option_map (λ s. s.message) says) ≡ false → last_after key place says found ≡ found
     go None other = refl
     go (Some says) other = ap (λ (same : Bool). if same then Some (record { place = place; day = says.day }) else found) other
 
--- Counts the lines as their bytes are counted.
+-- A walk that counts `lines` gives what one over their bytes gives (`with_line`).
 lines_counted : (key : List ℕ) (place : ℕ) (found : Option LastLine) (lines : List (Vec ℕ Global))
     → fold (counted (looks_last key)) (place, found) lines ≡ fold (with_line key) (place, found) (map (λ line. line.items) lines)
 lines_counted key place found [] = refl
 lines_counted key place found (line ∷ lines) =
     lines_counted key (suc place) (last_after key place (said_by line.items) found) lines
 
+-- `by_key` has the places of `lines`, by the messages that they name.
 module _ (by_key : ByKey) (lines : List (Vec ℕ Global)) (are : ArePlaces key_said by_key lines) where
   -- Returns the bytes of the lines.
   abbrev all_lines : List (List ℕ)
@@ -199,7 +209,7 @@ module _ (by_key : ByKey) (lines : List (Vec ℕ Global)) (are : ArePlaces key_s
       kept_enough key_said by_key lines are key (looks_last key.items) (of_another key.items) None
       ∙ ap (λ (all : ℕ × Option LastLine). all.1) (lines_counted key.items 0 None lines)
 
-  -- The latest of the lines kept is the latest of the last lines, if that is so of the line found so far.
+  -- From the line `found` on, the latest line at the places of `messages` is the latest of their last lines.
   kept_from : (found : Option LastLine) (messages : List Message)
       → fold (λ found message. later found (last_kept by_key lines message.key)) found messages
       ≡ fold (λ found message. later found (last_named all_lines message.key)) found (map named messages)
@@ -210,7 +220,7 @@ module _ (by_key : ByKey) (lines : List (Vec ℕ Global)) (are : ArePlaces key_s
       (last_is message.key)
       ∙ kept_from (later found (last_named all_lines message.key.items)) messages
 
-  -- The day of the latest of the lines kept is the last day.
+  -- The day of the latest line at the places of `messages` is their last day in all lines.
   pub kept_counts : (messages : List Message)
       → day_of_line (latest_among by_key lines messages) ≡ last_day (map named messages) all_lines
   kept_counts messages = ap day_of_line (kept_from None messages) ∙ latest_counts (map named messages) all_lines

@@ -15,7 +15,7 @@ use Rattle.ill_core.specs.Requester.{RequesterRecord}
 use Rattle.ill_beside.specs.Heard.{requester_heard}
 use Rattle.ill_beside.specs.NewsWords.{news_words, says_no}
 
--- Words say no if, and only if, the message ends the request without the item.
+-- The words of a message say no if, and only if, it ends the request without the item (`is_unsupplied`).
 pub no_is_unsupplied : (due : Option Date) (body : Body) → says_no (news_words due body) ≡ is_unsupplied body
 no_is_unsupplied due (types.IllRequest None item) = refl
 no_is_unsupplied due (types.IllRequest (Some day) item) = refl
@@ -48,7 +48,8 @@ no_is_unsupplied due types.Expired = refl
 not_supplied : (state : State) → is_among (states.NotSupplied ∷ []) state ≡ true → state ≡ states.NotSupplied
 not_supplied state among = search (rules, among)
 
--- If the record shows that a message was taken that ends the request, the requester is in NOT-SUPPLIED.
+-- If the record `x` shows a message as taken that ends the request without the item, `x` is in NOT-SUPPLIED. Any other
+-- body fails one of both premises.
 unsupplied_ends : (x : RequesterRecord) (number : ℕ) (body : Body) → is_unsupplied body ≡ true
     → requester_heard x number body ≡ true → x.state ≡ states.NotSupplied
 unsupplied_ends x number (types.IllAnswer results.Retry) ends heard = not_supplied x.state heard
@@ -73,7 +74,7 @@ unsupplied_ends x number (types.Overdue due) ends heard = absurd (true≢false (
 unsupplied_ends x number (types.Renew wished) ends heard = absurd (true≢false (sym heard))
 unsupplied_ends x number (types.RenewAnswer answers granted) ends heard = absurd (true≢false (sym ends))
 
--- If the record shows that a message was taken whose words say no, the requester is in NOT-SUPPLIED.
+-- If the record `x` shows the message `a` as taken, and its words say no, `x` is in NOT-SUPPLIED.
 pub no_ends : (x : RequesterRecord) (due : Option Date) (a : Apdu) → says_no (news_words due a.body) ≡ true
     → requester_heard x a.number a.body ≡ true → x.state ≡ states.NotSupplied
 no_ends x due a says heard = unsupplied_ends x a.number a.body (sym (no_is_unsupplied due a.body) ∙ says) heard

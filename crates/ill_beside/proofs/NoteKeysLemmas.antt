@@ -30,6 +30,7 @@ around text place = (take place text, drop (place + 1) text)
 pub at_place : (text : List ℕ) → option_map (around text) (position is_space text) ≡ at_space text
 at_place text = go (nat_lt (position_or_len is_space text) (length text)) (position_or_len is_space text)
   where
+    -- `is` is true if there is a space, which is at `place`.
     go : (is : Bool) (place : ℕ)
         → option_map (around text) (if is then Some place else None) ≡ (if is then Some (around text place) else None)
     go true place = refl
@@ -37,17 +38,18 @@ at_place text = go (nat_lt (position_or_len is_space text) (length text)) (posit
 
 -- ---- the key of a line
 
--- No byte of a key is a space.
+-- No byte with which a key has `byte` is a space.
 byte_stays : (byte : ℕ) → list_any is_space (key_byte byte) ≡ false
 byte_stays byte = go (nat_eq byte 0x20) (nat_eq byte 0x5C) refl
   where
+    -- `space` and `backslash` are true if `byte` is one.
     go : (space backslash : Bool) → nat_eq byte 0x20 ≡ space
         → list_any is_space (if space then codes "\\u{20}" else (if backslash then codes "\\u{5c}" else byte ∷ [])) ≡ false
     go true backslash is = refl
     go false true is = refl
     go false false is = ap (λ (b : Bool). b || false) is
 
--- A qualifier has no space in a key.
+-- The key of a qualifier, `key text`, has no space.
 key_stays : (text : List ℕ) → list_any is_space (key text) ≡ false
 key_stays [] = refl
 key_stays (byte ∷ text) =
@@ -59,11 +61,11 @@ key_stays (byte ∷ text) =
 abbrev key_with : List ℕ × List ℕ → List ℕ
 key_with parts = key_of_parts parts.0 parts.1
 
--- Returns the first word, and the second one from where the texts at the next space are.
+-- Returns the word `first`, and the second word. `second` has the texts before and after the space that ends it.
 abbrev second_word : (first : List ℕ) → List ℕ × List ℕ → Option (List ℕ × List ℕ)
 second_word first second = both first second.0
 
--- Returns the first two words, from where the texts at the first space are.
+-- Returns the first two words of a line. `first` has the texts before and after its first space.
 abbrev two_words : List ℕ × List ℕ → Option (List ℕ × List ℕ)
 two_words first = at_space first.1 >>= second_word first.0
 
@@ -78,7 +80,8 @@ key_read txn rest =
 
 -- ---- the words of a loan
 
--- A line with another key has no words of a loan.
+-- If the key of `line` is not that of the loan `txn`, the line has no words of the loan. If it began with the loan's
+-- key, `key_read` would give that key.
 no_words : (txn : Qualifiers) (line : List ℕ) → has_key (loan_key txn) (begin_of line) ≡ false
     → words_after (loan_key txn) line ≡ None
 no_words txn line other =
@@ -93,7 +96,8 @@ no_words txn line other =
     ap (λ (b : Bool). if b && is_utf8 rest then Some rest else None)
     (false_from_ne_true (starts_with nat_eq line begin) begins)
 
--- The last words at the places of a loan's key are those of the loan.
+-- Let `by_key` have the places of `lines`. The last words at the places of the key of the loan `txn` are the last
+-- words of the loan.
 pub all_words : (by_key : ByKey) (lines : List (Vec ℕ Global)) → ArePlaces line_key by_key lines → (txn : Qualifiers)
     → (begin : Vec ℕ Global) → begin.items ≡ loan_key txn
     → looked_up (looks_after begin.items) lines None (places_of by_key begin)
@@ -104,6 +108,7 @@ all_words by_key lines are txn begin is =
     ∙ uncounted (λ found text. option_or (words_found (loan_key txn) text) found) 0 None lines
     ∙ sym (walk_over (λ found line. option_or (words_after (loan_key txn) line) found) (λ line. line.items) None lines)
   where
+    -- If `line` has another key, the words `found` stay.
     skips : (found : Option (List ℕ)) (place : ℕ) (line : Vec ℕ Global) → has_key begin.items (line_key line) ≡ false
         → looks_after (loan_key txn) found place (Some line) ≡ found
     skips found place line other =

@@ -19,17 +19,18 @@ use Rattle.ill_beside.specs.Notes.{last_words, line_of, note_of, unless_empty, w
 
 -- ---- the line of a loan
 
--- A line of a loan begins with the key of the loan.
+-- The line `begin ++ words` begins with `begin`, the key of a loan.
 begins_with_key : (begin words : List ℕ) → starts_with nat_eq (begin ++ words) begin ≡ true
 begins_with_key begin words = (bytes_eq-Decides begin (take (length begin) (begin ++ words))).1
     (sym (take-append_seam begin words))
 
--- The words after the key of a loan are those of its line, if they are UTF-8.
+-- If `words` are UTF-8, they are the words after `begin` in the line `begin ++ words`.
 own_words : (begin words : List ℕ) → IsUtf8 words → words_after begin (begin ++ words) ≡ Some words
 own_words begin words utf8 =
     go (starts_with nat_eq (begin ++ words) begin) (drop (length begin) (begin ++ words)) (begins_with_key begin words)
     (drop-append_seam begin words)
   where
+    -- `starts` is true if the line begins with `begin`, and `rest` is the text after it.
     go : (starts : Bool) (rest : List ℕ) → starts ≡ true → rest ≡ words
         → (if starts && is_utf8 rest then Some rest else None) ≡ Some words
     go starts rest begins is =
@@ -43,7 +44,7 @@ last_after : (begin : List ℕ) (lines : List (List ℕ)) (line : List ℕ)
 last_after begin lines line =
     fold-append (λ (found : Option (List ℕ)) line. option_or (words_after begin line) found) None lines (line ∷ [])
 
--- The note of a loan after a line of its own is that of the line.
+-- If `words` are UTF-8, a line with them makes them the note of the loan `txn`. If they are empty, the loan has none.
 own_note : (lines : List (List ℕ)) (txn : Qualifiers) (words : List ℕ) → IsUtf8 words
     → note_of (lines ++ line_of txn words ∷ []) txn ≡ unless_empty (Some words)
 own_note lines txn words utf8 =
@@ -51,12 +52,12 @@ own_note lines txn words utf8 =
     ∙ ap (λ (found : Option (List ℕ)). option_or found (last_words (loan_key txn) lines))
     (own_words (loan_key txn) words utf8))
 
--- Words that are there stay.
+-- If `words` are not empty, `unless_empty` returns them.
 some_stays : (words : List ℕ) → (words ≡ [] → ⊥) → unless_empty (Some words) ≡ Some words
 some_stays [] some = absurd (some refl)
 some_stays (byte ∷ words) some = refl
 
--- The last note of a loan counts.
+-- If `words` are UTF-8 and not empty, they are the note of the loan `txn` after its line with them.
 pub last_counts : (lines : List (List ℕ)) (txn : Qualifiers) (words : List ℕ) → IsUtf8 words → (words ≡ [] → ⊥)
     → note_of (lines ++ line_of txn words ∷ []) txn ≡ Some words
 last_counts lines txn words utf8 some = own_note lines txn words utf8 ∙ some_stays words some
@@ -67,11 +68,11 @@ none_left lines txn = own_note lines txn [] IsUtf8-nil
 
 -- ---- lines of other loans
 
--- If the first bytes of two texts are equal, so are the texts after them.
+-- If two texts are equal, so are their first bytes.
 heads : (x y : ℕ) (xs ys : List ℕ) → x ∷ xs ≡ y ∷ ys → x ≡ y
 heads x y xs ys is = ap (λ (text : List ℕ). get_or text 0 x) is
 
--- If two texts are equal, so are they without their first bytes.
+-- If two texts are equal, so are the texts after their first bytes.
 tails : (x y : ℕ) (xs ys : List ℕ) → x ∷ xs ≡ y ∷ ys → xs ≡ ys
 tails x y xs ys is = ap (λ (text : List ℕ). drop 1 text) is
 
@@ -84,10 +85,12 @@ encoded is_space is_backslash byte =
 two_not_five : (n m : ℕ) → n ≡ 0x32 → m ≡ 0x35 → n ≡ m → ⊥
 two_not_five n m two five is = omega (arith, two, five, is)
 
--- Two bytes are equal, and so are the texts after them, if the texts from their encodings on are equal.
+-- If `key_byte x ++ xs` equals `key_byte y ++ ys`, then `x` is `y`, and `xs` is `ys`.
 bytes_apart : (x y : ℕ) (xs ys : List ℕ) → key_byte x ++ xs ≡ key_byte y ++ ys → (x ≡ y) × (xs ≡ ys)
 bytes_apart x y xs ys is = go (nat_eq x 0x20) (nat_eq x 0x5C) (nat_eq y 0x20) (nat_eq y 0x5C) refl refl refl refl is
   where
+    -- `a` and `b` are true if `x` is a space or a backslash, `c` and `d` if `y` is one. Two bytes of other kinds
+    -- differ in their first byte, or in the escape.
     go : (a b c d : Bool) → nat_eq x 0x20 ≡ a → nat_eq x 0x5C ≡ b → nat_eq y 0x20 ≡ c → nat_eq y 0x5C ≡ d
         → encoded a b x ++ xs ≡ encoded c d y ++ ys → (x ≡ y) × (xs ≡ ys)
     go true b true d e f g h is = (eqb-true x 0x20 e ∙ sym (eqb-true y 0x20 g), ap (λ (text : List ℕ). drop 6 text) is)
@@ -100,16 +103,18 @@ bytes_apart x y xs ys is = go (nat_eq x 0x20) (nat_eq x 0x5C) (nat_eq y 0x20) (n
     go false false false true e f g h is = absurd (true≢false (sym (eq-eqb x 0x5C (heads x 0x5C _ _ is)) ∙ f))
     go false false false false e f g h is = (heads x y xs ys is, tails x y xs ys is)
 
--- A space is no beginning of the encoding of a byte.
+-- The bytes with which a key has `x` do not begin with a space.
 no_space : (x : ℕ) (xs ys : List ℕ) → key_byte x ++ xs ≡ 0x20 ∷ ys → ⊥
 no_space x xs ys is = go (nat_eq x 0x20) (nat_eq x 0x5C) refl is
   where
+    -- `a` and `b` are true if `x` is a space or a backslash.
     go : (a b : Bool) → nat_eq x 0x20 ≡ a → encoded a b x ++ xs ≡ 0x20 ∷ ys → ⊥
     go true b e is = omega (arith, heads 0x5C 0x20 _ _ is)
     go false true e is = omega (arith, heads 0x5C 0x20 _ _ is)
     go false false e is = true≢false (sym (eq-eqb x 0x20 (heads x 0x20 xs ys is)) ∙ e)
 
--- Two qualifiers are equal, and so are the texts after them, if the texts from their keys on are equal. A space ends each.
+-- If two texts that begin with the keys of `a` and `b`, and a space, are equal, `a` is `b`. The texts `xs` and `ys`
+-- after these are equal too.
 keys_apart : (a b xs ys : List ℕ) → key a ++ (codes " " ++ xs) ≡ key b ++ (codes " " ++ ys) → (a ≡ b) × (xs ≡ ys)
 keys_apart [] [] xs ys is = (refl, tails 0x20 0x20 xs ys is)
 keys_apart [] (y ∷ b) xs ys is =
@@ -122,14 +127,14 @@ keys_apart (x ∷ a) (y ∷ b) xs ys is =
     let rest = keys_apart a b xs ys first.1 in
     (ap (λ (z : ℕ). z ∷ a) first.0 ∙ ap (λ (text : List ℕ). y ∷ text) rest.0, rest.1)
 
--- A loan's key and the text after it are both keys in front of a space, and then the text.
+-- `loan_key txn ++ rest` is the group's key, a space, the transaction's key, a space, and `rest`.
 pub key_parts : (txn : Qualifiers) (rest : List ℕ)
     → loan_key txn ++ rest ≡ key txn.group ++ (codes " " ++ (key txn.transaction ++ (codes " " ++ rest)))
 key_parts txn rest =
     append_assoc (key txn.group) (codes " " ++ (key txn.transaction ++ codes " ")) rest
     ∙ ap (λ (text : List ℕ). key txn.group ++ (codes " " ++ text)) (append_assoc (key txn.transaction) (codes " ") rest)
 
--- Two loans are the same if the texts from their keys on are equal.
+-- If two texts that begin with the keys of the loans `txn` and `on` are equal, `txn` is `on`.
 loans_apart : (txn on : Qualifiers) (rest words : List ℕ) → loan_key txn ++ rest ≡ loan_key on ++ words → txn ≡ on
 loans_apart txn on rest words is =
     let groups = keys_apart txn.group on.group (key txn.transaction ++ (codes " " ++ rest))
@@ -138,7 +143,7 @@ loans_apart txn on rest words is =
     ap (λ (text : List ℕ). record { group = text; transaction = txn.transaction }) groups.0
     ∙ ap (λ (text : List ℕ). record { group = on.group; transaction = text }) transactions.0
 
--- The line of another loan has no words of this one.
+-- If `on` is another loan than `txn`, its line with `words` has no words of `txn`.
 no_words_of_another : (txn on : Qualifiers) (words : List ℕ) → (txn ≡ on → ⊥)
     → words_after (loan_key txn) (line_of on words) ≡ None
 no_words_of_another txn on words other =

@@ -9,7 +9,7 @@ use Rattle.std.proofs.lemmas.List.{length-drop, take_all}
 use Rattle.std.proofs.lemmas.Str.{IsUtf8-from_is_utf8, is_utf8-from_IsUtf8}
 use Rattle.ill_beside.specs.Notes.{words_after}
 
--- The bytes after the first `size` of a line are as many as are left.
+-- Taking `length line - size` bytes of those after the first `size` takes them all.
 pub rest_whole : (size : ℕ) (line : List ℕ) → take (length line - size) (drop size line) ≡ drop size line
 rest_whole size line = take_all (length line - size) (drop size line) (omega (arith, length-drop size line))
 

@@ -14,17 +14,18 @@ use Rattle.ill_beside.specs.Places.{places_of, with_thing}
 
 -- ---- all things
 
--- A walk over the values of things is one over the things.
+-- A walk over the values of `things` gives what a walk over `things` gives that takes the `value` of each.
 pub walk_over : {A B C : Type 0} (step : B → C → B) (value : A → C) (start : B) (things : List A)
     → fold step start (map value things) ≡ fold (λ found thing. step found (value thing)) start things
 walk_over step value start [] = refl
 walk_over step value start (thing ∷ things) = walk_over step value (step start (value thing)) things
 
--- Returns the number of things so far and what they give, with one thing more.
+-- Returns the number of things so far and what they give, with one `thing` more. `look` takes what is found, the place
+-- and the thing.
 abbrev pub counted : {A B : Type 0} → (look : B → ℕ → Option A → B) → ℕ × B → A → ℕ × B
 counted look (place, found) thing = (suc place, look found place (Some thing))
 
--- A walk that does not ask for places needs no count.
+-- If `step` takes no place, a walk that counts finds what one without a count finds.
 pub uncounted : {A B : Type 0} (step : B → Option A → B) (place : ℕ) (start : B) (things : List A)
     → (fold (counted (λ found place thing. step found thing)) (place, start) things).1
     ≡ fold (λ found thing. step found (Some thing)) start things
@@ -33,7 +34,7 @@ uncounted step place start (thing ∷ things) = uncounted step (suc place) (step
 
 -- ---- things at their places
 
--- What stands at a place is the thing there.
+-- If `item` is the thing at `place` in `things`, or None if there is none, `slice_get` returns it.
 pub item_at : {A : Type 0} (things : List A) (place : ℕ) (item : Option (Bor A)) → IsItemAt things place item
     → option_copied item ≡ slice_get things place
 item_at things place None is = sym (slice_get_past things place is.3)
@@ -41,12 +42,12 @@ item_at things place (Some item) is =
     sym (slice_get_read things (length things) place item.now refl is.3.0 is.1)
 
 module _ {A : Type 0} where
-  -- The things stand at the places from `place` on.
+  -- `get` gives the things of the list at the places from `place` on.
   abbrev AreAt : (get : ℕ → Option A) → (place : ℕ) → List A → Type 0
   AreAt get place [] = Unit {0}
   AreAt get place (thing ∷ things) = (get place ≡ Some thing) × AreAt get (suc place) things
 
-  -- Things stand a place later if one thing more is before them.
+  -- If `things` stand from `place` on without the first thing of `get`, they stand one place later with it.
   one_later : (get : ℕ → Option A) (place : ℕ) (things : List A) → AreAt (λ at. get (suc at)) place things
       → AreAt get (suc place) things
   one_later get place [] are = tt
@@ -59,19 +60,22 @@ module _ {A : Type 0} where
 
 -- ---- the places with a key
 
+-- `look` skips each thing that has not this `key` (`skips`): what is found stays.
 module _ {A B : Type 0} (key_of : A → Option (List ℕ)) (key : List ℕ) (look : B → ℕ → Option A → B)
     (skips : (found : B) (place : ℕ) (thing : A) → has_key key (key_of thing) ≡ false → look found place (Some thing) ≡ found)
   where
+    -- `get` gives the thing at a place, and `start` is what is found at first.
     module _ (get : ℕ → Option A) (start : B) where
-      -- Returns what places give.
+      -- Returns what the things at `places` give after `start`.
       abbrev given : List ℕ → B
       given places = fold (λ found place. look found place (get place)) start places
 
-      -- One thing more changes what its places give as it changes what all things give.
+      -- Let the places `found` give `so_far`. After one `thing` more, at `place`, they give what `look` makes of it.
       one_more : (place : ℕ) (found : List ℕ) (so_far : B) (thing : A) → get place ≡ Some thing → given found ≡ so_far
           → given (places_after key (key_of thing) place found) ≡ look so_far place (Some thing)
       one_more place found so_far thing at is = go (key_of thing) refl
         where
+          -- If the thing's `own` key is `key`, its place comes after those found. Else `look` skips it.
           choose : (own : List ℕ) → key_of thing ≡ Some own → (same : Bool) → bytes_eq own key ≡ same
               → given (if same then found ++ place ∷ [] else found) ≡ look so_far place (Some thing)
           choose own has true same =
@@ -80,6 +84,7 @@ module _ {A B : Type 0} (key_of : A → Option (List ℕ)) (key : List ℕ) (loo
               ∙ ap (look so_far place) at
           choose own has false same = is ∙ sym (skips so_far place thing (ap (has_key key) has ∙ same))
 
+          -- A thing without a key is skipped.
           go : (own : Option (List ℕ)) → key_of thing ≡ own
               → given (places_after key own place found) ≡ look so_far place (Some thing)
           go None has = is ∙ sym (skips so_far place thing (ap (has_key key) has))
@@ -99,7 +104,8 @@ module _ {A B : Type 0} (key_of : A → Option (List ℕ)) (key : List ℕ) (loo
         → looked_up look things start (places_in key_of key things) ≡ (fold (counted look) (0, start) things).1
     enough start things = enough_from (slice_get things) start 0 [] start things (all_at things) refl
 
--- The places that are kept for a key give what all things give.
+-- Let `by_key` have the places of `things`, and let `look` skip each thing with another key. Then the places of `key`
+-- give what all things give.
 pub kept_enough : {A B : Type 0} (key_of : A → Option (List ℕ)) (by_key : ByKey) (things : List A)
     → ArePlaces key_of by_key things → (key : Vec ℕ Global) (look : B → ℕ → Option A → B)
     → ((found : B) (place : ℕ) (thing : A) → has_key key.items (key_of thing) ≡ false
@@ -111,7 +117,8 @@ kept_enough key_of by_key things are key look skips start =
 
 -- ---- one place more
 
--- A first place is entered if there was none with its key.
+-- Let `old` have no place with the key `own`, and let `new` be `old` with `place` alone for it. Then `place` is
+-- entered.
 pub first_entered : (old new : ByKey) (own : Vec ℕ Global) (place : ℕ) (places : Vec ℕ Global) → places.items ≡ place ∷ []
     → lookup (is_same_key own) old ≡ None
     → ((key : Vec ℕ Global) → lookup (is_same_key key) new
@@ -120,6 +127,7 @@ pub first_entered : (old new : ByKey) (own : Vec ℕ Global) (place : ℕ) (plac
 first_entered old new own place places is none updates key =
     ap places_found (updates key) ∙ go (bytes_eq own.items key.items) refl
   where
+    -- `same` is true if `key` is `own`.
     go : (same : Bool) → bytes_eq own.items key.items ≡ same
         → places_found (cond same (Some places) (lookup (is_same_key key) old))
         ≡ (if same then places_of old key ++ place ∷ [] else places_of old key)

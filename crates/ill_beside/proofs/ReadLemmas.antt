@@ -28,7 +28,7 @@ use Rattle.ill_beside.proofs.DiaryLaws.{last_tells}
 
 -- ---- the first space
 
--- One more is a successor.
+-- `1 + n` is the successor of `n`.
 one_more : (n : ℕ) → 1 + n ≡ suc n
 one_more n = omega arith
 
@@ -38,6 +38,7 @@ space_at : (word rest : List ℕ) → list_any is_space word ≡ false
 space_at [] rest none = refl
 space_at (byte ∷ word) rest none = go (is_space byte) none (space_at word rest)
   where
+    -- `is` is true if the first byte is a space, which the premise excludes.
     go : (is : Bool) → (is || list_any is_space word) ≡ false
         → (list_any is_space word ≡ false → position_or_len is_space (word ++ 32 ∷ rest) ≡ length word)
         → cond (not is) (1 + position_or_len is_space (word ++ 32 ∷ rest)) 0 ≡ suc (length word)
@@ -52,11 +53,11 @@ both front back = Some (front, back)
 abbrev cut_at : (text : List ℕ) → (place : ℕ) → Bool → Option (List ℕ × List ℕ)
 cut_at text place is = if is then both (take place text) (drop (place + 1) text) else None
 
--- The place after a word is within a text that goes on.
+-- The place after `word` is within the text `word ++ 32 ∷ rest`, which has a space there.
 within : (word rest : List ℕ) → length word < length (word ++ 32 ∷ rest)
 within word rest = subst (λ (size : ℕ). length word < size) (sym (length-append word (32 ∷ rest))) (omega arith)
 
--- Behind a word and a space is the rest of a text.
+-- After `word` and a space, the text goes on with `rest`.
 behind : (word rest : List ℕ) → drop (length word + 1) (word ++ 32 ∷ rest) ≡ rest
 behind word rest =
     subst (λ (size : ℕ). drop size (word ++ 32 ∷ rest) ≡ rest) (length-append word (32 ∷ []))
@@ -94,10 +95,11 @@ all_ascii (byte ∷ text) are =
     let parts = and_parts (nat_lt byte 128) (list_all (λ byte. nat_lt byte 128) text) are in
     IsAscii-cons byte text (ltb-true byte 128 parts.0) (all_ascii text parts.1)
 
--- A byte of a qualifier is ASCII in a key.
+-- If `byte` is ASCII, so are the bytes with which a key has it.
 byte_ascii : (byte : ℕ) → byte < 128 → IsAscii (key_byte byte)
 byte_ascii byte small = go (byte == 32) (byte == 92)
   where
+    -- `space` and `backslash` are true if `byte` is one.
     go : (space backslash : Bool)
         → IsAscii (if space then codes "\\u{20}" else (if backslash then codes "\\u{5c}" else byte ∷ []))
     go true backslash = all_ascii (codes "\\u{20}") refl
@@ -110,14 +112,14 @@ printable_ascii byte is =
     let most = leb-true byte 0x7E (and_parts (nat_le 0x20 byte) (nat_le byte 0x7E) is).1 in
     omega (arith, most)
 
--- Printing characters are ASCII in a key.
+-- If all bytes of `text` are printing characters, `key text` is ASCII.
 key_ascii : (text : List ℕ) → list_all is_printable text ≡ true → IsAscii (key text)
 key_ascii [] is = IsAscii-nil
 key_ascii (byte ∷ text) is =
     let parts = and_parts (is_printable byte) (list_all is_printable text) is in
     IsAscii-append (key_byte byte) (key text) (byte_ascii byte (printable_ascii byte parts.0)) (key_ascii text parts.1)
 
--- Returns what a check of a text answers.
+-- Returns what the check of a text answers. `passes` is true if all its bytes pass the test of the check.
 abbrev checked : (empty long passes : Bool) → Result (Unit {0}) TextFault
 checked empty long passes =
     if empty then Err Empty else (if long then Err TooLong else (if passes then Ok tt else Err BadByte))
@@ -162,7 +164,7 @@ line_utf8 day by message name key =
 
 -- ---- a line
 
--- The words of a line say its day, its name and its message.
+-- If no space is in `by`, a text of `day`, `by` and `message`, with a space between two, says these.
 words_say : (day : Date) (by message : List ℕ) → IsDate day → list_any is_space by ≡ false
     → said_in (date_text day ++ (32 ∷ (by ++ 32 ∷ message))) ≡ Some (says_of day by message)
 words_say day by message is word =
@@ -171,7 +173,7 @@ words_say day by message is word =
     ∙ ap (λ (found : Option (List ℕ × List ℕ)). found >>= said_on (date_text day)) (splits by message word)
     ∙ ap (λ (found : Option Date). option_map (λ d. says_of d by message) found) (ap result_ok (date_again day is))
 
--- A line of UTF-8 says its day, its name and its message.
+-- If `by` is a word and `message` is UTF-8, the line of `day`, `by` and `message` says these.
 line_says : (day : Date) (by message : List ℕ) → IsDate day → IsWord by → IsUtf8 message
     → said_by (date_text day ++ (32 ∷ (by ++ 32 ∷ message))) ≡ Some (says_of day by message)
 line_says day by message is word utf8 =
@@ -198,7 +200,7 @@ written_says day by txn what number is word are utf8 small =
 
 -- ---- the end of a history
 
--- The last line tells the last part of a history, if the record has its message.
+-- If the last `line` names a `message` of the record, the history ends with the line's part on it.
 pub last_part : (messages : List Named) (before : List (List ℕ)) (line : List ℕ) (says : Said) (message : Named)
     → said_by line ≡ Some says → find (λ other. bytes_eq other.key says.message) messages ≡ Some message
     → EndsWith (history_of messages (before ++ line ∷ [])) (part_of says message)

@@ -14,19 +14,19 @@ last_after : (messages : List Named) (lines : List (List ℕ)) (line : List ℕ)
 last_after messages lines line =
     fold-append (λ (found : Option Date) line. option_or (day_told messages line) found) None lines (line ∷ [])
 
--- The day of a line counts if it is the last one.
+-- If the last line tells `day`, the last day is `day`.
 pub last_counts : (messages : List Named) (lines : List (List ℕ)) (line : List ℕ) (day : Date)
     → day_told messages line ≡ Some day → last_day messages (lines ++ line ∷ []) ≡ Some day
 last_counts messages lines line day tells =
     last_after messages lines line ∙ ap (λ (told : Option Date). option_or told (last_day messages lines)) tells
 
--- A line without a day changes nothing.
+-- If `line` tells no day, the last day after it is the one before it.
 pub others_stay : (messages : List Named) (lines : List (List ℕ)) (line : List ℕ) → day_told messages line ≡ None
     → last_day messages (lines ++ line ∷ []) ≡ last_day messages lines
 others_stay messages lines line none =
     last_after messages lines line ∙ ap (λ (told : Option Date). option_or told (last_day messages lines)) none
 
--- A line tells its day if the record has its message.
+-- If a line `says` something of a message that the record has, it tells its day.
 pub written_tells : (messages : List Named) (line : List ℕ) (says : Said) (message : Named) → said_by line ≡ Some says
     → find (λ other. bytes_eq other.key says.message) messages ≡ Some message → day_told messages line ≡ Some says.day
 written_tells messages line says message is found =

@@ -6,7 +6,7 @@ use Rattle.std.specs.declared.alloc.Global.{Global}
 
 -- ---- the places with a key
 
--- Returns true if a thing with the key `own`, if it has one, has this key.
+-- Returns true if `own`, the key of a thing, is there and equals `key`.
 abbrev pub has_key : (key : List ℕ) → (own : Option (List ℕ)) → Bool
 has_key key None = false
 has_key key (Some own) = bytes_eq own key

@@ -21,6 +21,7 @@ pub struct KeyedCame {
     places: Places,
 }
 
+/// Contracts see the messages alone. The invariant says that `places` are those of the messages, by their loans.
 impl Model for KeyedCame {
     ghost use Rattle.std.specs.Prelude.{List};
     ghost use Rattle.ill_values.specs.declared.apdu.Apdu.{Apdu};

@@ -32,6 +32,8 @@ pub struct KeyedDiary {
     places: Places,
 }
 
+/// Contracts see the lines alone. The invariant says that `places` are those of the lines, by the messages that they
+/// name.
 impl Model for KeyedDiary {
     ghost use Rattle.std.specs.Prelude.{ℕ, List};
 

@@ -30,6 +30,7 @@ pub struct Notes {
     places: Places,
 }
 
+/// Contracts see the lines alone. The invariant says that `places` are those of the lines, by their loans.
 impl Model for Notes {
     ghost use Rattle.std.specs.Prelude.{ℕ, List};
 

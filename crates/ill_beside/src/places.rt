@@ -20,6 +20,7 @@ pub(crate) trait KeyForm<T> {
 /// The places of things in a list, by their keys.
 #[derive(Drop)]
 pub(crate) struct Places {
+    /// For each key, the places of the things with it, in their order.
     by_key: IndexMap<Vec<u8>, Vec<usize>>,
 }
 

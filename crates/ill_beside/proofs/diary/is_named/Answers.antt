@@ -6,7 +6,7 @@ use Rattle.ill_beside.specs.Diary.{has_key, said_by}
 use Rattle.ill_beside.proofs.DiaryLemmas.{any_mapped}
 use Rattle.ill_beside.proofs.diary.is_named.Goals as goal
 
--- Proves the contract of `is_named`. A test of the bytes of lines is one of the lines.
+-- Proves the contract of `is_named`. By `any_mapped` a test of the lines' bytes is a test of the lines.
 pub returns : goal.returns
 returns c =
     let key = c.args.key.now in

@@ -7,7 +7,8 @@ use Rattle.ill_beside.specs.Diary.{named}
 use Rattle.ill_beside.proofs.DiaryLemmas.{find_mapped, mapped_twice}
 use Rattle.ill_beside.proofs.diary.message_with.Goals as goal
 
--- Proves the contract of `message_with`. The first message with the key names the first name with it.
+-- Proves the contract of `message_with`. By `find_mapped` the first of the messages with the key, named, is the first
+-- of their names with it.
 pub returns : goal.returns
 returns c =
     let key = c.args.key.now in

@@ -7,7 +7,7 @@ use Rattle.ill_show.specs.LoanLines.{kept_lines}
 use Rattle.ill_show.specs.Loan.{loan_text}
 use Rattle.ill_beside.specs.Diary.{history_lines, history_of, messages_of}
 
--- Without its history, a loan is shown as it is without a diary.
+-- The lines of a loan with a `diary` are those without one, followed by its history by the diary.
 pub nothing_else : (words : Option (List ℕ)) (diary : List (List ℕ)) (held : DeskEntry) (kept : List Apdu)
     → loan_text Lines words diary held kept
     ≡ loan_text Lines words [] held kept ++ history_lines (history_of (messages_of held.side kept) diary)

@@ -8,13 +8,13 @@ use Rattle.ill_text.specs.declared.fault.ToolFault.{ToolFault}
 use Rattle.ill_text.specs.declared.fault.ToolFault.TheVariants.{OutOfMemory}
 use Rattle.ill_show.specs.Verify.{TellsFault, Verifies}
 
--- If memory ran out before anything was written, that is right of whichever bytes.
+-- If memory ran out before anything was written, `Verifies` holds of any `bytes`.
 pub memory_wanted : (form : Form) (bytes : List ℕ) (read : Result SidesOf RecordFault) (written : Option (List ℕ))
     → Verifies form bytes read written written (Err OutOfMemory)
 memory_wanted form bytes (Ok all) written = Appends-nil written
 memory_wanted form bytes (Err fault) written = inl (refl, Appends-nil written)
 
--- If the fault of the bytes was told, that is right of them.
+-- If `bytes` are no record by `fault`, and this was told (`TellsFault`), `Verifies` holds of them.
 pub fault_told : (form : Form) (bytes : List ℕ) (read : Result SidesOf RecordFault) (fault : RecordFault)
     (before after : Option (List ℕ)) (result : Result (Unit {0}) ToolFault)
     → read ≡ Err fault → TellsFault form fault before after result → Verifies form bytes read before after result

@@ -78,8 +78,8 @@ abbrev pub after_fault : RecordFault → Result (Unit {0}) ToolFault → Result 
 after_fault fault (Ok done) = Err (Desk (Saved fault))
 after_fault fault (Err failure) = Err failure
 
--- The result is the fault of a record. Among lines nothing was written of it. As an object it was written, unless that
--- failed.
+-- The result is the `fault` of a record. With the form `Lines` nothing was written. With `Json` its object was
+-- written, unless that failed.
 abbrev pub TellsFault : Form → RecordFault → Option (List ℕ) → Option (List ℕ) → Result (Unit {0}) ToolFault → Type 0
 TellsFault Lines fault before after result = (result ≡ Err (Desk (Saved fault))) × Appends before after []
 TellsFault Json fault before after result =

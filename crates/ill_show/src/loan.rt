@@ -124,6 +124,7 @@ fn text_of_loan(
 /// A side that is shown.
 #[derive(Clone, Copy)]
 struct ShownLoan<'a> {
+    /// The side.
     side: &'a Side,
     /// The number of its released messages.
     released: u8,

@@ -223,7 +223,7 @@ fn push_leaves(text: &mut Vec<u8>, apdu: &Apdu, released: Option<u8>) -> Result<
     }
 }
 
-/// Returns the item of `side`, if it has a request.
+/// Returns the value of the item of the loan of `side`, which is missing if it has no request.
 pub fn title<'a>(side: &'a Side) -> Value<'a>
     ensures { value_text result ≡ optional quoted (item_asked (request_of side.now)) }
 {

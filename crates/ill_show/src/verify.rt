@@ -25,8 +25,8 @@ use std::io::Write;
 /// Writes five lines of the record in `store`, or an object with their values. They have its version, its role, and three
 /// numbers. These are of its loans, of their issued messages, and of further loans for which there is room.
 ///
-/// Nothing is saved. The fault is `NoRecord` if the store has no record, and `Saved` if its bytes are no record. As an
-/// object that fault of the bytes is written, too.
+/// Nothing is saved. The fault is `NoRecord` if the store has no record, and `Saved` if its bytes are no record. In
+/// the form `Json` the object of the fault `Saved` is written, too.
 pub fn run_desk_verify<S: Store, W: Write>(
     alloc: Global,
     store: &mut S,
@@ -61,7 +61,7 @@ fn verify_bytes<W: Write>(
     }
 }
 
-/// Returns `fault` as the fault of the command. As an object it is written before.
+/// Returns `fault` as the fault of the command. In the form `Json` its object is written before.
 fn tell_fault<W: Write>(
     alloc: Global,
     fault: RecordFault,

@@ -1,4 +1,4 @@
--- States the loop invariant of `push_kept` (`src/kept.rt`).
+-- States the loop invariant of `push_kept` (`src/loan_lines.rt`).
 use Rattle.std.proofs.Common.{◌≡◌, ◌++◌, true, take}
 use Rattle.std.specs.Prelude.{codes}
 use Rattle.std.specs.List.{flat_map}

@@ -1,4 +1,4 @@
--- Proves the contract of `push_lines` (`src/numbers.rt`).
+-- Answers the contract of `push_lines` (`src/numbers.rt`).
 use Rattle.std.proofs.Common.{◌++◌, ◌∷◌, [], map, Bor, ap, sym, ◌∙◌}
 use Rattle.std.specs.List.{flat_map}
 use Rattle.std.proofs.lemmas.List.{take_all}
@@ -8,7 +8,8 @@ use Rattle.ill_show.specs.Numbers.{has_few_numbers, numbers_line, numbers_lines}
 use Rattle.ill_beside.proofs.TextLemmas.{kept_apart}
 use Rattle.ill_show.proofs.numbers.push_lines.Goals as goal
 
--- After the loop each side with few numbers left has added its line.
+-- Proves the contract of `push_lines`. After the loop each side with few numbers left has added its line. By
+-- `kept_apart` these are the lines of the sides that are filtered together.
 pub returns : goal.returns
 returns c =
     let path = c.args.path.now in

@@ -5,7 +5,7 @@ use Rattle.ill_record.specs.declared.side.Side.{Side}
 use Rattle.ill_show.specs.Numbers.{numbers_lines}
 use Rattle.ill_show.proofs.numbers.push_lines.Given as goal
 
--- The lines of the sides so far are appended.
+-- For each side so far with few numbers left, its line is appended.
 abbrev pub invariant-loop-side : goal.invariant-loop-side
 invariant-loop-side l = record {
   told : l.lines.items ≡ l.initial.lines.items

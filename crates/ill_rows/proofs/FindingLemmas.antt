@@ -13,11 +13,11 @@ use Rattle.ill_rows.specs.Finding.{folded, has_part, is_found}
 abbrev folded_if : List ℕ → Bool → List ℕ
 folded_if text is = if is then encode_utf8_all (default_case_fold (chars text)) else text
 
--- A text of UTF-8 has its case folded.
+-- If `text` is UTF-8, `folded` returns it with the case of its characters folded.
 pub folded_text : (text : List ℕ) → IsUtf8 text → encode_utf8_all (default_case_fold (chars text)) ≡ folded text
 folded_text text utf8 = sym (ap (folded_if text) (is_utf8-from_IsUtf8 text utf8))
 
--- A text that is not UTF-8 stays.
+-- If `text` is not UTF-8, `folded` returns it as it is.
 pub unfolded_text : (text : List ℕ) → ¬ (IsUtf8 text) → text ≡ folded text
 unfolded_text text none =
     sym (ap (folded_if text) (false_from_ne_true (is_utf8 text) (λ yes. none (IsUtf8-from_is_utf8 text yes))))
@@ -38,7 +38,7 @@ part_here part rest after byte is begins =
     sym (ap (has_part part) is
     ∙ ap (λ starts. starts || has_part part after) (ap (λ text. starts_with nat_eq text part) (sym is) ∙ sym begins))
 
--- Within no bytes `part` is if they begin with it.
+-- If `rest` is empty, `part` is within it if, and only if, `rest` begins with `part`.
 pub part_nowhere : (part rest : List ℕ) → rest ≡ [] → starts_with nat_eq rest part ≡ has_part part rest
 unfolding has_part
 part_nowhere part rest none =

@@ -6,7 +6,7 @@ use Rattle.ill_text.specs.declared.fault.ToolFault.{ToolFault}
 use Rattle.ill_text.specs.Output.{WritesPrefix}
 use Rattle.ill_rows.specs.Messages.{IsTextOf, WritesNews}
 
--- If `written` is the text of the messages, writing it is writing the news.
+-- If `written` is the text of the messages in `bytes`, and it was written with `result`, `WritesNews` holds.
 pub writes_news : (text : List Apdu → List ℕ) (bytes written : List ℕ) (before after : Option (List ℕ))
     (result : Result (Unit {0}) ToolFault)
     → IsTextOf text bytes written → WritesPrefix before after written result → WritesNews text bytes before after result

@@ -38,7 +38,7 @@ has_words sought notes side =
     tells sought (loan_number (txn_of side)) || (tells_any sought (item_asked (request_of side))
     || tells_any sought (note_of notes (txn_of side)))
 
--- Returns true if a loan has the words `find`, or if there are none.
+-- Returns true if a loan has the words `find`, or if no words are sought.
 abbrev pub is_found : (find : Option (List ℕ)) → (notes : List (List ℕ)) → Side → Bool
 is_found None notes side = true
 is_found (Some words) notes side = has_words (folded words) notes side

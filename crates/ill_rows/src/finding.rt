@@ -12,7 +12,8 @@ use ill_values::{OutOfMemory, TxnId};
 use ill_words::possible::item_asked;
 use std::alloc::Global;
 
-/// Returns the loans of `sides` of which a text has the words `find`, in their order. If there are none, these are all.
+/// Returns the loans of `sides` of which a text has the words `find`, in their order. If no words are sought, these
+/// are all loans.
 pub fn found_of<'a>(
     alloc: Global,
     sides: &[&'a Side],

@@ -77,7 +77,7 @@ pub fn left_out_line(alloc: Global, path: &str, count: usize) -> Result<Vec<u8>,
     Ok(line)
 }
 
-/// Returns the words of that line after the number of loans, of one loan or of several.
+/// Returns the words of the line of `left_out_line` after the number of loans, of one loan or of several.
 fn left_out_words(is_one: bool) -> &'static str
     ensures { result.now ≡ left_out_words is_one }
 {

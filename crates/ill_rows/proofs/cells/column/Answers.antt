@@ -1,11 +1,11 @@
--- Answers the contract of `column` (`src/row.rt`).
+-- Answers the contract of `column` (`src/cells.rt`).
 use Rattle.std.proofs.Common.{◌++◌, Bool, ap, ◌∙◌}
 use Rattle.std.proofs.lemmas.List.{nil_from_length}
 use Rattle.ill_rows.specs.Cells.{column, column_byte}
 use Rattle.ill_rows.proofs.CellLemmas.{column_ends, column_goes_on}
 use Rattle.ill_rows.proofs.cells.column.Goals as goal
 
--- Proves the loop invariant of `column` after one more byte.
+-- Proves the loop invariant of `column` after one more byte. By `column_goes_on` the bytes after it are left.
 pub loop-byte-preserved : goal.loop-byte-preserved
 loop-byte-preserved c =
     let shown = c.loop-byte.shown.items in

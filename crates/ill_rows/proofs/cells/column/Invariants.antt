@@ -1,4 +1,4 @@
--- States the loop invariant and the measure of `column` (`src/row.rt`).
+-- States the loop invariant and the measure of `column` (`src/cells.rt`).
 use Rattle.std.proofs.Common.{◌≡◌, ◌++◌, length}
 use Rattle.ill_rows.specs.Cells.{column, column_rest}
 use Rattle.ill_rows.proofs.cells.column.Given as goal

@@ -1,4 +1,4 @@
--- Answers the contract of `push_padded` (`src/row.rt`).
+-- Answers the contract of `push_padded` (`src/cells.rt`).
 use Rattle.std.proofs.Common.{ℕ, ◌≡◌, ◌+◌, ◌-◌, ◌++◌, ◌∷◌, [], length, replicate, ap, sym, ◌∙◌, append_assoc, arith}
 use Rattle.std.proofs.lemmas.List.{append-nil}
 use Rattle.ill_rows.specs.Cells.{padded}

@@ -9,6 +9,6 @@ invariant-loop-after l = record {
   left : has_part l.part l.rest ≡ has_part l.part l.text;
 }
 
--- Returns the number of bytes after which `part` was not looked for yet.
+-- Returns the number of bytes at which `part` was not looked for yet.
 abbrev pub decreases-loop-after : goal.decreases-loop-after
 decreases-loop-after l = length l.rest

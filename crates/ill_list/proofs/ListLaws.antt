@@ -18,14 +18,16 @@ use Rattle.ill_words.specs.Waiting.{most_urgent_first}
 use Rattle.ill_work.specs.declared.work.Work.{Work}
 use Rattle.ill_work.specs.Work.{all_work}
 
--- Two functions with equal texts of each item have equal texts of all.
+-- If `one` and `other` give equal texts of each item, they give equal texts of all `items`.
 same_texts : {X : Type 0} (one other : X → List ℕ) (items : List X) → ((item : X) → one item ≡ other item)
     → flat_map one items ≡ flat_map other items
 same_texts one other [] same = refl
 same_texts one other (item ∷ items) same = ap₂ (λ first rest. first ++ rest) (same item) (same_texts one other items same)
 
+-- The list has no lines of days (`off`). The notes alone are `notes_alone annex`, which lacks the diary and the
+-- messages that came.
 module _ (wanted : Wanted) (off : wanted.has_since ≡ false) where
-  -- No day is shown.
+  -- A loan has no line of its day.
   no_day : (annex : AnnexRead) (side : Side) → since_shown annex wanted side ≡ []
   no_day annex side = ap (λ (b : Bool). if b then since_line (since_of annex side) else []) off
 
@@ -66,6 +68,7 @@ module _ (wanted : Wanted) (off : wanted.has_since ≡ false) where
       → lines_text wanted annex chosen wanted work sides ≡ lines_text wanted (notes_alone annex) chosen wanted work sides
   text_stays annex chosen work sides = go (is_morning wanted)
     where
+      -- `morning` is true if the list is one of a morning.
       go : (morning : Bool)
           → cond morning (morning_lines (morning_columns wanted annex.news chosen) annex)
           (work_lines (columns_of wanted chosen) annex) wanted work sides
@@ -86,7 +89,7 @@ module _ (wanted : Wanted) (off : wanted.has_since ≡ false) where
       (section (lines_text wanted (notes_alone annex) chosen) wanted chosen) all_work
       (λ work. text_stays annex chosen work (filter (has_work wanted work) chosen)))
 
--- The lines of a desk without days are those by the notes alone.
+-- If a list has no lines of days, the lines of a desk are those by the notes alone (`notes_alone`).
 pub no_list_depends : (is_headed : Bool) (wanted : Wanted) (find : Option (List ℕ)) (annex : AnnexRead) (path : List ℕ)
     (sides : List Side) → wanted.has_since ≡ false
     → listed_desk Lines is_headed wanted (record { find = find; annex = annex }) path sides

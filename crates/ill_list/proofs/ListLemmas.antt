@@ -11,6 +11,7 @@ pub filter_mapped : {X Y : Type 0} (now : X → Y) (keeps : Y → Bool) (items :
 filter_mapped now keeps [] = refl
 filter_mapped {X} now keeps (item ∷ items) = go (keeps (now item)) (filter_mapped now keeps items)
   where
+    -- `is_kept` is true if the value of the first item is kept.
     go : (is_kept : Bool) → map now (filter (λ item. keeps (now item)) items) ≡ filter keeps (map now items)
         → map now (cond is_kept (item ∷ filter (λ item. keeps (now item)) items) (filter (λ item. keeps (now item)) items))
         ≡ cond is_kept (now item ∷ filter keeps (map now items)) (filter keeps (map now items))

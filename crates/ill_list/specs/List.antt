@@ -46,7 +46,7 @@ lists All work = true
 lists Open work = not (is_work_among (Over ∷ []) work)
 lists Mine work = wants_a_hand work
 
--- Returns true if only the loans that want a hand are listed.
+-- Returns true for `Mine`, the list of the loans that want a hand or have news.
 abbrev pub is_mine : Which → Bool
 is_mine All = false
 is_mine Open = false
@@ -89,12 +89,12 @@ listed_of wanted news sides = filter (is_listed wanted news) sides
 abbrev pub verbs_text : Option Date → Side → List ℕ
 verbs_text today side = join_by verb_name (codes ",") (possible_on today side)
 
--- Returns these actions, if the list has a column of them.
+-- Returns the actions of `verbs_text`, if the list has a column of them.
 abbrev pub actions_text : Bool → Option Date → Side → List ℕ
 actions_text false today side = []
 actions_text true today side = verbs_text today side
 
--- Returns the column of these actions, if the list has one.
+-- Returns the column of the actions of `verbs_text`, if the list has one.
 abbrev pub actions_cell : Columns → Option Date → Side → List ℕ
 actions_cell columns today side =
     if columns.has_actions then cell columns.actions (verbs_text today side) else []
@@ -139,7 +139,7 @@ row columns today side =
 
 -- ---- the loans that a list without a day leaves out
 
--- Returns true if only the loans that want a hand are listed, and no day is given.
+-- Returns true if a list is of what wants a hand (`Mine`), and no day is given.
 abbrev pub lacks_day : Wanted → Bool
 lacks_day wanted = is_mine wanted.which && is_none wanted.today
 

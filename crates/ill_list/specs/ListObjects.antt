@@ -41,7 +41,7 @@ noted_fields notes today work side = row_fields work side (names_of today side) 
 abbrev pub dated_fields : AnnexRead → Option Date → Work → Side → List Field
 dated_fields annex today work side = noted_fields annex.notes today work side ++ since_fields (since_of annex side)
 
--- Returns these fields, and the field of the news of the loan.
+-- Returns the fields of `dated_fields`, and the field of the news of the loan.
 abbrev pub full_row_fields : AnnexRead → Option Date → Work → Side → List Field
 full_row_fields annex today work side = dated_fields annex today work side ++ listed_news_fields annex.news side
 

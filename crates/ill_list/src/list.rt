@@ -532,7 +532,7 @@ fn count_by_date(sides: &[&Side], wanted: &Wanted, annex: &Annex) -> usize
         .count()
 }
 
-/// Returns true if only the loans that want a hand are listed, and no day is given.
+/// Returns true if a list is of what wants a hand (`Mine`), and no day is given.
 fn lacks_day(wanted: &Wanted) -> bool
     ensures { result ≡ lacks_day wanted.now }
 {

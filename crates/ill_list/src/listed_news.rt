@@ -116,6 +116,7 @@ fn push_heard(text: &mut Vec<u8>, side: &Side, kept: &[Apdu]) -> Result<(), OutO
 /// Messages in the loan of a side, as objects.
 #[derive(Clone, Copy)]
 struct HeardObjects<'a> {
+    /// The side of the loan.
     side: &'a Side,
 }
 

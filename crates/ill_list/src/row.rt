@@ -18,10 +18,15 @@ const DUE: usize = 8;
 /// The columns of a list: the widths of all but that of a day, and true if actions have a column.
 #[derive(Clone, Copy)]
 pub struct Columns {
+    /// Set if actions have a column.
     pub has_actions: bool,
+    /// The width of the state.
     pub state: usize,
+    /// The width of the group qualifier.
     pub group: usize,
+    /// The width of the transaction qualifier.
     pub transaction: usize,
+    /// The width of the actions.
     pub actions: usize,
 }
 

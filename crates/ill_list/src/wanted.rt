@@ -59,7 +59,7 @@ impl Which {
         }
     }
 
-    /// Returns true if only the loans that want a hand are listed.
+    /// Returns true for `Mine`, the list of the loans that want a hand or have news.
     pub(crate) fn is_mine(self) -> bool
         ensures { result ≡ is_mine self }
     {
@@ -74,7 +74,7 @@ fn work(wanted: &Wanted, side: &Side) -> Work
     Work::on(side, wanted.today, wanted.ahead)
 }
 
-/// Returns true if `work` is the kind of work with the loan of `side`.
+/// Returns true if `kind` is the kind of work with the loan of `side`.
 pub(crate) fn has_work(wanted: &Wanted, kind: Work, side: &Side) -> bool
     ensures { result ≡ has_work wanted.now kind side.now }
 {

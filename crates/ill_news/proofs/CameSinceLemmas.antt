@@ -18,12 +18,13 @@ use Rattle.ill_record.specs.Ranges.{Each}
 use Rattle.ill_beside.specs.Diary.{Said, has_key, is_named, said_by}
 use Rattle.ill_beside.specs.KeyedDiary.{day_if, days_named}
 
--- The last items that pass a test go on before the last item, if it passes. Else there are none.
+-- If `x` passes `p`, the items at the end that pass are `x` and those at the end of `before`. If `x` fails, there are
+-- none.
 pub suffix_last : {X : Type 0} (p : X → Bool) (before : List X) (x : X)
     → suffix_len p (before ++ x ∷ []) ≡ cond (p x) (1 + suffix_len p before) 0
 suffix_last p before x = ap (prefix_len p) (reverse-append before (x ∷ []))
 
--- If the last item of `rest` passes, as many items are left to look at as before it.
+-- If the invariant of `past_of` holds of `rest`, and its last item `x` passes `p`, it holds of `before`.
 pub goes_on : {X : Type 0} (p : X → Bool) (all rest before : List X) (x : X) → rest ≡ before ++ x ∷ [] → p x ≡ true
     → length rest + suffix_len p all ≡ length all + suffix_len p rest
     → length before + suffix_len p all ≡ length all + suffix_len p before
@@ -33,7 +34,8 @@ goes_on p all rest before x is passes left =
     let long : length rest ≡ length before + 1 = ap length is ∙ length-append before (x ∷ []) in
     omega (arith, many, long, left)
 
--- If the last item of `rest` fails, the items behind it are the last ones that pass.
+-- Let the invariant of `past_of` hold of `rest`. If its last item `x` fails `p`, the items after `rest` are the last
+-- that pass.
 pub ends_here : {X : Type 0} (p : X → Bool) (all rest before : List X) (x : X) → rest ≡ before ++ x ∷ [] → p x ≡ false
     → length rest + suffix_len p all ≡ length all + suffix_len p rest → length rest + suffix_len p all ≡ length all
 ends_here p all rest before x is fails left =
@@ -41,7 +43,7 @@ ends_here p all rest before x is fails left =
     ap (suffix_len p) is ∙ suffix_last p before x ∙ ap (λ b. cond b (1 + suffix_len p before) 0) fails in
     omega (arith, none, left)
 
--- If no item fails, all items are the last ones that pass.
+-- If the invariant of `past_of` holds and `rest` is empty, all items are the last ones that pass.
 pub ends_nowhere : {X : Type 0} (p : X → Bool) (all rest : List X) → rest ≡ []
     → length rest + suffix_len p all ≡ length all + suffix_len p rest → suffix_len p all ≡ length all
 ends_nowhere p all rest none left =
@@ -49,14 +51,14 @@ ends_nowhere p all rest none left =
     let long : length rest ≡ 0 = ap length none in
     omega (arith, empty, long, left)
 
--- If no item passes a test, all of them fail it.
+-- If no item of `xs` passes `f`, the first items that fail it are all of `xs`.
 none_pass : {X : Type 0} (f : X → Bool) (xs : List X) → list_any f xs ≡ false → prefix_len (λ x. not (f x)) xs ≡ length xs
 none_pass f [] none = refl
 none_pass f (x ∷ xs) none =
     let both = or_parts (f x) (list_any f xs) none in
     rw (both.0, none_pass f xs both.1) (omega arith)
 
--- The items before the first one that passes a test fail it.
+-- If `x` passes `f` and none of `before` does, the first items that fail it are those of `before`.
 none_before : {X : Type 0} (f : X → Bool) (before : List X) (x : X) (after : List X) → f x ≡ true → list_any f before ≡ false
     → prefix_len (λ x. not (f x)) (before ++ x ∷ after) ≡ length before
 none_before f [] x after passes none = rw passes refl
@@ -72,7 +74,7 @@ none_reversed f (x ∷ xs) none =
     ap (list_any f) (reverse-append (x ∷ []) xs) ∙ list_any-append f (reverse xs) (x ∷ [])
     ∙ rw (none_reversed f xs both.1, both.0) refl
 
--- If no item passes a test, all stand after the last one that does.
+-- If no item of `xs` passes `f`, `after_last f` returns all of them.
 pub all_after : {X : Type 0} (f : X → Bool) (xs : List X) → list_any f xs ≡ false → after_last f xs ≡ xs
 all_after f xs none =
     let all : suffix_len (λ x. not (f x)) xs ≡ length xs =
@@ -80,7 +82,7 @@ all_after f xs none =
     let cut : length xs - suffix_len (λ x. not (f x)) xs ≡ 0 = omega (arith, all) in
     ap (λ n. drop n xs) cut
 
--- After the last item that passes a test stand those behind it, if none of these does.
+-- If `x` passes `f` and none of `after` does, the items after the last one that passes are `after`.
 pub after_it : {X : Type 0} (f : X → Bool) (before : List X) (x : X) (after : List X) → f x ≡ true → list_any f after ≡ false
     → after_last f (before ++ x ∷ after) ≡ after
 after_it f before x after passes none =
@@ -98,7 +100,7 @@ after_it f before x after passes none =
     ∙ ap (λ n. drop n (xs ++ after)) cut
     ∙ drop-append_seam xs after
 
--- Items that fail a test, and those behind them that do, are the first ones of all.
+-- If none of `before` passes `f`, the first items that fail it are `before` and the first of `after`.
 fail_over : {X : Type 0} (f : X → Bool) (before after : List X) → list_any f before ≡ false
     → prefix_len (λ x. not (f x)) (before ++ after) ≡ length before + prefix_len (λ x. not (f x)) after
 fail_over f [] after none = omega arith
@@ -106,16 +108,17 @@ fail_over f (x ∷ before) after none =
     let both = or_parts (f x) (list_any f before) none in
     rw (both.0, fail_over f before after both.1) (omega arith)
 
--- At most all items are the first ones that pass a test.
+-- The first items of `xs` that pass `p` are at most as many as `xs` has.
 few_first : {X : Type 0} (p : X → Bool) (xs : List X) → prefix_len p xs ≤ length xs
 few_first p [] = omega arith
 few_first p (x ∷ xs) = go (p x) (few_first p xs)
   where
+    -- `passes` is true if the first item passes.
     go : (passes : Bool) → prefix_len p xs ≤ length xs → cond passes (1 + prefix_len p xs) 0 ≤ suc (length xs)
     go true few = omega (arith, few)
     go false few = omega arith
 
--- Items behind others that pass no test stay behind the last one that does.
+-- If none of `later` passes `f`, `after_last f` of `xs ++ later` is that of `xs`, and then `later`.
 pub after_more : {X : Type 0} (f : X → Bool) (xs later : List X) → list_any f later ≡ false
     → after_last f (xs ++ later) ≡ after_last f xs ++ later
 after_more {X} f xs later none =
@@ -130,7 +133,8 @@ after_more {X} f xs later none =
     omega (arith, many, few, length-append xs later) in
     ap (λ n. drop n (xs ++ later)) cut ∙ drop-append-le (length xs - suffix_len fails xs) xs later (omega arith)
 
--- The messages from `past` on are those after the last one that came before the day, if so many did not.
+-- Let the messages after the first `past` be those at the end that did not come before `day`. Then they are those
+-- after the last one that did.
 pub told_from : (day : Date) (lines : List (List ℕ)) (came : List Apdu) (past : ℕ)
     → past + suffix_len (λ a. not (came_before day lines a)) came ≡ length came
     → take (length came - past) (drop past came) ≡ after_last (came_before day lines) came
@@ -143,7 +147,7 @@ pub all_told : (day : Date) (lines : List (List ℕ)) (came : List Apdu) → lis
     → came_since (Some day) lines came ≡ filter (is_new day lines) came
 all_told day lines came none = ap (filter (is_new day lines)) (all_after (came_before day lines) came none)
 
--- Told is what came after the last message that came before the day, but for repeats.
+-- If `a` came before `day` and none of `later` did, those of `later` that are no repeats are told.
 pub later_told : (day : Date) (lines : List (List ℕ)) (came later : List Apdu) (a : Apdu) → came_before day lines a ≡ true
     → list_any (came_before day lines) later ≡ false
     → came_since (Some day) lines (came ++ a ∷ later) ≡ filter (is_new day lines) later
@@ -155,25 +159,26 @@ pub named_told : (day : Date) (lines : List (List ℕ)) (a : Apdu) → is_named_
     → came_before day lines a ≡ false
 named_told day lines a named = go (is_named_before day (came_key a) lines)
   where
+    -- `is` is true if a line of an earlier day names the message.
     go : (is : Bool) → (is && not (is_named_since day (came_key a) lines)) ≡ false
     go true = rw named refl
     go false = refl
 
 -- ---- repeats
 
--- What says nothing of a key gives no day of it.
+-- If what a line `said` names no message with this `key`, the line gives no day of it.
 no_day : (key : List ℕ) (said : Option Said) → has_key key said ≡ false → day_if key said ≡ []
 no_day key None none = refl
 no_day key (Some said) none = ap (λ (same : Bool). if same then said.day ∷ [] else []) none
 
--- A text that no line names has no days.
+-- If no line names the message with this `key`, `days_named` returns no day of it.
 no_days : (key : List ℕ) (lines : List (List ℕ)) → is_named key lines ≡ false → days_named key lines ≡ []
 no_days key [] none = refl
 no_days key (line ∷ lines) none =
     let both = or_parts (has_key key (said_by line)) (is_named key lines) none in
     ap (λ days. days ++ days_named key lines) (no_day key (said_by line) both.0) ∙ no_days key lines both.1
 
--- A text that no line names, no line of an earlier day names.
+-- If no line names the message with this `key`, no line of an earlier day than `day` does.
 unnamed_before : (day : Date) (key : List ℕ) (lines : List (List ℕ)) → is_named key lines ≡ false
     → is_named_before day key lines ≡ false
 unnamed_before day key lines none = ap (list_any (is_earlier day)) (no_days key lines none)
@@ -183,19 +188,20 @@ pub unnamed_told : (day : Date) (lines : List (List ℕ)) (a : Apdu) → is_name
     → came_before day lines a ≡ false
 unnamed_told day lines a none = rw (unnamed_before day (came_key a) lines none) refl
 
--- No item that passes one test is among those that pass another, if none passes both.
+-- If no item passes both `f` and `p`, none of the items that pass `p` passes `f`.
 pub none_kept : {X : Type 0} (f p : X → Bool) (xs : List X) → ((x : X) → f x ≡ true → p x ≡ false)
     → list_any f (filter p xs) ≡ false
 none_kept f p [] apart = refl
 none_kept f p (x ∷ xs) apart = go (p x) (f x) refl refl (none_kept f p xs apart)
   where
+    -- `keeps` is true if `x` passes `p`, and `is` if it passes `f`.
     go : (keeps is : Bool) → p x ≡ keeps → f x ≡ is → list_any f (filter p xs) ≡ false
         → list_any f (cond keeps (x ∷ filter p xs) (filter p xs)) ≡ false
     go false is kept one rest = rest
     go true true kept one rest = absurd (true≢false (sym kept ∙ apart x one))
     go true false kept one rest = rw (one, rest) refl
 
--- What a line of an earlier day names is not told.
+-- If a line of an earlier day names `a`, no message with its key is among what came since `day`.
 pub no_repeat : (day : Date) (lines : List (List ℕ)) (came : List Apdu) (a : Apdu)
     → is_named_before day (came_key a) lines ≡ true
     → list_any (λ b. bytes_eq (came_key b) (came_key a)) (came_since (Some day) lines came) ≡ false
@@ -211,7 +217,7 @@ none_before_day day lines [] each = refl
 none_before_day day lines (b ∷ later) each =
     rw (named_told day lines b each.0, none_before_day day lines later each.1) refl
 
--- A message that no line names is told, whatever came again after it.
+-- If no line names `a`, and lines of `day` or later name each of `repeats` after it, `a` is told.
 pub not_hidden : (day : Date) (lines : List (List ℕ)) (came repeats : List Apdu) (a : Apdu) → is_named (came_key a) lines ≡ false
     → Each (λ b. is_named_since day (came_key b) lines ≡ true) repeats
     → (before after : List Apdu) × (came_since (Some day) lines (came ++ a ∷ repeats) ≡ before ++ a ∷ after)

@@ -17,13 +17,13 @@ use Rattle.ill_record.specs.Ranges.{Each}
 use Rattle.ill_beside.specs.Heard.{is_heard, responder_heard}
 use Rattle.ill_news.specs.Deeds.{deeds_at, deeds_since, is_by_date, is_deed_since}
 
--- An item that passes a test stands among those that do.
+-- If `x` passes, it stands between the items of `first` and those of `last` that pass.
 pub kept_within : {X : Type 0} (keeps : X → Bool) (first last : List X) (x : X) → keeps x ≡ true
     → filter keeps (first ++ x ∷ last) ≡ filter keeps first ++ x ∷ filter keeps last
 kept_within keeps first last x is =
     filter-append keeps first (x ∷ last) ∙ ap (λ rest. filter keeps first ++ rest) (rw is refl)
 
--- A message that a date made due is told.
+-- If `y` issued `a`, and a date has made `a` due since `day`, `a` is among the deeds told.
 pub deed_told : (day : Date) (lines : List (List ℕ)) (before after : List Side) (y : ResponderRecord) (first last : List Apdu)
     (a : Apdu) → y.issued ≡ first ++ a ∷ last → is_deed_since day lines a ≡ true
     → (more less : List Apdu) × (deeds_since (Some day) lines (before ++ Responder y ∷ after) ≡ more ++ a ∷ less)
@@ -41,12 +41,13 @@ deed_told day lines before after y first last a issued is =
           ∙ sym (append_assoc here (filter keeps first) (a ∷ (filter keeps last ++ rest))),
     )
 
--- Each item that passes a test passes it.
+-- Each item of `filter keeps xs` passes `keeps`.
 each_kept : {X : Type 0} (keeps : X → Bool) (xs : List X) → Each (λ x. keeps x ≡ true) (filter keeps xs)
 unfolding Each
 each_kept keeps [] = tt
 each_kept keeps (x ∷ xs) = go (keeps x) refl (each_kept keeps xs)
   where
+    -- `is` is true if `x` passes.
     go : (is : Bool) → keeps x ≡ is → Each (λ x. keeps x ≡ true) (filter keeps xs)
         → Each (λ x. keeps x ≡ true) (cond is (x ∷ filter keeps xs) (filter keeps xs))
     go true is rest = (is, rest)
@@ -58,14 +59,14 @@ unfolding Each
 each_joined P [] more each others = others
 each_joined P (x ∷ xs) more each others = (each.0, each_joined P xs more each.1 others)
 
--- What is told at a side was made due.
+-- A date has made each message of `deeds_at` due since `day`.
 due_at : (day : Date) (lines : List (List ℕ)) (side : Side)
     → Each (λ a. is_deed_since day lines a ≡ true) (deeds_at day lines side)
 unfolding Each
 due_at day lines (Requester x) = tt
 due_at day lines (Responder y) = each_kept (is_deed_since day lines) y.issued
 
--- What is told was made due.
+-- A date has made each message of `deeds_since` due since `day`.
 pub deeds_alone : (day : Date) (lines : List (List ℕ)) (sides : List Side)
     → Each (λ a. is_deed_since day lines a ≡ true) (deeds_since (Some day) lines sides)
 unfolding Each

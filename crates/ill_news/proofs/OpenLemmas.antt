@@ -20,21 +20,21 @@ use Rattle.ill_news.proofs.CameSinceLemmas.{none_kept}
 use Rattle.ill_news.proofs.DeedLemmas.{kept_within}
 use Rattle.ill_news.proofs.NewsLemmas.{taken_is_told, told_was_taken}
 
--- If the second of two fails, not both hold.
+-- If `other` is false, `one` and `other` do not both hold.
 second_off : (one other : Bool) → other ≡ false → (one && other) ≡ false
 second_off true other off = off
 second_off false other off = refl
 
--- What is told in one of two lists is told in both, one after the other.
+-- `a` is told in `news ++ more` if, and only if, it is told in `news` or in `more`.
 told_in_both : (news more : List Apdu) (a : Apdu) → is_told (news ++ more) a ≡ (is_told news a || is_told more a)
 told_in_both news more a = list_any-append (λ (b : Apdu). is_same b a) news more
 
--- If the second of two holds, one of them holds.
+-- If `other` is true, `one` or `other` holds.
 second_on : (one other : Bool) → other ≡ true → (one || other) ≡ true
 second_on true other on = refl
 second_on false other on = on
 
--- If the first of two fails, not both hold.
+-- If `one` is false, `one` and `other` do not both hold.
 first_off : (one other : Bool) → one ≡ false → (one && other) ≡ false
 first_off true other off = absurd (true≢false off)
 first_off false other off = refl
@@ -58,6 +58,7 @@ told_with_open notes sides recent before after a heard is_kept =
     let left = news_of sides (left_open notes recent (before ++ a ∷ after)) in
     told_in_both left recent a ∙ go (is_told recent a) refl
   where
+    -- `is` is true if `a` is told as recent.
     go : (is : Bool) → is_told recent a ≡ is
         → (is_told (news_of sides (left_open notes recent (before ++ a ∷ after))) a || is_told recent a) ≡ true
     go true is = second_on (is_told (news_of sides (left_open notes recent (before ++ a ∷ after))) a) (is_told recent a) is
@@ -82,7 +83,7 @@ open_told since notes lines sides before after a heard is_kept =
 done_shut : (notes : List (List ℕ)) (a : Apdu) → says_done (note_of notes a.txn) ≡ true → is_open notes a ≡ false
 done_shut notes a done = second_off (is_asking a.body) (not (says_done (note_of notes a.txn))) (ap not done)
 
--- A message of a loan whose note says `done` is left by no other name.
+-- If the note of the loan of `a` says `done`, no message `b` the same as `a` is left.
 done_left : (notes : List (List ℕ)) (sides : List Side) (recent : List Apdu) (a b : Apdu)
     → says_done (note_of notes a.txn) ≡ true → (is_same b a && heard_at sides b) ≡ true → is_left notes recent b ≡ false
 done_left notes sides recent a b done named =
@@ -92,23 +93,26 @@ done_left notes sides recent a b done named =
     first_off (is_open notes b) (not (is_told recent b))
     (done_shut notes b (ap (λ (t : Qualifiers). says_done (note_of notes t)) txn ∙ done))
 
--- A message of a loan whose note says `done` is not told as open.
+-- If the note of the loan of `a` says `done`, `a` is not told as an open answer.
 not_left : (notes : List (List ℕ)) (sides : List Side) (recent came : List Apdu) (a : Apdu)
     → says_done (note_of notes a.txn) ≡ true → is_told (news_of sides (left_open notes recent came)) a ≡ false
 not_left notes sides recent came a done = go (is_told (news_of sides left) a) refl
   where
+    -- The open answers that `recent` lack.
     left : List Apdu
     left = left_open notes recent came
 
+    -- None of them is the same as `a` and was taken.
     none : list_any (λ b. is_same b a && heard_at sides b) left ≡ false
     none = none_kept (λ b. is_same b a && heard_at sides b) (is_left notes recent) came
         (λ b named. done_left notes sides recent a b done named)
 
+    -- If `a` were told, by `told_was_taken` one of them would be the same and taken.
     go : (is : Bool) → is_told (news_of sides left) a ≡ is → is_told (news_of sides left) a ≡ false
     go false is = is
     go true is = absurd (true≢false (sym (told_was_taken sides left a is) ∙ none))
 
--- A message of a loan whose note says `done` is told as recent, as a deed, or not at all.
+-- If the note of the loan of `a` says `done`, `a` is told as recent, as a deed, or not at all.
 pub done_told : (since : Option Date) (notes lines : List (List ℕ)) (sides : List Side) (came : List Apdu) (a : Apdu)
     → says_done (note_of notes a.txn) ≡ true
     → is_told (told_since since notes lines sides came) a

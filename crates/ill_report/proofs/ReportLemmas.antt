@@ -8,7 +8,7 @@ three_added before first second third one two three e f g =
     g ∙ ap (λ text. text ++ three) (f ∙ ap (λ text. text ++ two) e) ∙ append_assoc (before ++ one) two three
     ∙ append_assoc before one (two ++ three)
 
--- Joining five texts after another one by one equals joining their join.
+-- Joining five texts one by one after `before` equals joining their join after it.
 five_joined : (before one two three four five : List ℕ)
     → before ++ one ++ two ++ three ++ four ++ five ≡ before ++ (one ++ (two ++ (three ++ (four ++ five))))
 five_joined before one two three four five = simp append_assoc refl

@@ -65,16 +65,16 @@ deadline_text (Some due) expiry = codes "due <time>" ++ (iso_text due ++ TIME_EN
 deadline_text None (Some expiry) = codes "expires <time>" ++ (iso_text expiry ++ TIME_END.now)
 deadline_text None None = []
 
--- Returns an action that this library may do.
+-- Returns the text of an action that this library may do: the name of its verb.
 abbrev pub action_text : Verb → List ℕ
 action_text verb = codes "<code>" ++ (verb_name verb ++ codes "</code> ")
 
--- Returns a note on a loan, if there is one.
+-- Returns the text of the note on a loan, if there is one.
 abbrev pub noted_text : Option (List ℕ) → List ℕ
 noted_text None = []
 noted_text (Some words) = NOTE.now ++ (html_text words ++ NOTE_END.now)
 
--- Returns the day since which a loan stands as it does, if it is known.
+-- Returns the text of the day since which a loan stands as it does, if the day is known.
 abbrev pub since_text : Option Date → List ℕ
 since_text None = []
 since_text (Some day) = SINCE.now ++ (iso_text day ++ TIME_END.now) ++ NOTE_END.now

@@ -3,12 +3,12 @@ use Rattle.std.proofs.Common.{◌≡◌, ℕ, List, [], ◌∷◌, ◌++◌, map
 use Rattle.std.specs.List.{flat_map}
 use Rattle.ill_slip.specs.Code128.{check, drawn, encoded, path, start, stop, symbol, value_of}
 
--- The path of a symbol and of what comes after it is drawn in two pieces.
+-- The path of the symbol of `value`, and of `rest` after it, is `drawn value` and the path of `rest`.
 path_of_symbol : (value : ℕ) (rest : List ℕ) → path (symbol value ++ rest) ≡ drawn value ++ path rest
 unfolding drawn
 path_of_symbol value rest = refl
 
--- The path of characters and of what comes after them is drawn symbol by symbol.
+-- The path of the symbols of `text`, and of `rest`, is each character drawn, and then the path of `rest`.
 path_of_characters : (text rest : List ℕ)
     → path (flat_map symbol (map value_of text ++ rest) ++ 2 ∷ [])
     ≡ flat_map (λ character. drawn (value_of character)) text ++ path (flat_map symbol rest ++ 2 ∷ [])

@@ -40,22 +40,22 @@ is_read value = option_map_or (λ found. found == value) (value_with (symbol val
 abbrev is_wide : ℕ → Bool
 is_wide value = sum (symbol value) == 11
 
--- The symbol of each value is read as that value.
+-- The symbol of each value below 107 is read as that value.
 all_are_read : all_below is_read 107 ≡ true
 all_are_read = refl
 
--- The symbol of each value has eleven modules.
+-- The symbol of each value below 107 has eleven modules.
 all_are_wide : all_below is_wide 107 ≡ true
 all_are_wide = refl
 
 -- ---- the values
 
--- A value that is found is `value`, if it equals that.
+-- If a value is `found` and equals `value`, `found` is `Some value`.
 found_is : (found : Option ℕ) (value : ℕ) → option_map_or (λ one. one == value) found false ≡ true → found ≡ Some value
 found_is None value is = search (rules, is)
 found_is (Some one) value is = ap Some (eqb-true one value is)
 
--- The value of a symbol is found by its widths.
+-- If `value` is below 107, `value_with` finds it by the widths of its symbol.
 value_is_found : (value : ℕ) → nat_lt value 107 ≡ true → value_with (symbol value) ≡ Some value
 value_is_found value small =
     found_is (value_with (symbol value)) value (below_passes is_read 107 value all_are_read (ltb-true value 107 small))
@@ -64,7 +64,7 @@ value_is_found value small =
 abbrev have_symbols : List ℕ → Bool
 have_symbols values = list_all (λ value. nat_lt value 107) values
 
--- The values of symbols are read back.
+-- If each of `values` has a symbol, `values_in` reads them back from these symbols and a last bar.
 values_are_read : (values : List ℕ) → have_symbols values ≡ true → values_in (flat_map symbol values ++ 2 ∷ []) ≡ Some values
 values_are_read [] have = refl
 values_are_read (value ∷ rest) have =
@@ -78,13 +78,14 @@ values_are_read (value ∷ rest) have =
 
 -- ---- the text
 
--- What ends a code is no stop alone.
+-- The values of `text`, `last` and the stop are not the stop alone.
 no_stop_alone : (text : List ℕ) (last : ℕ) → bytes_eq (map value_of text ++ last ∷ stop ∷ []) (stop ∷ []) ≡ false
 no_stop_alone [] last = and-false (last == stop)
 no_stop_alone (one ∷ []) last = and-false (value_of one == stop)
 no_stop_alone (one ∷ two ∷ text) last = and-false (value_of one == stop)
 
--- A text is read back from its values.
+-- Let code set B have each character of `text`. Then `text_in` reads it back from its values, a check value and the
+-- stop. `total` is the sum of the values before it, and `place` the position of its first character.
 text_is_read : (total place : ℕ) (text : List ℕ) → list_all is_character text ≡ true
     → text_in total place (map value_of text ++ ((total + weighted place text) % 103) ∷ stop ∷ []) ≡ Some text
 text_is_read total place [] are =
@@ -110,7 +111,8 @@ text_is_read total place (character ∷ text) are =
     ∙ ap (λ (found : Option (List ℕ)). option_map (λ text. (one + 32) ∷ text) found) found
     ∙ ap (λ (c : ℕ). Some (c ∷ text)) same
 
--- The values of a text have symbols, and so have those after it.
+-- Let code set B have each character of `text`, and let the values `rest` have symbols. Then all values of `text` and
+-- `rest` have symbols.
 text_has_symbols : (text rest : List ℕ) → list_all is_character text ≡ true → have_symbols rest ≡ true
     → have_symbols (map value_of text ++ rest) ≡ true
 text_has_symbols [] rest are have = have
@@ -128,7 +130,7 @@ values_have_symbols text are =
     text_has_symbols text (check text ∷ stop ∷ []) are
     (ap (λ (is : Bool). is && have_symbols (stop ∷ [])) (lt-ltb (check text) 107 small))
 
--- The code of a text is read back.
+-- If code set B has each character of `text`, a reader finds `text` in its code.
 pub code_is_read : (text : List ℕ) → list_all is_character text ≡ true → decoded (encoded text) ≡ Some text
 unfolding encoded
 code_is_read text are =
@@ -137,7 +139,7 @@ code_is_read text are =
 
 -- ---- the width
 
--- The symbols of values have eleven modules each.
+-- If each of `values` has a symbol, these have eleven modules each, and the last bar has two.
 symbols_are_wide : (values : List ℕ) → have_symbols values ≡ true
     → sum (flat_map symbol values ++ 2 ∷ []) ≡ 11 * length values + 2
 symbols_are_wide [] have = refl
@@ -148,7 +150,7 @@ symbols_are_wide (value ∷ rest) have =
     ap sum (append_assoc (symbol value) (flat_map symbol rest) (2 ∷ []))
     ∙ sum_by-append (λ (width : ℕ). width) (symbol value) (flat_map symbol rest ++ 2 ∷ []) ∙ omega (arith, one, others)
 
--- The code of a text of `n` characters has 11 n + 35 modules.
+-- If code set B has all `n` characters of a text, its code has 11 n + 35 modules.
 pub code_is_wide : (text : List ℕ) → list_all is_character text ≡ true → sum (encoded text) ≡ 11 * length text + 35
 unfolding encoded
 code_is_wide text are =

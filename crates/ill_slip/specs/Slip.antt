@@ -44,8 +44,8 @@ code_picture text =
     CODE.now ++ (decimal (code_width text) ++ (VIEW.now ++ (decimal (code_width text)
     ++ (BARS.now ++ (path (encoded text) ++ CODE_END.now)))))
 
--- Returns the picture of the code of a loan. A qualifier with any other character has none: a partner may have chosen it,
--- and a scanner would type it into a shell.
+-- Returns the picture of the code of a loan. If a qualifier has a character that is not plain, there is none. A
+-- partner may have chosen it, and a scanner would type it into a shell.
 abbrev pub code_part : Qualifiers → List ℕ
 code_part txn =
     if list_all is_plain txn.group && list_all is_plain txn.transaction then code_picture (loan_words txn) else []

@@ -21,7 +21,7 @@ use Rattle.ill_figures.specs.declared.means.Wait.{Wait}
 abbrev one_of : End → Count → ℕ
 one_of end count = cond (is_of count end) 1 0
 
--- One more loan is counted by its end.
+-- With one `loan` more, a count is higher by one if it is of loans with the end of `loan`.
 one_more : (asked : List Loan) (loan : Loan) (count : Count)
     → counted (loan ∷ asked) count ≡ one_of loan.end count + counted asked count
 one_more asked loan count = sum_by-cons (λ (loan : Loan). one_of loan.end count) loan asked
@@ -31,14 +31,14 @@ pub all_counted : (asked : List Loan) → counted asked counts.Asked ≡ length 
 all_counted [] = refl
 all_counted (loan ∷ asked) = omega (arith, one_more asked loan counts.Asked, all_counted asked)
 
--- Sums of equal numbers are equal.
+-- If `first` and `second` are equal for each count, their sums over `parts` are equal.
 same_summed : (first second : Count → ℕ) → ((part : Count) → first part ≡ second part) → (parts : List Count)
     → sum_by first parts ≡ sum_by second parts
 same_summed first second same [] = refl
 same_summed first second same (part ∷ parts) =
     omega (arith, sum_by-cons first part parts, sum_by-cons second part parts, same part, same_summed first second same parts)
 
--- Sums of two numbers for each count are the sums of both.
+-- The sum of `first part + second part` over `parts` is the sum of `first` and that of `second`.
 both_summed : (first second : Count → ℕ) (parts : List Count)
     → sum_by (λ part. first part + second part) parts ≡ sum_by first parts + sum_by second parts
 both_summed first second [] = refl
@@ -56,7 +56,7 @@ none_summed : (parts : List Count) → sum_by (counted []) parts ≡ 0
 none_summed [] = refl
 none_summed (part ∷ parts) = omega (arith, sum_by-cons (counted []) part parts, none_summed parts)
 
--- If each end is in as many of the parts as in the whole, so is the number of loans.
+-- If `parts` count each end as often as `whole` does, their counts of `asked` add up to that of `whole`.
 parts_summed : (whole : Count) (parts : List Count)
     → ((end : End) → sum_by (one_of end) parts ≡ one_of end whole)
     → (asked : List Loan) → sum_by (counted asked) parts ≡ counted asked whole
@@ -71,7 +71,7 @@ parts_summed whole parts each (loan ∷ asked) =
       parts_summed whole parts each asked,
     )
 
--- Each end is one outcome.
+-- Each end is counted in exactly one of `outcomes`.
 end_is_outcome : (end : End) → sum_by (one_of end) outcomes ≡ one_of end counts.Asked
 end_is_outcome ends.Filled = refl
 end_is_outcome ends.Open = refl
@@ -83,7 +83,7 @@ end_is_outcome ends.LocationsProvided = refl
 end_is_outcome ends.Expired = refl
 end_is_outcome ends.Unknown = refl
 
--- Each refusal has one reason, and no other end has one.
+-- Each refusal is counted in exactly one of `reasons`, and any other end in none.
 end_has_reason : (end : End) → sum_by (one_of end) reasons ≡ one_of end counts.Refused
 end_has_reason ends.Filled = refl
 end_has_reason ends.Open = refl
@@ -140,7 +140,8 @@ no_mean wait = refl
 
 -- ---- means
 
--- A quotient is right to half of its divisor.
+-- Let `quotient` be `n` divided by `2 * suc of`. Then `n` is at least `quotient` times this divisor, and below the
+-- next multiple.
 near_half : (n of quotient : ℕ) → quotient ≡ n / (2 * suc of)
     → (2 * (suc of * quotient) ≤ n) × (n < 2 * (suc of * quotient) + 2 * suc of)
 near_half n of quotient is =
@@ -148,7 +149,7 @@ near_half n of quotient is =
     let small = mod-lt n {m = 2 * suc of} (omega arith) in
     rw is (omega (arith, whole, small))
 
--- A mean is right to half a tenth of a day.
+-- If `mean` is the mean of `days` over `of` loans in tenths, it is right to half a tenth.
 pub mean_is_near : (days of mean : ℕ) → tenths days of ≡ Some mean
     → (2 * (of * mean) ≤ 20 * days + of) × (20 * days < 2 * (of * mean) + of)
 mean_is_near days zero mean is = cc

@@ -16,15 +16,15 @@ use Rattle.ill_figures.specs.Days.{day_number, days_between}
 abbrev passed : ℕ → ℕ → Option ℕ
 passed first last = if nat_le first last then Some (last - first) else None
 
--- From a number to itself none is passed.
+-- From a number to itself, `passed` is 0.
 none_passed : (n : ℕ) → passed n n ≡ Some 0
 none_passed n = grind (arith, common_steps)
 
--- From a number to the next one is passed.
+-- From a number to the next, `passed` is 1.
 one_passed : (n : ℕ) → passed n (suc n) ≡ Some 1
 one_passed n = grind (arith, common_steps)
 
--- What is passed from the first of three numbers to the last is passed in turn.
+-- If `m` is passed from `first` to `second`, and `n` from there on, `m + n` is passed to `last`.
 passed_in_turn : (first second last m n : ℕ) → passed first second ≡ Some m → passed second last ≡ Some n
     → passed first last ≡ Some (m + n)
 passed_in_turn first second last m n one two = grind (arith, common_steps)
@@ -33,7 +33,7 @@ passed_in_turn first second last m n one two = grind (arith, common_steps)
 pub same_day : (day : Date) → days_between day day ≡ Some 0
 same_day day = none_passed (day_number day)
 
--- From the first of three days to the last are as many days as to the second and from there.
+-- If `second` is `m` days after `first`, and `last` is `n` days after `second`, `last` is their sum after `first`.
 pub in_turn : (first second last : Date) (m n : ℕ) → days_between first second ≡ Some m → days_between second last ≡ Some n
     → days_between first last ≡ Some (m + n)
 in_turn first second last m n one two = passed_in_turn (day_number first) (day_number second) (day_number last) m n one two
@@ -44,7 +44,8 @@ number_next : (y z : ℤ) (m d k l : ℕ) → days_from_civil z k l ≡ days_fro
 number_next y z m d k l is =
     omega (arith, signed_arith, is, days_from_civil-day_count z k l, days_from_civil-day_count y m d)
 
--- The number of the day that `next_day` chooses by its two tests is one more.
+-- The number of the day that `next_day` chooses by its two tests is one more. That day is in the same month, the first
+-- of the next month, or 1 January.
 next_by : (d : Date) (in_month in_year : Bool) → IsDate d → nat_lt d.day (days_in_month d.year d.month) ≡ in_month
     → nat_lt d.month 12 ≡ in_year
     → day_number (cond in_month (record { year = d.year; month = d.month; day = d.day + 1 })

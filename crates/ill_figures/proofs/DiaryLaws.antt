@@ -17,7 +17,7 @@ use Rattle.ill_figures.specs.LoanFigures.{Mentioned, dated, dated_of, day_said}
 abbrev with_line : (key : List ℕ) → Option Date → Mentioned → Option Date
 with_line key found line = if bytes_eq line.key key then Some line.day else found
 
--- After one more line, that line is asked last.
+-- After one more `line`, the day of the message with this `key` is that of `with_line`.
 line_asked : (key : List ℕ) (said : List Mentioned) (line : Mentioned)
     → day_said key (said ++ line ∷ []) ≡ with_line key (day_said key said) line
 line_asked key said line = fold-append (with_line key) None said (line ∷ [])
@@ -35,12 +35,12 @@ other_stays : (key : List ℕ) (said : List Mentioned) (line : Mentioned) → by
 other_stays key said line is =
     line_asked key said line ∙ ap (λ (names : Bool). if names then Some line.day else day_said key said) is
 
--- If the first of two tests fails, and the second, both fail.
+-- If neither of two tests passes, the first fails.
 first_fails : (a b : Bool) → (a || b) ≡ false → a ≡ false
 first_fails false b is = refl
 first_fails true b is = is
 
--- If one of two tests passes is false, the second fails.
+-- If neither of two tests passes, the second fails.
 second_fails : (a b : Bool) → (a || b) ≡ false → b ≡ false
 second_fails false b is = is
 second_fails true false is = refl
@@ -51,6 +51,7 @@ both_fail : (a : Bool) {b : Bool} → a ≡ false → b ≡ false → (a || b) �
 both_fail false is also = also
 both_fail true is also = is
 
+-- `named_as` gives a message as lines name it: by its verb if it was issued, else by its type.
 module _ (said : List Mentioned) (line : Mentioned) (named_as : Apdu → Named) where
   -- Returns true if the line names a message.
   abbrev names : Named → Bool
@@ -69,13 +70,13 @@ module _ (said : List Mentioned) (line : Mentioned) (named_as : Apdu → Named) 
       let there = none_changes apdus (second_fails (names (named_as a)) _ is) in
       cc
 
--- If a test passes for none of two lists, it passes for none of the first.
+-- If no item of `xs ++ ys` passes `test`, none of `xs` does.
 none_of_first : {X : Type 0} (test : X → Bool) (xs ys : List X) → list_any test (xs ++ ys) ≡ false → list_any test xs ≡ false
 none_of_first test [] ys is = refl
 none_of_first test (x ∷ xs) ys is =
     both_fail (test x) (first_fails (test x) _ is) (none_of_first test xs ys (second_fails (test x) _ is))
 
--- If a test passes for none of two lists, it passes for none of the second.
+-- If no item of `xs ++ ys` passes `test`, none of `ys` does.
 none_of_second : {X : Type 0} (test : X → Bool) (xs ys : List X) → list_any test (xs ++ ys) ≡ false → list_any test ys ≡ false
 none_of_second test [] ys is = is
 none_of_second test (x ∷ xs) ys is = none_of_second test xs ys (second_fails (test x) _ is)

@@ -10,7 +10,7 @@ use Rattle.ill_figures.specs.LoanFigures.{Mentioned, loan_of}
 use Rattle.ill_figures.specs.declared.days.Span.{Span}
 use Rattle.ill_figures.specs.declared.loan_figures.Loan.{Loan}
 
--- No more loans were asked in a span than there are.
+-- If `loans` are at most 1,000, those of them that were asked in `span` are at most 1,000.
 pub few_asked : (span : Span) (loans : List Loan) → length loans ≤ 1000 → length (asked_in span loans) ≤ 1000
 few_asked span loans few =
     omega (
@@ -20,7 +20,7 @@ few_asked span loans few =
       count_by-le-length (λ (loan : Loan). is_in span loan.asked) loans,
     )
 
--- There are as many figures of loans as sides.
+-- If `sides` are at most 1,000, the figures of their loans are at most 1,000.
 pub few_loans : (mentions : List Mentioned) (came : List Apdu) (sides : List Side) (loans : List Loan)
     → loans ≡ loans_of mentions came sides → length sides ≤ 1000 → length loans ≤ 1000
 few_loans mentions came sides loans is few =

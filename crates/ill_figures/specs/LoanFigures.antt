@@ -60,7 +60,7 @@ event_of types.CheckedIn = events.CheckedIn
 event_of types.Expired = events.Expired
 event_of body = events.Other
 
--- Returns a message that lines name so, with its day.
+-- Returns a message with this body, which lines name by the key of `named`, with its day.
 abbrev pub dated : List Mentioned → Named → Body → Dated
 dated mentions named body = record { event = event_of body; day = day_said named.key mentions }
 

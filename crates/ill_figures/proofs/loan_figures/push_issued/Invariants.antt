@@ -3,7 +3,7 @@ use Rattle.std.proofs.Common.{◌≡◌, ◌++◌, map, take}
 use Rattle.ill_figures.specs.LoanFigures.{issued_dated, mentioned}
 use Rattle.ill_figures.proofs.loan_figures.push_issued.Given as goal
 
--- The messages so far are appended.
+-- The messages so far are appended, with their days.
 abbrev pub invariant-loop-apdu : goal.invariant-loop-apdu
 invariant-loop-apdu l = record {
   appended : l.messages.items ≡ l.initial.messages.items

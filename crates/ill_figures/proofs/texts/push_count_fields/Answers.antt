@@ -5,7 +5,7 @@ use Rattle.ill_figures.specs.Texts.{count_field, next_field}
 use Rattle.ill_figures.proofs.GrowLemmas.{appended_more}
 use Rattle.ill_figures.proofs.texts.push_count_fields.Goals as goal
 
--- The field of the next count is appended.
+-- Proves the loop invariant of `push_count_fields` after one more count. By `appended_more` its field is appended.
 pub loop-count-preserved : goal.loop-count-preserved
 loop-count-preserved c = record {
   appended = appended_more (count_field c.args.asked.now) c.args.counts.now c.loop-count.count-index _ c.args.text.now.items

@@ -26,8 +26,8 @@ same_test false true there back = back refl
 same_test false false there back = refl
 
 -- `bytes_eq` gives the same for `one` and `other` as for `other` and `one`.
-same_key : (one other : List ℕ) → bytes_eq one other ≡ bytes_eq other one
-same_key one other =
+bytes_eq_swapped : (one other : List ℕ) → bytes_eq one other ≡ bytes_eq other one
+bytes_eq_swapped one other =
     same_test (bytes_eq one other) (bytes_eq other one)
     (λ is. (bytes_eq-Decides other one).1 (sym ((bytes_eq-Decides one other).0 is)))
     (λ is. (bytes_eq-Decides one other).1 (sym ((bytes_eq-Decides other one).0 is)))
@@ -98,9 +98,9 @@ module _ (last : List ℕ → Option LastLine) (names : List ℕ → Bool) (new 
 
   -- The later of the new line and the last line of `key` is the new line. `named_so` is true if the new line names
   -- `key`.
-  stays_at : (key : List ℕ) (named_so : Bool) → later (Some new) (if named_so then Some new else last key) ≡ Some new
-  stays_at key true = new_is_itself (nat_lt new.place new.place)
-  stays_at key false = new_stays (last key) (before key)
+  new_is_later_for : (key : List ℕ) (named_so : Bool) → later (Some new) (if named_so then Some new else last key) ≡ Some new
+  new_is_later_for key true = new_is_itself (nat_lt new.place new.place)
+  new_is_later_for key false = new_stays (last key) (before key)
 
   -- Returns the latest of the last lines of `messages` and the line found so far.
   abbrev latest_from : (List ℕ → Option LastLine) → Option LastLine → List Named → Option LastLine
@@ -110,12 +110,12 @@ module _ (last : List ℕ → Option LastLine) (names : List ℕ → Bool) (new 
   stays : (messages : List Named) → latest_from with_new (Some new) messages ≡ Some new
   stays [] = refl
   stays (message ∷ messages) =
-      ap (λ (found : Option LastLine). latest_from with_new found messages) (stays_at message.key (names message.key))
+      ap (λ (found : Option LastLine). latest_from with_new found messages) (new_is_later_for message.key (names message.key))
       ∙ stays messages
 
   -- `new_counts` holds with `message` before `messages`, if it holds of `messages` (the premise). If the new line
   -- names `message` (`named_so`), it is the latest.
-  counts_at : (found : Option LastLine) → IsBefore new.place found → (message : Named) (messages : List Named)
+  new_counts_with : (found : Option LastLine) → IsBefore new.place found → (message : Named) (messages : List Named)
       → option_or (option_map (λ message. new.day) (find (λ message. names message.key) messages))
       (day_of_line (latest_from last (later found (last message.key)) messages))
       ≡ day_of_line (latest_from with_new (later found (last message.key)) messages)
@@ -124,10 +124,10 @@ module _ (last : List ℕ → Option LastLine) (names : List ℕ → Bool) (new 
       (option_map (λ message. new.day) (cond named_so (Some message) (find (λ message. names message.key) messages)))
       (day_of_line (latest_from last (later found (last message.key)) messages))
       ≡ day_of_line (latest_from with_new (later found (if named_so then Some new else last message.key)) messages)
-  counts_at found is message messages others true =
+  new_counts_with found is message messages others true =
       sym (ap day_of_line
       (ap (λ (so_far : Option LastLine). latest_from with_new so_far messages) (new_is_later found is) ∙ stays messages))
-  counts_at found is message messages others false = others
+  new_counts_with found is message messages others false = others
 
   -- If the new line names one of `messages`, its day is that of the latest line. Else the latest line is what it was
   -- without the new one.
@@ -137,7 +137,7 @@ module _ (last : List ℕ → Option LastLine) (names : List ℕ → Bool) (new 
       ≡ day_of_line (latest_from with_new found messages)
   new_counts found is [] = refl
   new_counts found is (message ∷ messages) =
-      counts_at found is message messages
+      new_counts_with found is message messages
       (new_counts (later found (last message.key)) (later_before new.place found (last message.key) is (before message.key))
       messages)
       (names message.key)
@@ -154,7 +154,7 @@ module _ (messages : List Named) where
   line_counts place last before None = refl
   line_counts place last before (Some says) =
       ap (λ (names : List ℕ → Bool). option_or (option_map (λ message. says.day) (find (λ message. names message.key) messages))
-      (day_of_line (latest last messages))) (λ i key. same_key key says.message i)
+      (day_of_line (latest last messages))) (λ i key. bytes_eq_swapped key says.message i)
       ∙ new_counts last (λ key. bytes_eq says.message key) (record { place = place; day = says.day }) before None tt messages
 
   -- Let `day` be the day of the latest line so far. After `lines` the last day is again that of the latest line.

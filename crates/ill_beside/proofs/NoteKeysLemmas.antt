@@ -39,8 +39,8 @@ at_place text = go (nat_lt (position_or_len is_space text) (length text)) (posit
 -- ---- the key of a line
 
 -- No byte with which a key has `byte` is a space.
-byte_stays : (byte : ℕ) → list_any is_space (key_byte byte) ≡ false
-byte_stays byte = go (nat_eq byte 0x20) (nat_eq byte 0x5C) refl
+byte_has_no_space : (byte : ℕ) → list_any is_space (key_byte byte) ≡ false
+byte_has_no_space byte = go (nat_eq byte 0x20) (nat_eq byte 0x5C) refl
   where
     -- `space` and `backslash` are true if `byte` is one.
     go : (space backslash : Bool) → nat_eq byte 0x20 ≡ space
@@ -50,12 +50,12 @@ byte_stays byte = go (nat_eq byte 0x20) (nat_eq byte 0x5C) refl
     go false false is = ap (λ (b : Bool). b || false) is
 
 -- The key of a qualifier, `key text`, has no space.
-key_stays : (text : List ℕ) → list_any is_space (key text) ≡ false
-key_stays [] = refl
-key_stays (byte ∷ text) =
+key_has_no_space : (text : List ℕ) → list_any is_space (key text) ≡ false
+key_has_no_space [] = refl
+key_has_no_space (byte ∷ text) =
     list_any-append is_space (key_byte byte) (key text)
-    ∙ ap (λ (b : Bool). b || list_any is_space (key text)) (byte_stays byte)
-    ∙ key_stays text
+    ∙ ap (λ (b : Bool). b || list_any is_space (key text)) (byte_has_no_space byte)
+    ∙ key_has_no_space text
 
 -- Returns the key with two parts.
 abbrev key_with : List ℕ × List ℕ → List ℕ
@@ -74,9 +74,9 @@ key_read : (txn : Qualifiers) (rest : List ℕ) → begin_of (loan_key txn ++ re
 key_read txn rest =
     ap begin_of (key_parts txn rest)
     ∙ ap (λ (found : Option (List ℕ × List ℕ)). option_map key_with (found >>= two_words))
-    (splits (key txn.group) (key txn.transaction ++ (codes " " ++ rest)) (key_stays txn.group))
+    (splits (key txn.group) (key txn.transaction ++ (codes " " ++ rest)) (key_has_no_space txn.group))
     ∙ ap (λ (found : Option (List ℕ × List ℕ)). option_map key_with (found >>= second_word (key txn.group)))
-    (splits (key txn.transaction) rest (key_stays txn.transaction))
+    (splits (key txn.transaction) rest (key_has_no_space txn.transaction))
 
 -- ---- the words of a loan
 

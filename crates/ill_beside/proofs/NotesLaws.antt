@@ -20,14 +20,14 @@ use Rattle.ill_beside.specs.Notes.{last_words, line_of, note_of, unless_empty, w
 -- ---- the line of a loan
 
 -- The line `begin ++ words` begins with `begin`, the key of a loan.
-begins_with_key : (begin words : List ℕ) → starts_with nat_eq (begin ++ words) begin ≡ true
-begins_with_key begin words = (bytes_eq-Decides begin (take (length begin) (begin ++ words))).1
+begins_with_front : (begin words : List ℕ) → starts_with nat_eq (begin ++ words) begin ≡ true
+begins_with_front begin words = (bytes_eq-Decides begin (take (length begin) (begin ++ words))).1
     (sym (take-append_seam begin words))
 
 -- If `words` are UTF-8, they are the words after `begin` in the line `begin ++ words`.
 own_words : (begin words : List ℕ) → IsUtf8 words → words_after begin (begin ++ words) ≡ Some words
 own_words begin words utf8 =
-    go (starts_with nat_eq (begin ++ words) begin) (drop (length begin) (begin ++ words)) (begins_with_key begin words)
+    go (starts_with nat_eq (begin ++ words) begin) (drop (length begin) (begin ++ words)) (begins_with_front begin words)
     (drop-append_seam begin words)
   where
     -- `starts` is true if the line begins with `begin`, and `rest` is the text after it.
@@ -86,8 +86,8 @@ two_not_five : (n m : ℕ) → n ≡ 0x32 → m ≡ 0x35 → n ≡ m → ⊥
 two_not_five n m two five is = omega (arith, two, five, is)
 
 -- If `key_byte x ++ xs` equals `key_byte y ++ ys`, then `x` is `y`, and `xs` is `ys`.
-bytes_apart : (x y : ℕ) (xs ys : List ℕ) → key_byte x ++ xs ≡ key_byte y ++ ys → (x ≡ y) × (xs ≡ ys)
-bytes_apart x y xs ys is = go (nat_eq x 0x20) (nat_eq x 0x5C) (nat_eq y 0x20) (nat_eq y 0x5C) refl refl refl refl is
+bytes_agree : (x y : ℕ) (xs ys : List ℕ) → key_byte x ++ xs ≡ key_byte y ++ ys → (x ≡ y) × (xs ≡ ys)
+bytes_agree x y xs ys is = go (nat_eq x 0x20) (nat_eq x 0x5C) (nat_eq y 0x20) (nat_eq y 0x5C) refl refl refl refl is
   where
     -- `a` and `b` are true if `x` is a space or a backslash, `c` and `d` if `y` is one. Two bytes of other kinds
     -- differ in their first byte, or in the escape.
@@ -115,16 +115,16 @@ no_space x xs ys is = go (nat_eq x 0x20) (nat_eq x 0x5C) refl is
 
 -- If two texts that begin with the keys of `a` and `b`, and a space, are equal, `a` is `b`. The texts `xs` and `ys`
 -- after these are equal too.
-keys_apart : (a b xs ys : List ℕ) → key a ++ (codes " " ++ xs) ≡ key b ++ (codes " " ++ ys) → (a ≡ b) × (xs ≡ ys)
-keys_apart [] [] xs ys is = (refl, tails 0x20 0x20 xs ys is)
-keys_apart [] (y ∷ b) xs ys is =
+keys_agree : (a b xs ys : List ℕ) → key a ++ (codes " " ++ xs) ≡ key b ++ (codes " " ++ ys) → (a ≡ b) × (xs ≡ ys)
+keys_agree [] [] xs ys is = (refl, tails 0x20 0x20 xs ys is)
+keys_agree [] (y ∷ b) xs ys is =
     absurd (no_space y (key b ++ (codes " " ++ ys)) xs (sym (is ∙ append_assoc (key_byte y) (key b) (codes " " ++ ys))))
-keys_apart (x ∷ a) [] xs ys is =
+keys_agree (x ∷ a) [] xs ys is =
     absurd (no_space x (key a ++ (codes " " ++ xs)) ys (sym (append_assoc (key_byte x) (key a) (codes " " ++ xs)) ∙ is))
-keys_apart (x ∷ a) (y ∷ b) xs ys is =
-    let first = bytes_apart x y (key a ++ (codes " " ++ xs)) (key b ++ (codes " " ++ ys))
+keys_agree (x ∷ a) (y ∷ b) xs ys is =
+    let first = bytes_agree x y (key a ++ (codes " " ++ xs)) (key b ++ (codes " " ++ ys))
     (sym (append_assoc (key_byte x) (key a) (codes " " ++ xs)) ∙ is ∙ append_assoc (key_byte y) (key b) (codes " " ++ ys)) in
-    let rest = keys_apart a b xs ys first.1 in
+    let rest = keys_agree a b xs ys first.1 in
     (ap (λ (z : ℕ). z ∷ a) first.0 ∙ ap (λ (text : List ℕ). y ∷ text) rest.0, rest.1)
 
 -- `loan_key txn ++ rest` is the group's key, a space, the transaction's key, a space, and `rest`.
@@ -135,11 +135,11 @@ key_parts txn rest =
     ∙ ap (λ (text : List ℕ). key txn.group ++ (codes " " ++ text)) (append_assoc (key txn.transaction) (codes " ") rest)
 
 -- If two texts that begin with the keys of the loans `txn` and `on` are equal, `txn` is `on`.
-loans_apart : (txn on : Qualifiers) (rest words : List ℕ) → loan_key txn ++ rest ≡ loan_key on ++ words → txn ≡ on
-loans_apart txn on rest words is =
-    let groups = keys_apart txn.group on.group (key txn.transaction ++ (codes " " ++ rest))
+loans_agree : (txn on : Qualifiers) (rest words : List ℕ) → loan_key txn ++ rest ≡ loan_key on ++ words → txn ≡ on
+loans_agree txn on rest words is =
+    let groups = keys_agree txn.group on.group (key txn.transaction ++ (codes " " ++ rest))
     (key on.transaction ++ (codes " " ++ words)) (sym (key_parts txn rest) ∙ is ∙ key_parts on words) in
-    let transactions = keys_apart txn.transaction on.transaction rest words groups.1 in
+    let transactions = keys_agree txn.transaction on.transaction rest words groups.1 in
     ap (λ (text : List ℕ). record { group = text; transaction = txn.transaction }) groups.0
     ∙ ap (λ (text : List ℕ). record { group = on.group; transaction = text }) transactions.0
 
@@ -150,7 +150,7 @@ no_words_of_another txn on words other =
     let line = line_of on words in
     let begin = loan_key txn in
     let begins = λ (starts : starts_with nat_eq line begin ≡ true).
-    other (loans_apart txn on (drop (length begin) line) words
+    other (loans_agree txn on (drop (length begin) line) words
     (ap (λ (text : List ℕ). text ++ drop (length begin) line) ((bytes_eq-Decides begin (take (length begin) line)).0 starts)
     ∙ take-append-drop (length begin) line)) in
     ap (λ (b : Bool). if b && is_utf8 (drop (length begin) line) then Some (drop (length begin) line) else None)

@@ -76,16 +76,16 @@ splits word rest none =
 -- ---- the words of a line
 
 -- Decimal digits are no spaces.
-digits_stay : (numbers : List ℕ) → list_any is_space (map last_digit numbers) ≡ false
-digits_stay [] = refl
-digits_stay (n ∷ more) =
+digits_have_no_space : (numbers : List ℕ) → list_any is_space (map last_digit numbers) ≡ false
+digits_have_no_space [] = refl
+digits_have_no_space (n ∷ more) =
     ap (λ (b : Bool). b || list_any is_space (map last_digit more)) (ne_eqb (last_digit n) 32 (λ is. omega (arith, is)))
-    ∙ digits_stay more
+    ∙ digits_have_no_space more
 
 -- A date text has no space.
-date_stays : (d : Date) → list_any is_space (date_text d) ≡ false
-date_stays d =
-    digits_stay
+date_has_no_space : (d : Date) → list_any is_space (date_text d) ≡ false
+date_has_no_space d =
+    digits_have_no_space
     (d.year / 1000 ∷ d.year / 100 ∷ d.year / 10 ∷ d.year ∷ d.month / 10 ∷ d.month ∷ d.day / 10 ∷ d.day ∷ [])
 
 -- Bytes below 128 are ASCII.
@@ -169,7 +169,7 @@ words_say : (day : Date) (by message : List ℕ) → IsDate day → list_any is_
     → said_in (date_text day ++ (32 ∷ (by ++ 32 ∷ message))) ≡ Some (says_of day by message)
 words_say day by message is word =
     ap (λ (found : Option (List ℕ × List ℕ)). found >>= λ first. at_space first.1 >>= said_on first.0)
-    (splits (date_text day) (by ++ 32 ∷ message) (date_stays day))
+    (splits (date_text day) (by ++ 32 ∷ message) (date_has_no_space day))
     ∙ ap (λ (found : Option (List ℕ × List ℕ)). found >>= said_on (date_text day)) (splits by message word)
     ∙ ap (λ (found : Option Date). option_map (λ d. says_of d by message) found) (ap result_ok (date_again day is))
 

@@ -17,12 +17,12 @@ abbrev passed : ℕ → ℕ → Option ℕ
 passed first last = if nat_le first last then Some (last - first) else None
 
 -- From a number to itself, `passed` is 0.
-none_passed : (n : ℕ) → passed n n ≡ Some 0
-none_passed n = grind (arith, common_steps)
+zero_to_itself : (n : ℕ) → passed n n ≡ Some 0
+zero_to_itself n = grind (arith, common_steps)
 
 -- From a number to the next, `passed` is 1.
-one_passed : (n : ℕ) → passed n (suc n) ≡ Some 1
-one_passed n = grind (arith, common_steps)
+one_to_next : (n : ℕ) → passed n (suc n) ≡ Some 1
+one_to_next n = grind (arith, common_steps)
 
 -- If `m` is passed from `first` to `second`, and `n` from there on, `m + n` is passed to `last`.
 passed_in_turn : (first second last m n : ℕ) → passed first second ≡ Some m → passed second last ≡ Some n
@@ -31,7 +31,7 @@ passed_in_turn first second last m n one two = grind (arith, common_steps)
 
 -- A day is no days from itself.
 pub same_day : (day : Date) → days_between day day ≡ Some 0
-same_day day = none_passed (day_number day)
+same_day day = zero_to_itself (day_number day)
 
 -- If `second` is `m` days after `first`, and `last` is `n` days after `second`, `last` is their sum after `first`.
 pub in_turn : (first second last : Date) (m n : ℕ) → days_between first second ≡ Some m → days_between second last ≡ Some n
@@ -73,4 +73,4 @@ pub one_day : (day : Date) → IsDate day → days_between day (next_day day) �
 one_day day is =
     subst (λ (n : ℕ). passed (day_number day) n ≡ Some 1)
     (sym (next_by day (nat_lt day.day (days_in_month day.year day.month)) (nat_lt day.month 12) is refl refl))
-    (one_passed (day_number day))
+    (one_to_next (day_number day))

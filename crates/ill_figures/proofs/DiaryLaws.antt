@@ -18,14 +18,14 @@ abbrev with_line : (key : List ℕ) → Option Date → Mentioned → Option Dat
 with_line key found line = if bytes_eq line.key key then Some line.day else found
 
 -- After one more `line`, the day of the message with this `key` is that of `with_line`.
-line_asked : (key : List ℕ) (said : List Mentioned) (line : Mentioned)
+day_after_line : (key : List ℕ) (said : List Mentioned) (line : Mentioned)
     → day_said key (said ++ line ∷ []) ≡ with_line key (day_said key said) line
-line_asked key said line = fold-append (with_line key) None said (line ∷ [])
+day_after_line key said line = fold-append (with_line key) None said (line ∷ [])
 
 -- The last line that names a message tells its day.
 pub last_tells : (said : List Mentioned) (line : Mentioned) → day_said line.key (said ++ line ∷ []) ≡ Some line.day
 last_tells said line =
-    line_asked line.key said line
+    day_after_line line.key said line
     ∙ ap (λ (names : Bool). if names then Some line.day else day_said line.key said)
     ((bytes_eq-Decides line.key line.key).1 refl)
 
@@ -33,7 +33,7 @@ last_tells said line =
 other_stays : (key : List ℕ) (said : List Mentioned) (line : Mentioned) → bytes_eq line.key key ≡ false
     → day_said key (said ++ line ∷ []) ≡ day_said key said
 other_stays key said line is =
-    line_asked key said line ∙ ap (λ (names : Bool). if names then Some line.day else day_said key said) is
+    day_after_line key said line ∙ ap (λ (names : Bool). if names then Some line.day else day_said key said) is
 
 -- If neither of two tests passes, the first fails.
 first_fails : (a b : Bool) → (a || b) ≡ false → a ≡ false

@@ -25,10 +25,10 @@ pub suffix_last : {X : Type 0} (p : X → Bool) (before : List X) (x : X)
 suffix_last p before x = ap (prefix_len p) (reverse-append before (x ∷ []))
 
 -- If the invariant of `past_of` holds of `rest`, and its last item `x` passes `p`, it holds of `before`.
-pub goes_on : {X : Type 0} (p : X → Bool) (all rest before : List X) (x : X) → rest ≡ before ++ x ∷ [] → p x ≡ true
+pub past_goes_on : {X : Type 0} (p : X → Bool) (all rest before : List X) (x : X) → rest ≡ before ++ x ∷ [] → p x ≡ true
     → length rest + suffix_len p all ≡ length all + suffix_len p rest
     → length before + suffix_len p all ≡ length all + suffix_len p before
-goes_on p all rest before x is passes left =
+past_goes_on p all rest before x is passes left =
     let many : suffix_len p rest ≡ 1 + suffix_len p before =
     ap (suffix_len p) is ∙ suffix_last p before x ∙ ap (λ b. cond b (1 + suffix_len p before) 0) passes in
     let long : length rest ≡ length before + 1 = ap length is ∙ length-append before (x ∷ []) in
@@ -36,17 +36,17 @@ goes_on p all rest before x is passes left =
 
 -- Let the invariant of `past_of` hold of `rest`. If its last item `x` fails `p`, the items after `rest` are the last
 -- that pass.
-pub ends_here : {X : Type 0} (p : X → Bool) (all rest before : List X) (x : X) → rest ≡ before ++ x ∷ [] → p x ≡ false
+pub past_ends_here : {X : Type 0} (p : X → Bool) (all rest before : List X) (x : X) → rest ≡ before ++ x ∷ [] → p x ≡ false
     → length rest + suffix_len p all ≡ length all + suffix_len p rest → length rest + suffix_len p all ≡ length all
-ends_here p all rest before x is fails left =
+past_ends_here p all rest before x is fails left =
     let none : suffix_len p rest ≡ 0 =
     ap (suffix_len p) is ∙ suffix_last p before x ∙ ap (λ b. cond b (1 + suffix_len p before) 0) fails in
     omega (arith, none, left)
 
 -- If the invariant of `past_of` holds and `rest` is empty, all items are the last ones that pass.
-pub ends_nowhere : {X : Type 0} (p : X → Bool) (all rest : List X) → rest ≡ []
+pub past_is_none : {X : Type 0} (p : X → Bool) (all rest : List X) → rest ≡ []
     → length rest + suffix_len p all ≡ length all + suffix_len p rest → suffix_len p all ≡ length all
-ends_nowhere p all rest none left =
+past_is_none p all rest none left =
     let empty : suffix_len p rest ≡ 0 = ap (suffix_len p) none in
     let long : length rest ≡ 0 = ap length none in
     omega (arith, empty, long, left)

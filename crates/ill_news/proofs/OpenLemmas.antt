@@ -21,23 +21,23 @@ use Rattle.ill_news.proofs.DeedLemmas.{kept_within}
 use Rattle.ill_news.proofs.NewsLemmas.{taken_is_told, told_was_taken}
 
 -- If `other` is false, `one` and `other` do not both hold.
-second_off : (one other : Bool) → other ≡ false → (one && other) ≡ false
-second_off true other off = off
-second_off false other off = refl
+and_false_right : (one other : Bool) → other ≡ false → (one && other) ≡ false
+and_false_right true other off = off
+and_false_right false other off = refl
 
 -- `a` is told in `news ++ more` if, and only if, it is told in `news` or in `more`.
 told_in_both : (news more : List Apdu) (a : Apdu) → is_told (news ++ more) a ≡ (is_told news a || is_told more a)
 told_in_both news more a = list_any-append (λ (b : Apdu). is_same b a) news more
 
 -- If `other` is true, `one` or `other` holds.
-second_on : (one other : Bool) → other ≡ true → (one || other) ≡ true
-second_on true other on = refl
-second_on false other on = on
+or_true_right : (one other : Bool) → other ≡ true → (one || other) ≡ true
+or_true_right true other on = refl
+or_true_right false other on = on
 
 -- If `one` is false, `one` and `other` do not both hold.
-first_off : (one other : Bool) → one ≡ false → (one && other) ≡ false
-first_off true other off = absurd (true≢false off)
-first_off false other off = refl
+and_false_left : (one other : Bool) → one ≡ false → (one && other) ≡ false
+and_false_left true other off = absurd (true≢false off)
+and_false_left false other off = refl
 
 -- ---- what is open stays news
 
@@ -61,7 +61,7 @@ told_with_open notes sides recent before after a heard is_kept =
     -- `is` is true if `a` is told as recent.
     go : (is : Bool) → is_told recent a ≡ is
         → (is_told (news_of sides (left_open notes recent (before ++ a ∷ after))) a || is_told recent a) ≡ true
-    go true is = second_on (is_told (news_of sides (left_open notes recent (before ++ a ∷ after))) a) (is_told recent a) is
+    go true is = or_true_right (is_told (news_of sides (left_open notes recent (before ++ a ∷ after))) a) (is_told recent a) is
     go false is =
         ap (λ first. first || is_told recent a)
         (left_told notes sides recent before after a heard (ap (λ b. b && not (is_told recent a)) is_kept ∙ ap not is))
@@ -81,16 +81,16 @@ open_told since notes lines sides before after a heard is_kept =
 
 -- No message of a loan whose note says `done` is open.
 done_shut : (notes : List (List ℕ)) (a : Apdu) → says_done (note_of notes a.txn) ≡ true → is_open notes a ≡ false
-done_shut notes a done = second_off (is_asking a.body) (not (says_done (note_of notes a.txn))) (ap not done)
+done_shut notes a done = and_false_right (is_asking a.body) (not (says_done (note_of notes a.txn))) (ap not done)
 
 -- If the note of the loan of `a` says `done`, no message `b` the same as `a` is left.
-done_left : (notes : List (List ℕ)) (sides : List Side) (recent : List Apdu) (a b : Apdu)
+done_not_left : (notes : List (List ℕ)) (sides : List Side) (recent : List Apdu) (a b : Apdu)
     → says_done (note_of notes a.txn) ≡ true → (is_same b a && heard_at sides b) ≡ true → is_left notes recent b ≡ false
-done_left notes sides recent a b done named =
+done_not_left notes sides recent a b done named =
     let same = and_parts (is_same b a) (heard_at sides b) named in
     let txn : b.txn ≡ a.txn =
     same_is b.txn a.txn (and_parts (is_same_txn b.txn a.txn) (nat_eq b.number a.number) same.0).0 in
-    first_off (is_open notes b) (not (is_told recent b))
+    and_false_left (is_open notes b) (not (is_told recent b))
     (done_shut notes b (ap (λ (t : Qualifiers). says_done (note_of notes t)) txn ∙ done))
 
 -- If the note of the loan of `a` says `done`, `a` is not told as an open answer.
@@ -105,7 +105,7 @@ not_left notes sides recent came a done = go (is_told (news_of sides left) a) re
     -- None of them is the same as `a` and was taken.
     none : list_any (λ b. is_same b a && heard_at sides b) left ≡ false
     none = none_kept (λ b. is_same b a && heard_at sides b) (is_left notes recent) came
-        (λ b named. done_left notes sides recent a b done named)
+        (λ b named. done_not_left notes sides recent a b done named)
 
     -- If `a` were told, by `told_was_taken` one of them would be the same and taken.
     go : (is : Bool) → is_told (news_of sides left) a ≡ is → is_told (news_of sides left) a ≡ false
@@ -131,7 +131,7 @@ none_left : (notes : List (List ℕ)) (news came : List Apdu) → list_any (is_o
 none_left notes news [] none = refl
 none_left notes news (a ∷ came) none =
     let both = or_parts (is_open notes a) (list_any (is_open notes) came) none in
-    rw (first_off (is_open notes a) (not (is_told news a)) both.0) (none_left notes news came both.1)
+    rw (and_false_left (is_open notes a) (not (is_told news a)) both.0) (none_left notes news came both.1)
 
 -- If no message is open, what is told is recent, or a date made it due.
 pub none_told : (since : Option Date) (notes lines : List (List ℕ)) (sides : List Side) (came : List Apdu)

@@ -116,7 +116,7 @@ fn push_if_new<'a>(
 }
 
 /// Returns the number of messages up to the last one of `apdus` that came before `day`.
-#[tactic(auto, using(crate::proofs::CameSinceLemmas::goes_on, crate::proofs::CameSinceLemmas::ends_here, crate::proofs::CameSinceLemmas::ends_nowhere))]
+#[tactic(auto, using(crate::proofs::CameSinceLemmas::past_goes_on, crate::proofs::CameSinceLemmas::past_ends_here, crate::proofs::CameSinceLemmas::past_is_none))]
 fn past_of(
     alloc: Global,
     day: Day,

@@ -455,12 +455,12 @@ ends_closed {H = H} {C = C} handles law old now new before middle after feed nex
     }
 
 -- If `apdu` is one too many, or handling it fails, the input ends at `apdu`.
-ends_in_hand : {S : Type 0} (handles : Handles S ToolFault) (state after : ℕ × S) (apdu : Apdu) (fault : ToolFault) (count : ℕ)
+ends_at_apdu : {S : Type 0} (handles : Handles S ToolFault) (state after : ℕ × S) (apdu : Apdu) (fault : ToolFault) (count : ℕ)
     (ahead : List ℕ) (left : Option (List ℕ))
     → IsApdu apdu → count ≡ state.0
     → state.0 ≤ 100000 → CountsOn handles state apdu (Err fault) after
     → Ends handles (Err fault) count (rest_of (encoding apdu) ahead left) state.1 after.1
-ends_in_hand handles state after apdu fault count ahead left is counted few on = elim on [
+ends_at_apdu handles state after apdu fault count ahead left is counted few on = elim on [
   | inl many ↦
       subst (λ (f : ToolFault). Ends handles (Err f) count (rest_of (encoding apdu) ahead left) state.1 after.1) (sym many.1)
       (inl ((omega (arith, many.0, few, counted), (apdu, is, refl)), many.2))
@@ -512,6 +512,6 @@ ends_failing {H = H} {C = C} handles law old now new before middle after feed ne
       read = apdus_read old now new apdus more held piece (text ++ rest) is.read read
           (record { encoded = all.0; parts = parts });
       handled = handled_join handles before first state.1 apdus more is.handled on.2;
-      ended = ends_in_hand handles state (after.0.count, (after.0.handler, after.1)) apdu fault (length (apdus ++ more)) rest
+      ended = ends_at_apdu handles state (after.0.count, (after.0.handler, after.1)) apdu fault (length (apdus ++ more)) rest
           new all.1 counted on.1 failed.6;
     }

@@ -42,8 +42,8 @@ StopsReading Read count rest = IsUnfinished rest.bytes × (rest.ahead ≡ [])
 StopsReading other count rest = ⊥
 
 -- `bytes` encode an APDU, `count` before it are fewer than 100,000, and its handling failed with `fault`.
-abbrev pub FailsInHand : {S : Type 0} → Handles S ToolFault → ToolFault → ℕ → List ℕ → S → S → Type 0
-FailsInHand handles fault count bytes before after =
+abbrev pub FailsHandling : {S : Type 0} → Handles S ToolFault → ToolFault → ℕ → List ℕ → S → S → Type 0
+FailsHandling handles fault count bytes before after =
     (apdu : Apdu) × IsApdu apdu × (bytes ≡ encoding apdu) × (count < 100000)
     × handles before apdu (Err fault) after
 
@@ -54,7 +54,7 @@ Ends handles (Ok n) count rest before after =
     (n ≡ count) × (rest.bytes ≡ []) × IsOver rest × (after ≡ before)
 Ends handles (Err fault) count rest before after =
     (StopsReading fault count rest × (after ≡ before))
-    ⊎ FailsInHand handles fault count rest.bytes before after
+    ⊎ FailsHandling handles fault count rest.bytes before after
 
 -- The input was read from `old` to `new`, with this result. The bytes read were the encodings of `apdus`, then
 -- `bytes`, and then `ahead`. The APDUs were handled one after another, from the state `before` to `last`. The

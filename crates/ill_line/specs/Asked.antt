@@ -75,7 +75,7 @@ loan_of found = do
   transaction ← text_of Transaction found
   result_ok (txn_id_of group transaction)
 
--- Returns `text` if the Bool is true.
+-- Returns `text` if the Bool is true, and None if it is false.
 abbrev pub text_if : Bool → List ℕ → Option (List ℕ)
 text_if true text = Some text
 text_if false text = None
@@ -88,11 +88,11 @@ group_of found = text_of Group found >>= λ group. text_if (is_ok (qualifier_che
 abbrev pub new_file_of : Argument → Found → Option (List ℕ)
 new_file_of argument found = text_of argument found >>= λ file. text_if (not (is_beside file)) file
 
--- Returns the texts of an argument that may have several.
+-- Returns the texts of `argument`, which may have several, if the line has one.
 abbrev pub texts_of : Argument → Found → Option (List (List ℕ))
 texts_of argument found = all_of (id_of argument) found
 
--- Returns `words` if the Bool is true.
+-- Returns `words` if the Bool is true, and None if it is false.
 abbrev pub words_if : Bool → List (List ℕ) → Option (List (List ℕ))
 words_if true words = Some words
 words_if false words = None
@@ -268,12 +268,12 @@ key_if false key = Some key
 abbrev pub key_of_outlet : Found → Option (Option (List ℕ))
 key_of_outlet found = key_if (is_set Stream found) (text_of NightKey found)
 
--- Returns the deeds that the flags ask of a responder.
+-- Returns the deeds that the flags `--overdue` and `--expire` ask of a responder.
 abbrev pub wanted_dates : Found → Dates
 wanted_dates found = record { overdue = is_set Overdue found; expire = is_set Expire found }
 
--- Returns the day and the deeds. It is Some None if no deed is wanted, and None if a deed is wanted without a
--- day.
+-- Returns the day with the deeds that `dates` wants. It is Some None if no deed is wanted, and None if a deed is wanted
+-- without a day.
 abbrev pub dates_on : Dates → Option Date → Option (Option (Date × Dates))
 dates_on dates None = if dates.overdue || dates.expire then None else Some None
 dates_on dates (Some today) = if dates.overdue || dates.expire then Some (Some (today, dates)) else Some None
@@ -527,14 +527,14 @@ IsRefusal is_nothing (Fault Arguments) = is_nothing ≡ true
 IsRefusal is_nothing (Fault OutOfMemory) = Unit {0}
 IsRefusal is_nothing (Fault other) = ⊥
 
--- The result holds the value `said` of the arguments. If they have none, or memory ran out, it is a justified
--- refusal.
+-- If the result is Ok, `said` is Some of its `value`. If it is a refusal, it is justified: `said` is None, or memory
+-- ran out. `said` is what the arguments say.
 abbrev pub ReadsValue : {A B : Type 0} → (B → A) → Option A → Result B Refusal → Type 0
 ReadsValue value said (Ok read) = said ≡ Some (value read)
 ReadsValue value said (Err refusal) = IsRefusal (is_none said) refusal
 
--- The second result is the transaction id of the first. If memory ran out, it is that fault. If there is no
--- id, it is the fault `Arguments`.
+-- The second result is the transaction id of the first, or the fault that memory ran out. If the first has no id, the
+-- second is the fault `Arguments`.
 abbrev pub GivesId : Result Qualifiers TextFault → Result Qualifiers ToolFault → Type 0
 GivesId (Ok txn) (Ok made) = made ≡ txn
 GivesId (Ok txn) (Err fault) = fault ≡ OutOfMemory

@@ -9,7 +9,7 @@ use crate::shape::Shape;
 use clap::Arg;
 use std::alloc::Global;
 
-/// A command of `ill`.
+/// A command of `ill`. `word` returns its word, and `about` the line of its purpose.
 #[derive(Clone, Copy)]
 pub enum Name {
     New,
@@ -392,8 +392,11 @@ pub enum Argument {
     Copy,
     /// The file that is written anew at the end of a run, as a sign of life.
     Beat,
+    /// The role of a desk that begins.
     Role,
+    /// The group qualifier of a loan, or the group of a shelf.
     Group,
+    /// The transaction qualifier of a loan.
     Transaction,
     /// The day of an action.
     Today,

@@ -87,7 +87,7 @@ fn push_argument(
     push_plain(text, "}\n")
 }
 
-/// Appends the fields of an argument but the words that it may have.
+/// Appends the fields of `argument`, all but the words that it may have. `entry` is its command, if it is of one.
 fn push_shape(
     text: &mut Vec<u8>,
     entry: Option<&Entry<'_>>,

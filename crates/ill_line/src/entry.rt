@@ -6,7 +6,7 @@ use crate::help;
 /// A command as the help has it.
 #[derive(Clone, Copy)]
 pub struct Entry<'a> {
-    /// Its word.
+    /// The word of the command, as `new`.
     pub word: &'a str,
     /// True if it is a command on a shelf.
     pub is_on_shelf: bool,
@@ -16,14 +16,14 @@ pub struct Entry<'a> {
     pub help: &'a str,
     /// The example below its help.
     pub example: Option<&'a str>,
-    /// Its arguments, in their order.
+    /// The arguments of the command, in their order.
     pub arguments: &'a [Argument],
-    /// The arguments after those, which it has on a shelf alone.
+    /// The arguments after `arguments`, which the command has on a shelf alone.
     pub further: &'a [Argument],
 }
 
 impl<'a> Entry<'a> {
-    /// The command before the commands on a shelf.
+    /// The command `ill shelf`, whose word stands before the commands on a shelf.
     pub const SHELF: Entry<'static> = Entry {
         word: SHELF,
         is_on_shelf: false,

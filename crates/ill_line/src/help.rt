@@ -1,7 +1,9 @@
 //! The texts of `--help`, whose lines have at most 80 columns: `clap` breaks none.
 
+/// The version, which `ill --version` writes.
 pub const VERSION: &str = "0.2.0";
 
+/// The text below the commands and options in `ill --help`.
 pub const ILL: &str = "\
 The commands stand in groups:
   for staff             new, act, list, news, loan, note, slip, status, report,
@@ -114,6 +116,7 @@ but `new` with `no-record` or for a bad record. One with a KEYFILE may also end
 with `key missing`, `key unreadable`, `key open` or `key size`. The help of a
 command lists its other ends.";
 
+/// The text of the help of `ill new`.
 pub const NEW: &str = "\
 Begin a desk of one role, in a file.
 
@@ -127,12 +130,14 @@ line, `done`, is printed.
 
 The exit status is 0 if the desk is saved, and 1 with `exists`.";
 
+/// The example below the help of `ill new`.
 pub const NEW_EXAMPLE: &str = "Example:
   $ ill new box requester
   done
   $ ill new box requester
   ill: exists";
 
+/// The text of the help of `ill act`.
 pub const ACT: &str = "\
 Perform one action in a loan, and save it.
 
@@ -205,6 +210,7 @@ changes, and OUTCOME says why:
 The exit status is 0 if the action is done, and 1 if it is refused. After `store
 failed` the action may be saved or not: `ill status FILE` shows which.";
 
+/// The example below the help of `ill act`.
 pub const ACT_EXAMPLE: &str = "Example:
   $ ill new box requester
   done
@@ -221,6 +227,7 @@ pub const ACT_EXAMPLE: &str = "Example:
   $ ill act there G1 T1 --today 20250301 ship +14
   done SHIPPED 20250315 1/1";
 
+/// The text of the help of `ill take`.
 pub const TAKE: &str = "\
 Take the APDUs on standard input, and save what they change.
 
@@ -273,6 +280,7 @@ The exit status is 0 if each was taken, a repeat or stale, and 1 if one was
 anything else. It is 2 if the input has a faulty message or too many, or with
 `not-sealed`, and 3 with `read`. The messages before a fault stay taken.";
 
+/// The example below the help of `ill take`.
 pub const TAKE_EXAMPLE: &str = "Example:
   $ ill new here requester
   done
@@ -291,6 +299,7 @@ pub const TAKE_EXAMPLE: &str = "Example:
   G1 T1 Shipped 1 taken SHIPPED 20250315 1/1
     date 20250315";
 
+/// The text of the help of `ill inbox`.
 pub const INBOX: &str = "\
 Take the mails of a folder, and save what they change once.
 
@@ -360,6 +369,7 @@ conflict, and 3 with `left`. Then mails stay or wait, and all else is done. A
 file that cannot be removed or put aside is named on standard error, and then it
 is `store failed`.";
 
+/// The example below the help of `ill inbox`.
 pub const INBOX_EXAMPLE: &str = "Example:
   $ ill new here requester
   done
@@ -379,6 +389,7 @@ pub const INBOX_EXAMPLE: &str = "Example:
   taken 1, repeat 0, stale 0, conflict 0, unknown 0, aside 0, left 0, waiting 0
   $ ls mail";
 
+/// The text of the help of `ill outbox`.
 pub const OUTBOX: &str = "\
 Put the messages that want sending into a folder of mails.
 
@@ -406,6 +417,7 @@ another and nothing else. No key may be given then.
 
 The exit status is 0 if all messages are there. Else the first ones may be.";
 
+/// The example below the help of `ill outbox`.
 pub const OUTBOX_EXAMPLE: &str = "Example:
   $ ill new here requester
   done
@@ -419,6 +431,7 @@ pub const OUTBOX_EXAMPLE: &str = "Example:
   $ ill outbox here --stream | ill check
   1 apdus";
 
+/// The text of the help of `ill exchange`.
 pub const EXCHANGE: &str = "\
 Take the mails of a folder, and send into another.
 
@@ -459,6 +472,7 @@ With --key all messages come and go in sealed letters, as `ill inbox --key` and
 The exit status is 0 if nothing wants a person, 1 if something does, and 3 if a
 mail stays for the next run (`left`).";
 
+/// The example below the help of `ill exchange`.
 pub const EXCHANGE_EXAMPLE: &str = "Example:
   $ ill new here requester
   done
@@ -471,6 +485,7 @@ pub const EXCHANGE_EXAMPLE: &str = "Example:
   $ ls out
   d8b6cc5699564f046c870b8ef78f15e8-001";
 
+/// The text of the help of `ill send`.
 pub const SEND: &str = "\
 Write the bytes of one message of a loan.
 
@@ -490,6 +505,7 @@ With --key a sealed letter with the message goes out in its place, for `ill take
 The exit status is 0 if the message is written, and 1 with
 `no-such-transaction`, `no-such-message` or `not-saved`.";
 
+/// The example below the help of `ill send`.
 pub const SEND_EXAMPLE: &str = "Example:
   $ ill new box requester
   done
@@ -505,6 +521,7 @@ pub const SEND_EXAMPLE: &str = "Example:
   $ ill send box G1 T1 2
   ill: no-such-message";
 
+/// The text of the help of `ill key`.
 pub const KEY: &str = "\
 Make, show or read a key, which two libraries hold.
 
@@ -530,6 +547,7 @@ capitals.
 The exit status is 0 if the key is made, shown or read, and 1 with `exists`. It
 is 2 with `key digits` or `key check`, and 3 with `store failed` or `read`.";
 
+/// The example below the help of `ill key`.
 pub const KEY_EXAMPLE: &str = "Example:
   $ ill key here.key
   done
@@ -538,6 +556,7 @@ pub const KEY_EXAMPLE: &str = "Example:
   $ ill key here.key
   ill: exists";
 
+/// The text of the help of `ill list`.
 pub const LIST: &str = "\
 List the loans of desks by the work of the day, a line for each.
 
@@ -593,6 +612,7 @@ listed.
 
 `ill --help` says which desks a PATH has, and how several are shown.";
 
+/// The example below the help of `ill list`.
 pub const LIST_EXAMPLE: &str = "Example:
   $ ill new here requester
   done
@@ -612,6 +632,7 @@ pub const LIST_EXAMPLE: &str = "Example:
     IN-PROCESS  -         G1  T1  answer,ship  Maps
   loans 1, open 1, to do 1, room for 999";
 
+/// The text of the help of `ill news`.
 pub const NEWS: &str = "\
 Show what came to desks, in the order in which it came, a line for each message.
 
@@ -676,6 +697,7 @@ the messages, and those of them that are shown; with --json there is none.
 
 `ill --help` says which desks a PATH has, and how several are shown.";
 
+/// The example below the help of `ill news`.
 pub const NEWS_EXAMPLE: &str = "Example:
   $ ill new here requester
   done
@@ -697,6 +719,7 @@ pub const NEWS_EXAMPLE: &str = "Example:
     G1  T1  1    shipped, due 2025-03-15  Maps
   messages 1, shown 1";
 
+/// The text of the help of `ill figures`.
 pub const FIGURES: &str = "\
 Count the loans of desks that were asked in a span of days, and how long they
 took.
@@ -733,6 +756,7 @@ names of the fields.
 
 `ill --help` says which desks a PATH has, and how several are shown.";
 
+/// The example below the help of `ill figures`.
 pub const FIGURES_EXAMPLE: &str = "Example:
   $ ill new here requester
   done
@@ -763,6 +787,7 @@ pub const FIGURES_EXAMPLE: &str = "Example:
     days out              -
     without a day         0";
 
+/// The text of the help of `ill status`.
 pub const STATUS: &str = "\
 Show how each loan in a file stands.
 
@@ -778,6 +803,7 @@ begun; none, if the desk has no loan:
   marks                  those that are set of `received` (a Received was
                          issued, or taken), `checked-in` and `declined`, or `-`";
 
+/// The example below the help of `ill status`.
 pub const STATUS_EXAMPLE: &str = "Example:
   $ ill new box requester
   done
@@ -792,6 +818,7 @@ pub const STATUS_EXAMPLE: &str = "Example:
   messages 1/1
   marks -";
 
+/// The text of the help of `ill loan`.
 pub const LOAN: &str = "\
 Show all of one loan: its request, its messages, what comes next.
 
@@ -839,6 +866,7 @@ nobody knows.
 
 The exit status is 0 if the loan is shown, and 1 with `no-such-transaction`.";
 
+/// The example below the help of `ill loan`.
 pub const LOAN_EXAMPLE: &str = "Example:
   $ ill new box requester
   done
@@ -865,6 +893,7 @@ pub const LOAN_EXAMPLE: &str = "Example:
   item Maps
   leaves yes";
 
+/// The text of the help of `ill note`.
 pub const NOTE: &str = "\
 Keep a note on one loan, for staff alone.
 
@@ -894,6 +923,7 @@ One line, `done`, is printed once the note is on the disk.
 The exit status is 0 if the note is kept, and 1 with `no-such-transaction`.
 After `store failed` the note may be kept or not: `ill loan` shows which.";
 
+/// The example below the help of `ill note`.
 pub const NOTE_EXAMPLE: &str = "Example:
   $ ill new box requester
   done
@@ -907,6 +937,7 @@ pub const NOTE_EXAMPLE: &str = "Example:
       note for Prof. Noether, by Friday
   loans 1, open 1, to do 0, room for 999";
 
+/// The text of the help of `ill slip`.
 pub const SLIP: &str = "\
 Write a slip of one loan, to print and to lay in its item.
 
@@ -926,6 +957,7 @@ What a person wrote stands there as text, whatever its characters.
 
 The exit status is 0 if the slip is written, and 1 with `no-such-transaction`.";
 
+/// The example below the help of `ill slip`.
 pub const SLIP_EXAMPLE: &str = "Example:
   $ ill new box requester
   done
@@ -933,6 +965,7 @@ pub const SLIP_EXAMPLE: &str = "Example:
   done PENDING - 1/1
   $ ill slip box G1 T1 > slip.html";
 
+/// The text of the help of `ill verify`.
 pub const VERIFY: &str = "\
 Read a desk, and show what it has or what is wrong with it.
 
@@ -947,6 +980,7 @@ A file that is no record, or a damaged one, is a fault, with the place of the
 first wrong byte if there is one. With --json the object has the fault, which is
 on standard error, too.";
 
+/// The example below the help of `ill verify`.
 pub const VERIFY_EXAMPLE: &str = "Example:
   $ ill new box requester
   done
@@ -959,6 +993,7 @@ pub const VERIFY_EXAMPLE: &str = "Example:
   messages 1
   room 999";
 
+/// The text of the help of `ill report`.
 pub const REPORT: &str = "\
 Write a page for a browser of the loans of desks.
 
@@ -984,6 +1019,7 @@ What a person wrote, titles, notes, groups, transactions and names of files,
 stands there as text, whatever its characters. A desk that cannot be read has
 its fault on the page too.";
 
+/// The example below the help of `ill report`.
 pub const REPORT_EXAMPLE: &str = "Example:
   $ ill new here requester
   done
@@ -991,6 +1027,7 @@ pub const REPORT_EXAMPLE: &str = "Example:
   done PENDING - 1/1
   $ ill report here --today 20250301 > page.html";
 
+/// The text of the help of `ill show`.
 pub const SHOW: &str = "\
 Show each APDU on standard input.
 
@@ -1000,6 +1037,7 @@ printed, a line for each: `ill show < FILE`.
 The exit status is 0 if all of them are shown. It is 2 if one has a fault or
 there are too many, and 3 with `read`. The APDUs before a fault are shown.";
 
+/// The example below the help of `ill show`.
 pub const SHOW_EXAMPLE: &str = "Example:
   $ printf 'f\\20\\200\\1\\1\\241\\10\\201\\2G1\\202\\2T1\\202\\1\\2' | ill show
   apdu Cancel
@@ -1007,6 +1045,7 @@ pub const SHOW_EXAMPLE: &str = "Example:
   transaction T1
   number 2";
 
+/// The text of the help of `ill check`.
 pub const CHECK: &str = "\
 Check the APDUs on standard input and count them.
 
@@ -1016,10 +1055,12 @@ them has a fault, standard output has nothing.
 The exit status is 0 if they are counted. It is 2 if one has a fault or there
 are too many, and 3 with `read`.";
 
+/// The example below the help of `ill check`.
 pub const CHECK_EXAMPLE: &str = "Example:
   $ printf 'f\\20\\200\\1\\1\\241\\10\\201\\2G1\\202\\2T1\\202\\1\\2' | ill check
   1 apdus";
 
+/// The text of the help of `ill simulate`.
 pub const SIMULATE: &str = "\
 Perform a script of both sides of a loan, from standard input.
 
@@ -1051,11 +1092,13 @@ WISHED and HEX may be `none`. RESULT is as for `ill act`.
 The exit status is 0 if the whole script was performed. It is 2 for a line that
 is no event, and 3 with `read`. The lines of the events before are printed.";
 
+/// The example below the help of `ill simulate`.
 pub const SIMULATE_EXAMPLE: &str = "Example:
   $ printf 'requester request none Maps\\nsave requester\\n' | ill simulate G1 T1
   1 done requester PENDING - 0/1 responder IDLE - 0/0
   2 saved requester PENDING - 1/1 responder IDLE - 0/0";
 
+/// The text of the help of `ill simulate-desks`.
 pub const SIMULATE_DESKS: &str = "\
 Perform a script of two desks, from standard input.
 
@@ -1076,10 +1119,12 @@ The exit status is 0 if the whole script was performed. It is 2 for a line that
 is no event and no use, and 3 with `read`. The lines of the events before are
 printed.";
 
+/// The example below the help of `ill simulate-desks`.
 pub const SIMULATE_DESKS_EXAMPLE: &str = "Example:
   $ printf 'use G1 T1\\nrequester request none Maps\\n' | ill simulate-desks
   1 done requester PENDING - 0/1 responder IDLE - 0/0";
 
+/// The text of the help of `ill shelf retire`.
 pub const RETIRE: &str = "\
 Replace a desk whose loans are over by a mark of its group.
 
@@ -1099,6 +1144,7 @@ libraries may retire a group as soon as its loans are over.
 
 The exit status is 0 after `done`, and 1 after `not-now`.";
 
+/// The example below the help of `ill shelf retire`.
 pub const RETIRE_EXAMPLE: &str = "Example:
   $ ill shelf new shelf requester
   done
@@ -1107,6 +1153,7 @@ pub const RETIRE_EXAMPLE: &str = "Example:
   $ ill shelf retire shelf North-2025
   not-now";
 
+/// The text of the help of `ill shelf`.
 pub const SHELF: &str = "\
 Keep a folder of desks, one for each group of loans.
 
@@ -1129,6 +1176,7 @@ A requester's shelf begins a group if `act --new-group` says so. A
 responder's begins one for an ILL-Request: the mail of one run makes 16 desks at
 most, and further requests wait for the next run.";
 
+/// The example below the help of `ill shelf`.
 pub const SHELF_EXAMPLE: &str = "Example:
   $ ill shelf new shelf requester
   done
@@ -1141,6 +1189,7 @@ pub const SHELF_EXAMPLE: &str = "Example:
   $ ill shelf act shelf North-2025 T2 request none Atlas
   done PENDING - 1/1";
 
+/// The text of the help of `ill shelf new`.
 pub const SHELF_NEW: &str = "\
 Begin a shelf of one role, in a folder.
 
@@ -1149,6 +1198,7 @@ printed. `exists` says that DIR is a shelf already.
 
 The exit status is 0 if the shelf is saved, and 1 with `exists`.";
 
+/// The text of the help of `ill shelf act`.
 pub const SHELF_ACT: &str = "\
 Perform one action in a loan, at the desk of its group.
 
@@ -1160,22 +1210,26 @@ that is `no-record`, so that a slip of the pen begins no group. With
 If a desk is full, go on in a new group, which you name: the other library
 needs no notice. The exit status is as of `ill act`.";
 
+/// The text of the help of `ill shelf loan`.
 pub const SHELF_LOAN: &str = "\
 Show all of one loan: request, messages, what may be done.
 
 It shows what `ill loan` shows, of the desk of GROUP.";
 
+/// The text of the help of `ill shelf note`.
 pub const SHELF_NOTE: &str = "\
 Keep a note on one loan, for staff alone.
 
 It keeps what `ill note` keeps, beside the desk of GROUP: in DESK.notes. To
 retire a group removes its notes.";
 
+/// The text of the help of `ill shelf slip`.
 pub const SHELF_SLIP: &str = "\
 Write a slip of one loan, to print and to lay in its item.
 
 It writes what `ill slip` writes, of the desk of GROUP.";
 
+/// The text of the help of `ill shelf status`.
 pub const SHELF_STATUS: &str = "\
 Show how each loan stands, desk by desk.
 
@@ -1183,6 +1237,7 @@ The path of each desk stands on a line before its loans, which are shown as `ill
 status` shows them. With --json it does not. Standard error names a desk that
 cannot be read, and the others are shown.";
 
+/// The text of the help of `ill shelf take`.
 pub const SHELF_TAKE: &str = "\
 Take the APDUs on standard input, each at the desk of its group.
 
@@ -1191,11 +1246,13 @@ a new group makes its desk at a responder's shelf. Other messages of groups that
 have no desk are `no-such-transaction`; one of a retired group ends the command
 with that. The exit status is as of `ill take`.";
 
+/// The text of the help of `ill shelf send`.
 pub const SHELF_SEND: &str = "\
 Write the bytes of one message of a loan.
 
 It writes what `ill send` writes, of the desk of GROUP.";
 
+/// The text of the help of `ill shelf inbox`.
 pub const SHELF_INBOX: &str = "\
 Take the mails of a folder, each at the desk of its group.
 
@@ -1223,6 +1280,7 @@ The exit status is that of the first desk that fails, as of `ill inbox`. If none
 fails, it is 3 if mails are left, 1 if one was put aside or in conflict, else 0.
 If DIR is no shelf, it is 1 with `no-record`.";
 
+/// The text of the help of `ill shelf outbox`.
 pub const SHELF_OUTBOX: &str = "\
 Put the messages of all desks that want sending into a folder.
 
@@ -1233,6 +1291,7 @@ inbox` go into FOLDER too, and no line counts them.
 
 With --key each desk seals a letter of its own, and so do these groups together.";
 
+/// The text of the help of `ill shelf exchange`.
 pub const SHELF_EXCHANGE: &str = "\
 Take the mails of a folder, and send into another.
 

@@ -19,7 +19,7 @@ pub enum Shape<'a> {
     Flag,
     /// An option with a value, which may begin with a hyphen.
     Valued(&'a str),
-    /// An option with such a value, which has to be there.
+    /// An option with a value that may begin with a hyphen. The option has to be there.
     RequiredValue(&'a str),
     /// An option with a path, which may not begin with a hyphen.
     Path(&'a str),
@@ -35,7 +35,7 @@ impl<'a> Shape<'a> {
         }
     }
 
-    /// Returns true if it is an option.
+    /// Returns true if an argument with this shape is an option.
     pub fn is_option(self) -> bool {
         matches!(
             self,
@@ -43,7 +43,7 @@ impl<'a> Shape<'a> {
         )
     }
 
-    /// Returns true if it has to be there.
+    /// Returns true if an argument with this shape has to be there.
     pub fn is_required(self) -> bool {
         !matches!(
             self,
@@ -51,17 +51,17 @@ impl<'a> Shape<'a> {
         )
     }
 
-    /// Returns true if it may have several words.
+    /// Returns true if an argument with this shape may have several words.
     pub fn has_words(self) -> bool {
         matches!(self, Shape::Words | Shape::Rest)
     }
 
-    /// Returns true if it takes all the words that remain.
+    /// Returns true if an argument with this shape takes all the words that remain.
     pub fn takes_rest(self) -> bool {
         matches!(self, Shape::Rest)
     }
 
-    /// Returns true if it may begin with a hyphen.
+    /// Returns true if the text of an argument with this shape may begin with a hyphen.
     fn takes_hyphens(self) -> bool {
         matches!(
             self,

@@ -2,7 +2,7 @@
 use Rattle.ill_line.proofs.RequestLemmas.{passed_on, refused_on}
 use Rattle.ill_line.proofs.request.key_request.Goals as goal
 
--- A right refusal of the file is a right refusal of the request.
+-- A justified refusal of the file is a justified refusal of the request.
 pub returns-in_err-file : goal.returns-in_err-file
 returns-in_err-file c =
     passed_on _ _ c.from_residual.result c.in_err-file.field-0.0 c.from_residual.ensures.1

@@ -2,7 +2,7 @@
 use Rattle.ill_line.proofs.RequestLemmas.{passed_on, refused_after}
 use Rattle.ill_line.proofs.request.list_request.Goals as goal
 
--- A right refusal of the choice of loans is a right refusal of the request.
+-- A justified refusal of the choice of loans is a justified refusal of the request.
 pub returns-in_err-wanted : goal.returns-in_err-wanted
 returns-in_err-wanted c =
     passed_on _ _ c.from_residual-in_err-wanted.result c.in_err-wanted.field-0.0 c.from_residual-in_err-wanted.ensures.1

@@ -5,7 +5,7 @@ use Rattle.ill_line.specs.Asked.{asked_in, unless_option}
 use Rattle.ill_line.proofs.RequestLemmas.{read_whole, refused_on}
 use Rattle.ill_line.proofs.request.read.Goals as goal
 
--- Proves the contract of `read` if no request is found. By `refused_on` the refusal is right.
+-- Proves the contract of `read` if no request is found. By `refused_on` the refusal is justified.
 pub returns-in-Err : goal.returns-in-Err
 returns-in-Err c =
     let texts = map (λ (word : Bor (List ℕ)). word.now) c.args.words.now in

@@ -2,7 +2,7 @@
 use Rattle.ill_line.proofs.RequestLemmas.{passed_on, refused_after}
 use Rattle.ill_line.proofs.request.report_request.Goals as goal
 
--- A right refusal of the day since which news are told is a right refusal of the request.
+-- A justified refusal of the day since which news are told is a justified refusal of the request.
 pub returns-in_err-since : goal.returns-in_err-since
 returns-in_err-since c =
     passed_on _ _ c.from_residual-in_err-since.result c.in_err-since.field-0.0 c.from_residual-in_err-since.ensures.1

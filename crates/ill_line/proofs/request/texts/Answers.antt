@@ -10,7 +10,7 @@ returns-in-Ok c =
     c.id.ensures c.in-Some.ensures
     ∙ ap (λ (items : List (Bor (List ℕ))). Some (map (λ (text : Bor (List ℕ)). text.now) items)) (sym c.in-Ok.ensures.items)
 
--- Proves the contract of `texts` if the parser has no texts. By `no_texts_said` the refusal is right.
+-- Proves the contract of `texts` if the parser has no texts. By `no_texts_said` the refusal is justified.
 pub returns-in-None : goal.returns-in-None
 returns-in-None c = no_texts_said c.args.matches.now _ c.args.argument c.unknown.result c.id.ensures c.in-None.ensures
     c.unknown.ensures

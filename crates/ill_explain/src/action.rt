@@ -39,7 +39,7 @@ fn role_at<T: Files>(rt: &T, alloc: Global, file: &str) -> Option<Role> {
     Some(desk.sides().role())
 }
 
-/// Appends the lines about words that name no action of this role.
+/// Appends the lines about `words`, which name no action of `role`. The first is the verb, the others are its parts.
 fn tell_words(
     alloc: Global,
     text: &mut String,
@@ -63,7 +63,7 @@ fn tell_words(
     }
 }
 
-/// Appends a line about a word that no action may have.
+/// Appends a line about `word`, which no action may have: it is empty or holds a space.
 fn tell_no_word(text: &mut String, word: &str) -> Result<(), OutOfMemory> {
     let shown = Shown::of(word);
     if word.is_empty() {
@@ -122,7 +122,8 @@ fn tell_no_today(text: &mut String, form: Form) -> Result<(), OutOfMemory> {
     )
 }
 
-/// Appends the lines about wrong parts after a verb.
+/// Appends the lines about `parts`, which are wrong after the verb of `form`. There are too few, too many, or one is
+/// wrong.
 fn tell_parts(
     alloc: Global,
     text: &mut String,
@@ -213,7 +214,8 @@ fn tell_no_due(
     }
 }
 
-/// Appends the reason why `part` names no day. Its digits are wrong, or the day is past the end of the calendar.
+/// Appends the reason why `part` names no day: a `+`, and then `days`. Its digits are wrong, or the day is past the end
+/// of the calendar.
 fn tell_no_days(
     text: &mut String,
     today: Option<Day>,
@@ -234,7 +236,7 @@ fn tell_no_days(
     )
 }
 
-/// Appends the lines about the wrong parts of a Renew-Answer.
+/// Appends the lines about the wrong parts of a Renew-Answer: `word`, which is yes or no, and `due`.
 fn tell_grant(
     text: &mut String,
     form: Form,

@@ -75,7 +75,7 @@ fn has_name_without_day(matches: &ArgMatches<'_>) -> bool {
         && matches.get_str(Argument::NightDay.id()).is_none()
 }
 
-/// Appends a line about `argument`, if it is wrong.
+/// Appends a line about `word`, the text of `argument`, if it is wrong.
 fn tell_argument(
     alloc: Global,
     text: &mut String,
@@ -103,7 +103,7 @@ fn tell_argument(
     }
 }
 
-/// Appends a line about a role, if it is none.
+/// Appends a line about `word`, if it is no role.
 fn tell_role(text: &mut String, word: &str) -> Result<(), OutOfMemory> {
     if who(word.as_bytes()).is_some() {
         return Ok(());
@@ -112,7 +112,7 @@ fn tell_role(text: &mut String, word: &str) -> Result<(), OutOfMemory> {
     writeln!(text, "  {shown} is no role: it is requester or responder.")
 }
 
-/// Appends a line about the name of a person, if it is none for the diary.
+/// Appends a line about `word`, if it is no name of a person for the diary.
 fn tell_name(text: &mut String, word: &str) -> Result<(), OutOfMemory> {
     if is_name(word) {
         return Ok(());
@@ -124,7 +124,7 @@ fn tell_name(text: &mut String, word: &str) -> Result<(), OutOfMemory> {
     )
 }
 
-/// Appends a line about a qualifier of a loan, if it is invalid.
+/// Appends a line about `word`, if it is no qualifier of a loan. `name` says which one: group or transaction.
 fn tell_qualifier(
     alloc: Global,
     text: &mut String,
@@ -150,7 +150,7 @@ fn tell_qualifier(
     }
 }
 
-/// Appends a line about the first byte that a qualifier may not have.
+/// Appends a line about the first byte of `word` that a qualifier may not have.
 fn tell_bad_byte(text: &mut String, name: &str, word: &str) -> Result<(), OutOfMemory> {
     let shown = Shown::of(word);
     for (place, byte) in (1_u64..).zip(word.bytes()) {
@@ -168,7 +168,7 @@ fn tell_bad_byte(text: &mut String, name: &str, word: &str) -> Result<(), OutOfM
     Ok(())
 }
 
-/// Appends a line about a state, if it is none.
+/// Appends a line about `word`, if it is no state.
 fn tell_state(alloc: Global, text: &mut String, word: &str) -> Result<(), OutOfMemory> {
     if State::read(word.as_bytes()).is_some() {
         return Ok(());
@@ -185,7 +185,7 @@ fn tell_state(alloc: Global, text: &mut String, word: &str) -> Result<(), OutOfM
     }
 }
 
-/// Appends a line about the number of a message, if it is none.
+/// Appends a line about `word`, if it is no number of a message.
 fn tell_number(text: &mut String, word: &str) -> Result<(), OutOfMemory> {
     if number(word.as_bytes()).is_some() {
         return Ok(());
@@ -194,7 +194,7 @@ fn tell_number(text: &mut String, word: &str) -> Result<(), OutOfMemory> {
     writeln!(text, "  {shown} is no number of a message: it is 1 to 255.")
 }
 
-/// Appends a line about the number of messages that are shown, if it is none.
+/// Appends a line about `word`, if it is no number of messages to show.
 fn tell_last(text: &mut String, word: &str) -> Result<(), OutOfMemory> {
     if number(word.as_bytes()).is_some() {
         return Ok(());

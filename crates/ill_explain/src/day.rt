@@ -4,7 +4,7 @@ use crate::shown::Shown;
 use ill_days::read_day;
 use ill_values::{DayFault, OutOfMemory};
 
-/// Appends a line about the word of an option that wants a day, if it is none.
+/// Appends a line about `word`, the value of an option that wants a day, if it is no day.
 pub(crate) fn tell_day(text: &mut String, word: &str) -> Result<(), OutOfMemory> {
     match read_day(word.as_bytes()) {
         Ok(_) => Ok(()),
@@ -12,7 +12,7 @@ pub(crate) fn tell_day(text: &mut String, word: &str) -> Result<(), OutOfMemory>
     }
 }
 
-/// Appends a line about a word that is no day.
+/// Appends a line about `word`, which is no day, with the reason `fault`.
 pub fn tell_no_day(text: &mut String, word: &str, fault: DayFault) -> Result<(), OutOfMemory> {
     let shown = Shown::of(word);
     match fault {

@@ -19,7 +19,8 @@ const LOCK: &str = ".lck";
 /// The number of bytes at the beginning of each record, which give its version.
 const MARK: u32 = 4;
 
-/// Appends the cause of a fault of a desk.
+/// Appends the cause of `fault`, a fault of a desk. The desk is the first one of the command that fails, or else its
+/// FILE.
 pub fn tell_desk_fault<T: LockFiles>(
     rt: &T,
     alloc: Global,
@@ -164,7 +165,7 @@ fn tell_absent<T: LockFiles>(rt: &T, text: &mut String, path: &str) -> Result<()
     Ok(())
 }
 
-/// Appends that the folder of the file at `path` does not exist, if so. It then returns true.
+/// If the folder of the file at `path` does not exist, appends that and returns true. Else it returns false.
 fn tell_no_folder<T: LockFiles>(
     rt: &T,
     text: &mut String,
@@ -203,7 +204,7 @@ fn tell_failed<T: LockFiles>(
     }
 }
 
-/// Appends that a file named as `path` lies beside a desk, and returns true, if that is so.
+/// If `path` ends as the files beside a desk do, appends that and returns true. Else it returns false.
 pub fn tell_reserved(text: &mut String, path: &str) -> Result<bool, OutOfMemory> {
     let shown = Shown::of(path);
     for ending in &BESIDE {
@@ -309,7 +310,7 @@ fn tell_unsaved<T: LockFiles>(
     tell_kept(rt, text, notes.as_str(), "")
 }
 
-/// Appends that the file at `kept` may be the cause, if it exists. `more` may say more of it.
+/// Appends that the file at `kept` may be the cause, if it exists. `more` is the end of the sentence, or empty.
 fn tell_kept<T: LockFiles>(
     rt: &T,
     text: &mut String,
@@ -342,7 +343,7 @@ fn is_file<T: LockFiles>(rt: &T, path: &str) -> bool {
     }
 }
 
-/// Appends the reason why the bytes of a file are no record.
+/// Appends the reason `fault` why the bytes of the file at `path` are no record.
 fn tell_no_record(text: &mut String, path: &str, fault: RecordFault) -> Result<(), OutOfMemory> {
     let shown = Shown::of(path);
     writeln!(text, "  {shown} holds no record of a desk.")?;

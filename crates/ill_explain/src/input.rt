@@ -12,8 +12,9 @@ use std::io::Read;
 /// The good messages that a reader has passed on.
 #[derive(Clone, Copy)]
 pub struct Passed {
+    /// The number of these messages.
     pub messages: u64,
-    /// The number of their bytes.
+    /// The number of the bytes of these messages.
     pub bytes: u64,
 }
 
@@ -33,8 +34,11 @@ impl Passed {
 /// A reader that counts the good messages at the beginning of its input, if `is_counting` is set.
 #[derive(Drop)]
 pub struct Watched<'a, R> {
+    /// The reader whose bytes are passed on.
     reader: &'a mut R,
+    /// Decodes the bytes in order to count their messages. It is missing if nothing is counted, or counting has failed.
     feed: Option<Feed>,
+    /// The good messages among the bytes so far.
     passed: Passed,
 }
 
@@ -56,7 +60,7 @@ impl<'a, R> Watched<'a, R> {
         }
     }
 
-    /// Returns the messages that it has passed on, if it has counted all of them.
+    /// Returns the good messages that the reader has passed on, if it has counted all of them.
     pub fn passed(&self) -> Option<Passed>
         ensures { result ≡ option_map (λ _. self.now.passed) self.now.feed }
     {
@@ -90,7 +94,8 @@ impl<R: Read> Read for Watched<'_, R> {
     }
 }
 
-/// Appends the lines about the faulty message of the input: its place and its fault.
+/// Appends the lines about the faulty message of the input. `passed` gives its place, if it is known, and `fault` its
+/// fault.
 pub fn tell_bad_bytes(
     text: &mut String,
     fault: DerFault,

@@ -16,7 +16,7 @@ use ill_text::fault::ToolFault;
 use ill_values::OutOfMemory;
 use std::io::Write;
 
-/// The option.
+/// The option that asks for explanations.
 const OPTION: &str = "--explain";
 
 /// Returns true if `words` ask for explanations, before any `--`. The first word is the name of the program.
@@ -31,20 +31,21 @@ pub fn is_asked(words: &[&str]) -> bool {
 /// A command line that has failed.
 #[derive(Drop)]
 struct Failed<'a, 'b> {
-    /// Its words, from the name of the program on.
+    /// The words of the command line, from the name of the program on.
     words: &'a [&'a str],
-    /// The name of its command.
+    /// The command of the line.
     name: Name,
     /// The arguments of the command.
     matches: &'a ArgMatches<'b>,
-    /// Its fault.
+    /// The fault with which the command ended.
     fault: ToolFault,
-    /// The place in the input at which the command stopped.
+    /// The good messages of the input before the place at which the command stopped, if they were counted.
     passed: Option<Passed>,
 }
 
 impl Failed<'_, '_> {
-    /// Returns the place in the messages at which the command stopped. Those in a sealed letter have no known place.
+    /// Returns the good messages before the place at which the command stopped. In a sealed letter this place is
+    /// unknown.
     fn passed_on(&self) -> Option<Passed> {
         match self.matches.get_str(Argument::Key.id()) {
             Some(_) => None,

@@ -38,7 +38,7 @@ pub fn tell_shelf_fault<T: LockFiles>(
     }
 }
 
-/// Appends the cause of a fault at the desk of a group.
+/// Appends the cause of `fault` at `desk`, the file of the desk of a group.
 fn tell_of_group<T: LockFiles>(
     rt: &T,
     alloc: Global,

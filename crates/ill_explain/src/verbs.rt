@@ -10,12 +10,15 @@ use strsim::osa_distance;
 /// The parts of an action after its verb.
 #[derive(Clone, Copy)]
 pub enum Parts {
+    /// No part.
     Nothing,
     /// A day or none, and the words of an item.
     Item,
+    /// Yes or no.
     YesOrNo,
     /// A day or none.
     Wished,
+    /// A result of an ILL-Answer.
     Result,
     /// A day, or a number of days after today.
     Due,
@@ -64,7 +67,7 @@ impl fmt::Display for Form {
     }
 }
 
-/// The form of each verb.
+/// The role and the parts of each verb.
 const FORMS: [(Verb, Role, Parts); 14] = [
     (Verb::Request, Role::Requester, Parts::Item),
     (Verb::Cancel, Role::Requester, Parts::Nothing),

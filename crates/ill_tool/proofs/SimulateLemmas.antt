@@ -12,12 +12,13 @@ use Rattle.ill_text.specs.declared.fault.ToolFault.{ToolFault}
 use Rattle.ill_line.specs.Asked.{GivesId}
 use Rattle.ill_tool.specs.Simulate.{sim_fault, tool_answer, Performs}
 
--- A simulation may end with `OutOfMemory` before it reads or writes anything.
+-- `Simulates` allows that a simulation ends with `OutOfMemory` before it reads or writes anything.
 not_begun : (txn : Qualifiers) (old before : Option (List ℕ)) → Simulates txn old old before before (Err simulation.OutOfMemory)
 unfolding trace_from
 not_begun txn old before = ([], [], Consumes-nil old, Appends-nil before, λ more e. ([], ((script more).events, refl), refl))
 
--- If no transaction id is made, the command returns that fault, and reads and writes nothing.
+-- If no transaction id is made of `id`, but `fault`, and `result` is that fault, `Performs` allows `result`. Nothing
+-- was read or written.
 pub fault_without_id : (id : Result Qualifiers TextFault) (old before : Option (List ℕ)) (fault : ToolFault)
     (result : Result ℕ ToolFault)
     → GivesId id (Err fault)
@@ -29,7 +30,8 @@ fault_without_id (Ok txn) old before fault (Err tool) given failed =
 fault_without_id (Err text) old before fault (Err tool) given failed =
     (ap (λ (f : ToolFault). Err f) (failed ∙ given), Consumes-nil old, Appends-nil before)
 
--- If the script is simulation_performed in the transaction `txn`, the command returns the answer of the simulation.
+-- If `id` gives the transaction `txn`, and its simulation ended with `simulated`, `Performs` allows this answer of the
+-- command.
 pub simulation_performed : (id : Result Qualifiers TextFault) (txn : Qualifiers) (old new before after : Option (List ℕ))
     (simulated : Result ℕ SimFault)
     → GivesId id (Ok txn)
@@ -38,7 +40,8 @@ simulation_performed (Ok wanted) txn old new before after simulated given done =
     (simulated, subst (λ (t : Qualifiers). Simulates t old new before after simulated) given done, refl)
 simulation_performed (Err text) txn old new before after simulated given done = absurd given
 
--- If the script is simulation_performed up to `fault`, the command returns that fault.
+-- If `id` gives the transaction `txn`, and its simulation ended with `fault`, `Performs` allows the fault `tool`. This
+-- is the fault of the command for `fault`.
 pub performed_until : (id : Result Qualifiers TextFault) (txn : Qualifiers) (old new before after : Option (List ℕ))
     (fault : SimFault) (tool : ToolFault)
     → GivesId id (Ok txn)

@@ -1,4 +1,4 @@
--- Proves what the requests of a command line and their texts have in common.
+-- Proves that an optional argument of a request is there if and only if its text is. The commands `outbox` need it.
 use Rattle.std.proofs.Common.{◌≡◌, Option, Some, None, refl}
 use Rattle.std.specs.Prelude.{is_some, option_map}
 

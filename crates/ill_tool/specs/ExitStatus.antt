@@ -46,12 +46,12 @@ exit_status (Ok true) = 0
 exit_status (Ok false) = 1
 exit_status (Err fault) = status_of fault
 
--- `result` is `done`, or the fault `Write` of the flush.
+-- The result of a command after its output was flushed: `result` is `done`, or the fault `Write` of the flush.
 abbrev pub IsFlushed : Result Bool ToolFault → Result Bool ToolFault → Type 0
 IsFlushed done result = (result ≡ done) ⊎ (result ≡ Err Write)
 
--- The text of `clap` for an error of this kind was written, and the exit status is `status`. Help and the version
--- go to the output. Words that are refused leave it unchanged.
+-- `clap` gave an error of this kind, and the exit status is `status`. The output went from `before` to `after`. Help
+-- and the version go there. Words that are refused, or a lack of memory, leave it unchanged.
 abbrev pub TellsKind : ErrorKind → Option (List ℕ) → Option (List ℕ) → ℕ → Type 0
 TellsKind kinds.DisplayHelp before after status = (status ≡ 0) ⊎ (status ≡ 3)
 TellsKind kinds.DisplayVersion before after status = (status ≡ 0) ⊎ (status ≡ 3)

@@ -15,7 +15,7 @@ use ill_values::OutOfMemory;
 use std::alloc::Global;
 use std::io::Write;
 
-/// All faults of commands, in the order of the help. A fault with a number has 0.
+/// All faults of commands that the help lists, in its order. A fault with a number has 0.
 const FAULTS: [ToolFault; 29] = [
     ToolFault::Desk(DeskFault::Exists),
     ToolFault::Desk(DeskFault::NoRecord),
@@ -57,7 +57,7 @@ pub fn tell_command_line<T: LockFiles, W: Write, E: Write>(
     all_well(write_help(machine.alloc, &mut machine.writer))
 }
 
-/// Writes the objects.
+/// Writes the objects of JSON that `help_text` returns.
 fn write_help<W: Write>(alloc: Global, writer: &mut W) -> Result<(), ToolFault>
     ensures { WritesHelp (W.contents writer.old) (W.contents writer.new) result }
 {
@@ -67,7 +67,7 @@ fn write_help<W: Write>(alloc: Global, writer: &mut W) -> Result<(), ToolFault>
     }
 }
 
-/// Returns the objects, each on a line.
+/// Returns the command line, and the ends of commands, as objects of JSON. Each is on a line.
 fn help_text(alloc: Global) -> Result<Vec<u8>, OutOfMemory> {
     let mut text = Vec::new(alloc);
     push_command_line(&mut text)?;

@@ -110,7 +110,7 @@ pub fn run_line<T: LockFiles, R: Read, W: Write, E: Write>(
     }
 }
 
-/// Writes the line of a fault of the words, and returns the exit status.
+/// Flushes the writer, writes the line of `fault`, which `words` have, and returns the exit status.
 fn refuse<T: LockFiles, W: Write, E: Write>(
     machine: &mut Machine<'_, T, W, E>,
     words: &[&str],
@@ -139,8 +139,8 @@ fn answer_call<T: LockFiles, R: Read, W: Write, E: Write>(
     end_with_status(machine, words, done, reader.passed())
 }
 
-/// Writes the line of a fault, if there is one. The reason comes after it, if the words ask for that. It returns the
-/// exit status.
+/// Writes the line of a fault, if `done` is one. The reason comes after it, if the words ask for that. It returns the
+/// exit status of `done`.
 fn end_with_status<T: LockFiles, W: Write, E: Write>(
     machine: &mut Machine<'_, T, W, E>,
     words: &[&str],
@@ -392,7 +392,8 @@ fn take_view<'a, 'b>(form: TakeForm, stamp: &'a Option<Stamp<'b>>) -> TakeView<'
     TakeView { form, stamp }
 }
 
-/// Returns the mails of `folder`, with the stamp of the lines of the diary.
+/// Returns the mails of `folder`, with the stamp of the lines of the diary. `is_sorted` is true if a shelf sorts them
+/// to its desks.
 fn mails_in<'a, 'b, 'c>(
     folder: &'a str,
     is_sorted: bool,

@@ -8,8 +8,8 @@ pub returns-in_err-txn : goal.returns-in_err-txn
 returns-in_err-txn g c = fault_without_id _ _ _ c.in_err-txn.field-0.0 c.from_residual.result c.in_err-txn.ensures
     c.from_residual.ensures.1
 
--- Proves the contract of `run_simulate` if the script is simulation_performed to its end. By `simulation_performed` the
--- count is the answer.
+-- Proves the contract of `run_simulate` if the script is performed to its end. By `simulation_performed` the count is
+-- the answer.
 pub returns-in-Ok : goal.returns-in-Ok
 returns-in-Ok g c = simulation_performed _ _ _ _ _ _ (Ok c.in-Ok.count) c.in_ok-txn.ensures c.in-Ok.ensures.simulates
 

@@ -6,12 +6,13 @@ use Rattle.ill_commands.specs.Streams.{streams_of}
 use Rattle.ill_tool.specs.Runs.{RunsCall}
 use Rattle.ill_tool.proofs.words.perform.Goals as goal
 
--- An empty buffer adds nothing to known bytes.
+-- `append_known` of `known` and no bytes, as of an empty buffer, is `known`.
 appends_nothing : (known : Option (List ℕ)) → append_known known [] ≡ known
 appends_nothing None = refl
 appends_nothing (Some bytes) = search rules
 
--- Proves the contract of `perform`. The buffer is empty at first, so the command begins at the output of `machine`.
+-- Proves the contract of `perform`. The buffer is empty at first, so by `before` the command begins at the output of
+-- `machine`. `after` is the output after the command: that of the inner writer, and then the buffer.
 pub returns : goal.returns
 returns g c =
     let done = c.run_call-done.result in

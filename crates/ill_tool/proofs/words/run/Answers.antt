@@ -1,4 +1,7 @@
--- Answers the contract of `run` (`src/words.rt`).
+-- Answers the contract of `run` (`src/words.rt`), command by command. Each answer takes the contract of the called
+-- function, and puts the request of the case (`is`) for its variant.
+-- The streams are `old` before the command and `new` after it, with `before` and `after` as outputs. `left` is the
+-- input before the command, and `rest` the input after it.
 use Rattle.std.proofs.Common.{ℕ, Bool, Bor, List, map, refl, sym, subst}
 use Rattle.ill_line.specs.declared.request.Request.{Request}
 use Rattle.ill_line.specs.Asked.{asked}

@@ -7,6 +7,7 @@ use std::io::ErrorKind;
 use std::process::ExitCode;
 use std::{env, fs, io};
 
+/// Performs the command line of this process, and exits with its status. Until then the standard streams are held.
 fn main(rt: HostRuntime) -> ExitCode {
     let held = hold_streams(&rt);
     let status = match perform(&rt) {
@@ -18,12 +19,12 @@ fn main(rt: HostRuntime) -> ExitCode {
 }
 
 /// Takes the descriptors of the standard streams that are closed, before any file can get one of them. A stream that was
-/// closed is then empty, and nothing can be written to it. Where there is no `/dev/null`, closed streams stay closed.
+/// closed is then empty, and nothing can be written to it. If there is no `/dev/null`, closed streams stay closed.
 fn hold_streams(rt: &HostRuntime) -> [Option<File>; 3] {
     [nothing(rt), nothing(rt), nothing(rt)]
 }
 
-/// Opens `/dev/null` for reading.
+/// Opens `/dev/null` for reading. The system gives the file the lowest descriptor that is free.
 fn nothing(rt: &HostRuntime) -> Option<File> {
     fs::open(rt, "/dev/null").ok()
 }

@@ -13,6 +13,7 @@ use std::fs;
 /// The file of the desk. If it exists already, the example fails and leaves it unchanged.
 const PATH: &str = "loans";
 
+/// Performs the example, and removes the file of the desk.
 fn main(rt: HostRuntime) -> Result<()> {
     lend(&rt)?;
     Ok(fs::remove_file(&rt, PATH)?)
@@ -25,7 +26,7 @@ fn lend(rt: &HostRuntime) -> Result<()> {
     take_answer(rt, &loan)
 }
 
-/// Begins the desk, which has no file before its first save, and asks.
+/// Begins the desk of a requester, and asks for the book of `loan`. The desk has no file before its first save.
 fn begin(rt: &HostRuntime, loan: &TxnId) -> Result<()> {
     let lock = FileLock::wait_for(rt, rt.alloc(), PATH)?;
     let mut locked = LockedDesk::create(rt.alloc(), lock, Role::Requester)?;
@@ -34,7 +35,7 @@ fn begin(rt: &HostRuntime, loan: &TxnId) -> Result<()> {
     asked
 }
 
-/// Opens the desk again, and takes the answer.
+/// Opens the desk again, under the lock of its file, and takes the answer of the other library.
 fn take_answer(rt: &HostRuntime, loan: &TxnId) -> Result<()> {
     let lock = FileLock::wait_for(rt, rt.alloc(), PATH)?;
     let mut locked = LockedDesk::open(rt.alloc(), lock)?;

@@ -1,4 +1,4 @@
--- The loans that are printed.
+-- The loans of a desk that are printed, and the line of each.
 use Rattle.std.specs.Prelude.{ℕ, List, [], ◌∷◌, ◌++◌, codes, filter}
 use Rattle.ill_values.specs.Day.{Date, date_text}
 use Rattle.ill_values.specs.TxnId.{Qualifiers}

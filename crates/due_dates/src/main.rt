@@ -12,6 +12,7 @@ use ill_values::{Day, OutOfMemory, TxnId};
 use std::alloc::Global;
 use std::env;
 
+/// Prints the due dates of the desk whose path is the argument.
 fn main(rt: HostRuntime) -> Result<()> {
     let path = env::args(&rt)?.nth(1).context("usage: due_dates DESK")?;
     print_due_dates(&rt, path.as_str())

@@ -8,14 +8,16 @@ use Rattle.ill_record.specs.Side.{state_of}
 use Rattle.due_dates.specs.Shipped.{shipped}
 use Rattle.due_dates.proofs.shipped.Goals as goal
 
+-- At first no side is found, and all SHIPPED sides are left.
 pub loop-side-init : goal.loop-side-init
 loop-side-init c = search rules
 
--- A SHIPPED side before others is the first of those that are SHIPPED.
+-- If `side` is SHIPPED, it and then the SHIPPED sides of `left` are the SHIPPED sides of `side ∷ left`.
 is_found : (side : Side) (left : List Side) → is_among (Shipped ∷ []) (state_of side) ≡ true
     → side ∷ shipped left ≡ shipped (side ∷ left)
 is_found side left is = search (rules, is)
 
+-- If the next side is SHIPPED, the turn appends it to the found ones. By `is_found` it was the first of those left.
 pub loop-side-preserved-in-Continue-1 : goal.loop-side-preserved-in-Continue-1
 loop-side-preserved-in-Continue-1 c =
     let side = c.in-Some.side in
@@ -33,8 +35,10 @@ loop-side-preserved-in-Continue-1 c =
           ∙ c.loop-side.invariant.all;
     }
 
+-- If the next side is not SHIPPED, the turn appends nothing, and `shipped` leaves the side out.
 pub loop-side-preserved : goal.loop-side-preserved
 loop-side-preserved c = search rules
 
+-- After the last turn no side is left, so the found ones are all SHIPPED sides.
 pub returns : goal.returns
 returns c = search rules

@@ -20,6 +20,7 @@ const SHELF: [&str; 2] = ["A History of Maps", "Birds of the Coast"];
 /// The number of days for which the library lends an item.
 const DAYS: u32 = 28;
 
+/// Answers the requests on standard input at the desk of the first argument. The second argument is the day.
 fn main(rt: HostRuntime) -> Result<()> {
     let mut words = env::args(&rt)?.skip(1);
     let path = words.next().context("usage: answer_request DESK TODAY")?;
@@ -37,7 +38,7 @@ fn answer_all(rt: &HostRuntime, path: &str, today: Day) -> Result<()> {
     answered
 }
 
-/// Reads one message after another, and answers each request.
+/// Reads one message after another from standard input, up to its end, and answers each request at `desk`.
 fn answer_each<S: Store>(rt: &HostRuntime, desk: &mut Desk<S>, today: Day) -> Result<()> {
     for _ in 0..u64::MAX {
         let Some(apdu) = read_apdu(rt.alloc(), &mut rt.stdin())? else {

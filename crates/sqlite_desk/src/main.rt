@@ -18,6 +18,7 @@ const PATH: &str = "loans.db";
 /// The log that SQLite keeps beside that file.
 const LOG_PATH: &str = "loans.db-wal";
 
+/// Performs the example, and removes the files of the desk.
 fn main(rt: HostRuntime) -> Result<()> {
     lend(&rt)?;
     fs::remove_file(&rt, PATH)?;

@@ -20,7 +20,9 @@ const SAVE: &str = "INSERT OR REPLACE INTO record (id, bytes) VALUES (1, ?1)";
 /// A store of one record, in a table of a SQLite database.
 #[derive(Drop)]
 pub struct SqliteStore<S: Alter> {
+    /// The connection to the database.
     conn: Connection<S>,
+    /// The number of calls that have failed.
     failures: u64,
 }
 
@@ -58,8 +60,9 @@ impl<S: Alter + Drop> SqliteStore<S> {
     }
 }
 
-/// Its state is not honest, and its landed bytes are not stated. What `sqlite` says of a value holds only as long as the
-/// disk is clean, which may end at any call. An honest store is honest for good. Each failed call is counted.
+/// The state of this store is not honest, and its landed bytes are not stated. The contracts of `sqlite` hold only as
+/// long as the disk is clean, which may end at any call. An honest store is honest for good. Each failed call is
+/// counted.
 impl<S: Alter + Drop> Store for SqliteStore<S> {
     ghost state = { λ s. record {
       path = None;
@@ -69,6 +72,7 @@ impl<S: Alter + Drop> Store for SqliteStore<S> {
       plan = None;
     } };
 
+    // The store promises nothing of the record that a loss of power leaves.
     ghost leaves = { λ _ _. Unit {0} };
 
     fn load(&mut self, _alloc: Global) -> Result<Option<Vec<u8>>, StoreFault>

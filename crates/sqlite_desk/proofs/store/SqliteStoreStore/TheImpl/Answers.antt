@@ -4,7 +4,7 @@ use Rattle.std.proofs.Common.{rules, refl}
 use Rattle.sqlite_desk.proofs.CountingLemmas.{counts, not_too_large}
 use Rattle.sqlite_desk.proofs.store.SqliteStoreStore.TheImpl.Goals as goal
 
--- A load satisfies the contract of each store.
+-- Proves that `load` satisfies the contract of each store. By `counts` its failure is counted.
 pub load-tells : goal.load-tells
 load-tells g c = record {
   loads = record {
@@ -20,7 +20,8 @@ load-tells g c = record {
   lasts = λ honest. search rules;
 }
 
--- A save satisfies the contract of each store.
+-- Proves that `save` satisfies the contract of each store. By `counts` its failure is counted, and by `not_too_large`
+-- it does not answer `TooLarge`.
 pub save-tells : goal.save-tells
 save-tells g c = record {
   saves = record {

@@ -15,7 +15,7 @@ pub trait AnswersCases {
 pub struct Cases<A> {
     /// The allocator of all pages.
     alloc: Global,
-    /// Answers each case.
+    /// The object that answers each case.
     answers: A,
 }
 

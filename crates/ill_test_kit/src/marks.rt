@@ -1,5 +1,7 @@
 //! Marks surround a call of a library. By them a shim knows which allocations to refuse.
 //!
+//! A growth is an allocation of new memory, or of more, between two marks.
+//!
 //! A mark is an allocation of a size that the program needs nowhere else; `tools/refuse-nth.c` knows these sizes. In a
 //! call that may answer out of memory the shim refuses one growth, at first the first. If the call answers out of
 //! memory, the shim refuses the next growth in the next call. So a caller that repeats the call until no growth is
@@ -9,8 +11,8 @@
 
 use std::alloc::Global;
 
-/// A call is tried at most this often: one more than it has growths. Calls that take 512 messages have the most
-/// growths.
+/// A call is tried at most this often. It needs one try more than it has growths. Calls that take 512 messages have the
+/// most growths.
 pub const TRIES: u16 = 2_000;
 
 /// An allocation of this size begins a call that may answer out of memory.

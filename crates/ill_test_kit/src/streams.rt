@@ -10,9 +10,9 @@ use std::io::{ErrorKind, Read, Write};
 /// byte.
 #[derive(Clone, Copy)]
 pub struct Failure {
-    /// If `None`, the stream moves no byte in place of an error.
+    /// The kind of the error. If it is `None`, the stream moves no byte and returns no error.
     kind: Option<ErrorKind>,
-    /// The stream fails this often.
+    /// The number of failures that are left.
     times: u32,
 }
 
@@ -47,7 +47,7 @@ struct Bytes {
     bytes: Vec<u8>,
     /// The count of bytes that were read.
     read: usize,
-    /// No read crosses this place.
+    /// The offset that no read crosses.
     bar: usize,
 }
 
@@ -144,7 +144,7 @@ impl TestReader {
         self.was_called_again
     }
 
-    /// Makes the reader forget that it has failed.
+    /// Makes the reader forget that it has failed, so that a further call is no call after a failure.
     pub fn forgive(&mut self) {
         self.has_failed = false;
     }

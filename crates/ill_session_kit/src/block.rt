@@ -68,7 +68,7 @@ impl Block {
         cases
     }
 
-    /// Returns the values of the case `case`, with spaces between them.
+    /// Returns the values of the names in the case `case`, with a space before each.
     pub fn values(&self, case: usize) -> Option<String> {
         let mut marks = String::new(self.alloc);
         for variable in &self.variables {
@@ -78,7 +78,8 @@ impl Block {
         self.line(marks.as_str(), case)
     }
 
-    /// Returns a line with the values of the case `case`.
+    /// Returns `line`, in which the values of the case `case` replace the names. The digits of `case` in mixed radix
+    /// are the places of the values.
     pub fn line(&self, line: &str, case: usize) -> Option<String> {
         let mut text = String::from_str(self.alloc, line).ok()?;
         let mut rest = case;

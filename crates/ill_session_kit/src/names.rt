@@ -38,7 +38,7 @@ struct Name {
 }
 
 impl Names {
-    /// Returns no names.
+    /// Returns an empty list of names.
     pub(crate) fn new(alloc: Global) -> Names {
         Names {
             alloc,
@@ -114,7 +114,7 @@ impl Names {
         None
     }
 
-    /// Returns a name and the count of its repetitions that give `bytes`.
+    /// Returns the first name whose bytes, repeated, are `bytes`, and the count of repetitions.
     pub(crate) fn name_of(&self, bytes: &[u8]) -> Option<(u32, &str)> {
         for name in &self.names {
             if let Some(times) = times_over(bytes, &name.bytes) {

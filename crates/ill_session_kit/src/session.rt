@@ -37,7 +37,7 @@ pub fn answer_cases<B: Performs + Drop>(rt: &HostRuntime, bench: B) -> io::Resul
     printed
 }
 
-/// The state that the lines so far have set up.
+/// A session: the bench, the names, and the block that the lines so far have set up.
 #[derive(Drop)]
 struct Session<'a, B: Performs> {
     /// The allocator of all values.

@@ -102,7 +102,7 @@ pub fn writer_of(
     Some((writer, telling))
 }
 
-/// Obeys the first words, and returns the words after them.
+/// Obeys the first words of a writer, `slow`, `any` or `first COUNT`, if they are there. Returns the words after them.
 fn set_prefix<'a>(
     writer: &mut TestWriter,
     telling: &mut Telling,
@@ -125,7 +125,7 @@ fn set_prefix<'a>(
     }
 }
 
-/// Limits the room of the writer, and obeys the words after ROOM.
+/// Limits the room of the writer to `room` bytes, and obeys the words after it: `[of BYTES] then FAILURE`.
 fn set_room(
     writer: &mut TestWriter,
     telling: &mut Telling,

@@ -51,7 +51,7 @@ fn tell_again(page: &mut Page, mark: &str, is_again: bool) {
     }
 }
 
-/// Prints the presence of bytes.
+/// Prints two dots if there are any bytes.
 fn tell_any(page: &mut Page, mark: &str, bytes: &[u8]) {
     if !bytes.is_empty() {
         tell_line(page, mark, "..");

@@ -12,7 +12,7 @@ pub struct Word {
 }
 
 impl Word {
-    /// Returns true if it is the bare word `word`.
+    /// Returns true if this word is `word`, without quotes.
     pub fn is(&self, word: &str) -> bool {
         !self.is_quoted && self.text.as_str() == word
     }
@@ -119,7 +119,7 @@ impl Splitter {
         }
     }
 
-    /// Continues at another place.
+    /// Sets the place of the next letter to `place`.
     fn go(&mut self, place: Place) -> Option<()> {
         self.place = place;
         Some(())
@@ -158,7 +158,7 @@ impl Splitter {
         self.letters.push(char::from_u32(code)?).ok()
     }
 
-    /// Ends a word.
+    /// Ends the word of the letters so far, and adds it to the words.
     fn end(&mut self, is_quoted: bool) -> Option<()> {
         self.place = Place::Between;
         let text = std::mem::replace(&mut self.letters, String::new(self.alloc));

@@ -149,7 +149,7 @@ impl<'a, R: LockFiles> Folder<'a, R> {
         }
     }
 
-    /// Returns a text in which `SHOWN` replaces the path of the folder.
+    /// Returns the text `bytes`, in which `SHOWN` replaces the path of the folder.
     fn hidden(&self, bytes: &[u8]) -> Option<Vec<u8>> {
         let text = str::from_utf8(bytes).ok()?;
         let mut hidden = Vec::new(self.alloc);

@@ -36,7 +36,7 @@ pub enum Rival {
 }
 
 impl Rival {
-    /// Returns the number of first tries at which it holds the lock.
+    /// Returns the number of first tries at which the rival holds the lock.
     fn tries_held(self) -> u32 {
         match self {
             Rival::Holds(tries) => tries,
@@ -85,7 +85,8 @@ impl<'a, R: LockFiles> Watched<'a, R> {
         self.seen.get()
     }
 
-    /// Counts an opening or a replacement of the record, if `path` is its path.
+    /// If `path` is the path of the record, adds `openings` and `replacements` to their counts. If the lock is free
+    /// then, it counts that too.
     fn see(&self, path: &str, openings: u32, replacements: u32) {
         if path != self.record {
             return;
@@ -131,6 +132,7 @@ impl<'a, R: LockFiles> Watched<'a, R> {
     }
 }
 
+/// The rival holds the lock at the first tries, or acts before the first one. A pause is counted, and takes no time.
 impl<R: LockFiles> LockFiles for Watched<'_, R> {
     fn try_lock(&self, file: &R::File) -> io::Result<bool> {
         let pauses = self.seen.get().pauses;
@@ -152,6 +154,8 @@ impl<R: LockFiles> LockFiles for Watched<'_, R> {
     }
 }
 
+/// Passes each call on to the files of the system. Openings and renames of the record are observed. The rival may act
+/// before a rename.
 impl<R: LockFiles> Files for Watched<'_, R> {
     type File = R::File;
 

@@ -9,7 +9,7 @@ use std::fmt::Display;
 pub struct Line {
     /// The bytes of the line.
     page: Page,
-    /// `#` is written for this octet.
+    /// The octet for which `#` is written, if there is one.
     octet: Option<u8>,
 }
 

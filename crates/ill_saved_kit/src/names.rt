@@ -26,7 +26,7 @@ struct Name {
 }
 
 impl Names {
-    /// Returns no names.
+    /// Returns an empty list of names.
     pub fn new(alloc: Global) -> Names {
         Names {
             alloc,
@@ -62,7 +62,7 @@ impl Names {
         self.push_word(values.last_mut()?, word, 0)
     }
 
-    /// Returns the count of cases of these words.
+    /// Returns the count of cases of these words: the most values that one of their names has.
     pub fn cases(&self, words: &str) -> usize {
         let mut cases = 1;
         for word in words.split_whitespace() {

@@ -3,7 +3,7 @@
 use crate::line::Line;
 use std::alloc::Global;
 
-/// The last of the texts, which those from the number `first` up to `next` - 1 equal.
+/// A run of equal texts, which have the numbers from `first` to `next` - 1.
 #[derive(Drop)]
 pub struct Run {
     /// The mark is written before each run of equal texts.
@@ -27,7 +27,8 @@ impl Run {
         }
     }
 
-    /// Adds the next text. If it differs, writes the run before it.
+    /// Adds the next text to the run. If it differs from the run's, writes the run, and begins another one with the
+    /// text.
     pub fn push(&mut self, line: &mut Line, text: Line) {
         if text.page().so_far() != self.text.page().so_far() {
             self.write(line);

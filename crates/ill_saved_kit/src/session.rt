@@ -9,7 +9,7 @@ use std::alloc::Global;
 /// The answer to a line that is no case.
 const NOT_UNDERSTOOD: &str = "NOT UNDERSTOOD";
 
-/// This begins the answer to a case of a family.
+/// The text that begins the answer to a case of a family.
 const BELOW_LINE: &str = "\n  ";
 
 /// A test program performs the cases of its transcript by these functions.
@@ -55,7 +55,7 @@ pub struct Session<C: Cases> {
     alloc: Global,
     /// The names that `let` lines gave.
     names: Names,
-    /// The cases are performed by this.
+    /// The object that performs the cases.
     cases: C,
 }
 

@@ -15,7 +15,7 @@ pub struct StoreBench {
     alloc: Global,
     /// The store, if there is one.
     pub memory: Option<MemoryStore>,
-    /// The next call of the store has this plan.
+    /// The plan of the next call of the store.
     pub next: NextCall,
 }
 
@@ -82,7 +82,7 @@ fn new(alloc: Global) -> MemoryStore {
     store
 }
 
-/// Loads. A load whose growth is refused must change nothing.
+/// Loads `store`, and repeats that while a growth is refused. A refused load must change nothing.
 fn load(alloc: Global, store: &mut MemoryStore) -> Result<Option<Vec<u8>>, StoreFault> {
     let before = seen(alloc, store);
     for _ in 0..TRIES {
@@ -96,7 +96,8 @@ fn load(alloc: Global, store: &mut MemoryStore) -> Result<Option<Vec<u8>>, Store
     Err(StoreFault::OutOfMemory)
 }
 
-/// Saves under this plan. A save whose growth is refused may use up the plan, but must change nothing else.
+/// Saves `bytes` in `store`, whose next call has the plan `plan`, and repeats that while a growth is refused. A refused
+/// save may use up the plan, but must change nothing else.
 fn save(
     alloc: Global,
     store: &mut MemoryStore,

@@ -32,7 +32,7 @@ fn push_request(alloc: Global, output: &mut Page, line: &str) -> Option<()> {
     }
 }
 
-/// Returns the first word and the others.
+/// Returns the first word of `line`, and the words after it.
 fn parts(line: &str) -> (&str, &str) {
     line.split_once(" ").unwrap_or((line, ""))
 }
@@ -79,9 +79,9 @@ fn answer_of(alloc: Global, case: &Case<'_>) -> Option<Page> {
 /// A call of `read_wanted`.
 #[derive(Drop)]
 struct Call {
-    /// What it answered.
+    /// The answer of the call.
     answer: Result<Wanted, VisitFault>,
-    /// The number of bytes that were left.
+    /// The number of bytes of the body that the call did not read.
     left: usize,
 }
 
@@ -96,7 +96,7 @@ impl Call {
         }
     }
 
-    /// Returns true if it answered out of memory.
+    /// Returns true if the call answered out of memory.
     fn says_memory(&self) -> bool {
         matches!(&self.answer, Err(VisitFault::OutOfMemory))
     }
@@ -126,7 +126,7 @@ impl Call {
     }
 }
 
-/// Adds what was asked for.
+/// Adds the page or the action that was asked for: a word, and its texts in brackets.
 fn push_wanted(output: &mut Page, wanted: &Wanted) {
     match wanted {
         Wanted::Desks { find } => push_desks(output, find.as_ref()),
@@ -147,7 +147,7 @@ fn push_wanted(output: &mut Page, wanted: &Wanted) {
     }
 }
 
-/// Adds a word, and the words to find, if there are any.
+/// Adds the word `desks`, and the words to find, if there are any.
 fn push_desks(output: &mut Page, find: Option<&String>) {
     output.text("desks");
     if let Some(words) = find {
@@ -155,7 +155,7 @@ fn push_desks(output: &mut Page, find: Option<&String>) {
     }
 }
 
-/// Adds a word, and the days of figures.
+/// Adds the word `figures`, and the days of figures.
 fn push_figures(output: &mut Page, from: &Day, to: &Day) {
     output.text("figures ");
     output.show(from);

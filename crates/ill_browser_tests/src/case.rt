@@ -12,11 +12,11 @@ const RULES: Rules<'static> = Rules {
 /// A request with its rules. Each text that a case does not say is that of a form of this desk.
 #[derive(Drop)]
 pub struct Case<'a> {
-    /// What the web server says.
+    /// The texts that the web server gives of the request.
     pub visit: Visit<'a>,
-    /// What the operator says.
+    /// The rules of the operator.
     pub rules: Rules<'a>,
-    /// The body.
+    /// The body of the request.
     pub body: &'a str,
 }
 
@@ -73,7 +73,7 @@ impl<'a> Case<'a> {
         count
     }
 
-    /// Puts in what `word` says. Returns `None` if it says nothing.
+    /// Replaces the text that `word` names, as `NAME:TEXT`. Returns `None` if it names none.
     pub fn set(&mut self, word: &'a str) -> Option<()> {
         let (name, text) = word.split_once(":")?;
         match name {
@@ -86,7 +86,7 @@ impl<'a> Case<'a> {
         Some(())
     }
 
-    /// Puts in the text of a header, or of the user.
+    /// Replaces the text of a header, or of the user. Returns `None` if `name` names none.
     fn set_header(&mut self, name: &str, text: &'a str) -> Option<()> {
         match name {
             "site" => self.visit.site = text,

@@ -24,6 +24,7 @@ use answers::Requests;
 use ill_test_kit::{Cases, answer_lines};
 use std::io;
 
+/// Performs the cases of the input, and prints their answers.
 fn main(rt: HostRuntime) -> io::Result<()> {
     answer_lines(&rt, &mut Cases::new(rt.alloc(), Requests))
 }

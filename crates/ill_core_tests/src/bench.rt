@@ -10,17 +10,17 @@ use ill_test_kit::{Lines, Page};
 use std::alloc::Global;
 use std::mem;
 
-/// The state that the lines so far have set up.
+/// The bench: the ruler and the side that the lines so far have set up.
 pub struct Bench {
     /// The allocator of all values.
     alloc: Global,
     /// The role that the last ruler names.
     role: Role,
-    /// The last ruler names these states.
+    /// The states that the last ruler names.
     columns: Vec<State>,
-    /// Events happen to this side. It is absent if the record is not a record of its role.
+    /// The side to which events happen. It is absent if `record` is no record of its role.
     side: Option<Side>,
-    /// The side must have this record.
+    /// The record that the side must have.
     record: Record,
 }
 

@@ -18,6 +18,7 @@ use bench::Bench;
 use ill_test_kit::answer_lines;
 use std::io;
 
+/// Performs the rows of the input, and prints their answers.
 fn main(rt: HostRuntime) -> io::Result<()> {
     answer_lines(&rt, &mut Bench::new(rt.alloc()))
 }

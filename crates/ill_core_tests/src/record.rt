@@ -272,7 +272,7 @@ impl Record {
         }
     }
 
-    /// Notes `word`, so that no message of its letter is required any more.
+    /// Adds `word` to the words, so that no message of its letter is required any more.
     fn leave_out(&mut self, word: &str) {
         let _ = self.words.push(' ');
         let _ = self.words.push_str(word);

@@ -8,7 +8,7 @@ use ill_test_kit::marks::{self, quietly};
 use ill_values::{Apdu, Number, TxnId};
 use std::alloc::Global;
 
-/// This letter is the answer out of memory.
+/// The letter of the answer out of memory.
 pub const NO_MEMORY: &str = "?";
 
 /// A requester or a responder.
@@ -208,8 +208,8 @@ fn is_own(txn: &TxnId) -> bool {
     txn.group() == b"G1".as_slice() && txn.transaction() == b"T1".as_slice()
 }
 
-/// Returns the letter of the answer to an action in `state`. The answer must be `NotNow` exactly if the verb was not
-/// listed before; else the letter is V.
+/// Returns the letter of the answer to an action in `state`. The answer must be `NotNow` if and only if the verb was
+/// not listed before. If that is wrong, the letter is V.
 fn done(answer: Result<(), Refusal>, state: State, is_listed: bool) -> &'static str {
     let letter = match answer {
         Ok(()) => "T",

@@ -202,6 +202,7 @@ struct Collector;
 impl Handler<Vec<Apdu>> for Collector {
     type Fault = OutOfMemory;
 
+    // The handler promises nothing of what it does with an APDU.
     ghost handles = { λ old apdu result new. Unit {0} };
 
     fn handle(
@@ -227,6 +228,7 @@ struct Viewer<'a> {
 impl Handler<()> for Viewer<'_> {
     type Fault = ();
 
+    // The handler promises nothing of what it does with an APDU.
     ghost handles = { λ old apdu result new. Unit {0} };
 
     fn handle(&mut self, _alloc: Global, _context: &mut (), apdu: &ApduView<'_>) -> Result<(), ()> {

@@ -18,9 +18,9 @@ pub enum ApduEngine {
     Show,
     /// The engine of `check`.
     Check,
-    /// Reads APDUs.
+    /// The function `read_apdu`, called several times.
     Read,
-    /// Writes an APDU.
+    /// The function `write_apdu`.
     Write,
 }
 

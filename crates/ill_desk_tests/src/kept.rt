@@ -24,7 +24,7 @@ use ill_text::form::Form;
 use ill_values::{Day, Number, TxnId};
 use std::alloc::Global;
 
-/// After the mails that a call takes, this many others wait.
+/// The number of mails that wait after those that a call takes.
 const WAITING: usize = 2;
 
 /// Sides that are kept in a store. A function returns `None` if its words are no call, or its engine is only for desks.
@@ -96,7 +96,7 @@ pub trait Kept {
     fn tell(&self, page: &mut Page);
 }
 
-/// The words of an action are `[--today DAY] WORDS`. The words of a message are its number.
+/// One side is kept. The words of an action are `[--today DAY] WORDS`. The words of a message are its number.
 impl<S: Store> Kept for Desk1<S> {
     fn act(&mut self, alloc: Global, call: &mut Call<'_>) -> Option<Result<bool, ToolFault>> {
         let today = day(call.words)?;
@@ -192,7 +192,7 @@ impl<S: Store> Kept for Desk1<S> {
     }
 }
 
-/// GROUP and TRANSACTION precede the words.
+/// A desk is kept. GROUP and TRANSACTION precede the words of an action, a message or a loan.
 impl<S: Store> Kept for Desk<S> {
     fn act(&mut self, alloc: Global, call: &mut Call<'_>) -> Option<Result<bool, ToolFault>> {
         let (txn, words) = txn_at_beginning(alloc, call.words)?;
@@ -382,7 +382,7 @@ fn has(words: &[Word], option: &str) -> bool {
     words.iter().any(|word| word.is(option))
 }
 
-/// Returns the number of a message.
+/// Returns the number of a message, which the first word encodes.
 fn number(words: &[Word]) -> Option<Number> {
     Number::new(octet_in(words.first()?.text.as_str())?)
 }

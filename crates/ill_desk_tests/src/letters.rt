@@ -69,6 +69,7 @@ impl Letters {
 }
 
 impl Outgoing for Letters {
+    // The mails are not known, so their model may be any type.
     ghost Mails = { ℕ };
 
     ghost mails = { λ _. None };

@@ -24,7 +24,7 @@ impl LimitedStore {
     }
 }
 
-/// Failures are counted by the store in memory.
+/// The state of this store is not honest, and its landed bytes are not stated. The store in memory counts failures.
 impl Store for LimitedStore {
     ghost state = { λ s. record {
       path = None;
@@ -34,6 +34,7 @@ impl Store for LimitedStore {
       plan = None;
     } };
 
+    // The store promises nothing of the record that a loss of power leaves.
     ghost leaves = { λ _ _. Unit {0} };
 
     fn load(&mut self, alloc: Global) -> Result<Option<Vec<u8>>, StoreFault> {

@@ -36,6 +36,7 @@ use bench::Bench;
 use ill_session_kit::answer_cases;
 use std::io;
 
+/// Performs the cases of the input, and prints their answers.
 fn main(rt: HostRuntime) -> io::Result<()> {
     answer_cases(&rt, Bench::new(rt.alloc()))
 }

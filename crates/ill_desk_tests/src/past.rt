@@ -137,7 +137,7 @@ impl Past {
         Some(())
     }
 
-    /// Adds the result of this extent of the call.
+    /// Adds the result of the call as far as `extent` says. It is made on `ample`, after the lines before it.
     fn push_extent<'a>(
         &mut self,
         on: MemoryCall,
@@ -152,7 +152,7 @@ impl Past {
         prefixes.push(seen).ok().and(looked)
     }
 
-    /// Adds a line that was performed.
+    /// Adds a line that was performed to the lines. A line that begins anew replaces them, and a long one drops them.
     fn remember(&mut self, kind: LineCall, words: &[Word], is_short: bool) -> Option<()> {
         if begins_anew(kind, words) {
             drop(self.lines.replace(Vec::new(self.alloc)));
@@ -184,7 +184,7 @@ fn tell_faults(
     }
 }
 
-/// Performs the lines again, on an empty memory.
+/// Empties `memory`, and performs `lines` again on it. Their answers are dropped.
 fn again(alloc: Global, names: &Names, lines: &[Line], memory: &mut Option<Memory>) -> Option<()> {
     drop(memory.take());
     let mut page = Page::new(alloc);

@@ -23,7 +23,7 @@ pub struct Bench {
     alloc: Global,
     /// The store, if a desk has begun.
     store: Option<MemoryStore>,
-    /// The plan.
+    /// The plan of the store's next call in the next visit.
     plan: NextCall,
 }
 

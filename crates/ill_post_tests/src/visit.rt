@@ -14,7 +14,7 @@ use std::alloc::Global;
 /// The line that the answer to a form enters in its diary.
 const LINE: &[u8] = b"a line\n";
 
-/// What stands at the desk and in its store.
+/// The view of a desk and of its store.
 #[derive(Drop)]
 struct View {
     /// The record of the sides in memory.
@@ -32,13 +32,13 @@ struct View {
 pub struct Visit<'a> {
     /// The words of the form, and its diary.
     pub call: Call<'a>,
-    /// What the form was answered.
+    /// The answer to the form.
     answer: Result<Posted, DeskFault>,
     /// True if the diary says that it has failed.
     has_failed: bool,
-    /// What stood before.
+    /// The view of the desk before the visit.
     before: View,
-    /// What stands now.
+    /// The view of the desk after it.
     after: View,
 }
 
@@ -83,7 +83,7 @@ impl<'a> Visit<'a> {
         })
     }
 
-    /// Prints the answer, the diary, and what stands now.
+    /// Prints the answer, the diary, and the view after the visit.
     pub fn tell(&self, page: &mut Page) {
         self.call.tell_answer(page, &self.answer);
         if self.has_failed {
@@ -92,7 +92,8 @@ impl<'a> Visit<'a> {
         self.after.tell(page, &self.call, &self.before);
     }
 
-    /// Returns the words of what a refused try of this visit spoiled, if it did. `whole` is the visit itself.
+    /// Returns the words for the part that this refused try spoiled, if it did. `whole` is the visit that was not
+    /// refused.
     pub fn fault(&self, whole: &Visit<'_>) -> Option<&'static str> {
         let entered = &self.call.output.taken;
         let is_before = self.after.live == self.before.live && entered.is_empty();
@@ -164,7 +165,7 @@ impl View {
         })
     }
 
-    /// Prints what has landed since `before`, what stands in memory alone, and the numbers of messages.
+    /// Prints the record that has landed since `before`, the live one if it differs, and the numbers of messages.
     fn tell(&self, page: &mut Page, call: &Call<'_>, before: &View) {
         if self.landed == before.landed {
             tell_line(page, "landed", "nothing");

@@ -36,7 +36,7 @@ pub enum DeskCall<'a> {
 pub struct WrittenCall<'a> {
     /// The call that is made.
     pub call: DeskCall<'a>,
-    /// The answer shows the side of this transaction, if there is one.
+    /// The transaction of the side that the answer shows, if there is one.
     pub txn: Option<&'a TxnId>,
     /// The word that is the answer if the call has no other.
     pub word: &'a str,
@@ -324,7 +324,7 @@ fn messages<H: DeskKind, S: Store>(
     Some(())
 }
 
-/// Returns all released messages, one after another.
+/// Returns the bytes of all released messages of the transaction `txn`, one after another.
 fn released<H: DeskKind, S: Store>(
     alloc: Global,
     desk: &AnyDesk<H, S>,

@@ -51,7 +51,7 @@ pub struct FailingFile {
 struct CallsLeft {
     /// The count of calls before the one that fails.
     calls: Rc<Cell<u32>>,
-    /// The failing call returns an error of this kind.
+    /// The kind of the error that the failing call returns.
     fault: ErrorKind,
 }
 
@@ -130,6 +130,7 @@ impl CallsLeft {
     }
 }
 
+/// Passes each call on to the files of the system. The calls with `pass` are counted, and one of them fails.
 impl<'a> Files for Failing<'a> {
     type File = FailingFile;
 

@@ -14,7 +14,8 @@ use ill_test_kit::{count_in, marks, number_in};
 use ill_values::Item;
 use std::alloc::Global;
 
-/// Performs a call with words on the sides of the bench, and writes its answer. Returns `None` for `put`.
+/// Performs a call with words on `sides`, the sides of the bench, and writes its answer. Returns `None` for `put`,
+/// which has bytes.
 pub fn call(
     alloc: Global,
     line: &mut Line,

@@ -26,6 +26,7 @@ use ill_test_kit::{answer_lines, make_folder};
 use std::alloc::Global;
 use std::{fs, io};
 
+/// Performs the cases of the input with files in a new folder, and removes the folder.
 fn main(rt: HostRuntime) -> io::Result<()> {
     let alloc = rt.alloc();
     let path = make_folder(&rt, alloc, "ill_saved_tests")?;

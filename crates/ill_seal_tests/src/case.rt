@@ -7,15 +7,15 @@ use std::alloc::Global;
 /// A key, a sender, and the bytes of a text or a letter.
 #[derive(Drop)]
 pub struct Case {
-    /// The key.
+    /// The key of the letter.
     pub key: Key,
-    /// The sender.
+    /// The role of the library that sends the letter.
     pub sender: Sender,
-    /// The bytes.
+    /// The bytes of the text, or of the sealed letter.
     pub bytes: Vec<u8>,
 }
 
-/// Returns the case that the words are.
+/// Returns the case that the words `KEY SENDER BYTES` encode.
 pub fn case_in(alloc: Global, words: &str) -> Option<Case> {
     let (key, words) = words.split_once(" ")?;
     let (sender, bytes) = words.split_once(" ")?;
@@ -40,12 +40,12 @@ fn sender_in(word: &str) -> Option<Sender> {
     }
 }
 
-/// Returns the bytes with these hexadecimal digits.
+/// Returns the bytes with these hexadecimal digits, or no bytes for `-`.
 pub fn bytes_in(alloc: Global, digits: &str) -> Option<Vec<u8>> {
     hex::decode(alloc, if digits == "-" { "" } else { digits }).ok()
 }
 
-/// Returns the word of a fault.
+/// Returns the word of a fault of a letter.
 pub fn fault_word(fault: SealFault) -> &'static str {
     match fault {
         SealFault::Short => "Short",

@@ -36,7 +36,7 @@ impl Counts {
         }
     }
 
-    /// Adds the counts.
+    /// Adds the counts to `output`, each after the word of its answer.
     fn push(&self, output: &mut Page) {
         output.text("open ");
         output.show(&self.open);
@@ -66,7 +66,7 @@ fn place_of(fault: SealFault) -> usize
     }
 }
 
-/// Adds the counts of the letters with one bit turned.
+/// Adds the counts of the answers to the letter with each of its bits turned, one at a time.
 pub fn push_each_bit(alloc: Global, output: &mut Page, words: &str) -> Option<()> {
     let case = case_in(alloc, words)?;
     let mut letter = case.bytes;
@@ -82,14 +82,14 @@ pub fn push_each_bit(alloc: Global, output: &mut Page, words: &str) -> Option<()
     Some(())
 }
 
-/// Turns one bit of the byte at `place`.
+/// Turns the bit `bit` of the byte at `place`: 0 becomes 1, and 1 becomes 0.
 fn turn(letter: &mut Vec<u8>, place: usize, bit: u32) {
     if let Some(byte) = letter.get_mut(place) {
         *byte ^= 1u8.wrapping_shl(bit);
     }
 }
 
-/// Adds the counts of the proper prefixes of a letter.
+/// Adds the counts of the answers to the proper prefixes of a letter.
 pub fn push_each_front(alloc: Global, output: &mut Page, words: &str) -> Option<()> {
     let case = case_in(alloc, words)?;
     let mut counts = Counts::new();

@@ -26,6 +26,7 @@ use answers::Letters;
 use ill_test_kit::{Cases, answer_lines};
 use std::io;
 
+/// Performs the cases of the input, and prints their answers.
 fn main(rt: HostRuntime) -> io::Result<()> {
     answer_lines(&rt, &mut Cases::new(rt.alloc(), Letters))
 }

@@ -41,7 +41,7 @@ enum Kind {
     Ill,
     /// A command line, on files that observe its lock.
     Watched,
-    /// The engine of `simulate`, on streams.
+    /// The engine of `simulate` or of `simulate-desks`, on streams.
     Engine(Simulation),
     /// A call on a file of the folder.
     File(FileCall),
@@ -68,7 +68,7 @@ impl<'a, R: LockFiles> Bench<'a, R> {
         Bench { alloc, folder }
     }
 
-    /// Performs a command line.
+    /// Performs a command line of `ill`, on files that observe its lock if `kind` says so.
     fn command(&mut self, page: &mut Page, kind: Kind, phrase: Phrase<'_>) -> Option<()> {
         let mut call = Call::of(self.alloc, phrase)?;
         match kind {

@@ -1,4 +1,4 @@
-//! Calls the engines of the command `simulate` on streams.
+//! Calls the engines of the commands `simulate` and `simulate-desks` on streams.
 
 use ill_session_kit::Call;
 use ill_session_kit::engine::Engine;
@@ -11,7 +11,7 @@ use std::alloc::Global;
 pub enum Simulation {
     /// The engine of `simulate`, for two sides.
     Sides,
-    /// The engine of `simulate`, for two desks.
+    /// The engine of `simulate-desks`, for two desks.
     Desks,
 }
 
@@ -30,7 +30,7 @@ impl Engine for Simulation {
     }
 }
 
-/// Performs `simulate GROUP TRANSACTION`.
+/// Performs `simulate GROUP TRANSACTION` on the streams of `call`, and prints its answer.
 fn simulate(alloc: Global, page: &mut Page, call: &mut Call<'_>) -> Option<()> {
     let [group, transaction] = call.words else {
         return None;

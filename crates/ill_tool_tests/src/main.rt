@@ -24,6 +24,7 @@ use ill_desk_kit::Folder;
 use ill_session_kit::answer_cases;
 use std::io;
 
+/// Performs the cases of the input with files in a new folder, and prints their answers.
 fn main(rt: HostRuntime) -> io::Result<()> {
     let alloc = rt.alloc();
     let folder = Folder::new(&rt, alloc, "ill_tool_tests")?;

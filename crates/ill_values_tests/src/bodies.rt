@@ -5,20 +5,20 @@ use std::alloc::Global;
 use std::process::Abort;
 use std::test::Fail;
 
-/// What is expected of a body.
+/// The answers that are expected of a body.
 #[derive(Clone, Copy)]
 struct Row {
-    /// True if a requester issues it.
+    /// True if a requester issues the body.
     is_requesters: bool,
-    /// True if it ends the request.
+    /// True if the body ends the request.
     is_end: bool,
-    /// The due date that it grants.
+    /// The due date that the body grants.
     grant: Option<Day>,
-    /// The due date that it states.
+    /// The due date that the body states.
     date: Option<Day>,
 }
 
-/// Asserts what `body` answers.
+/// Asserts that `body` has the answers of `row`.
 fn expect(rt: &impl Abort, body: &Body, row: &Row) {
     let name = body.type_name();
     assert!(rt; body.is_requesters() == row.is_requesters, "role of {name}");

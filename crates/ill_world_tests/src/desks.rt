@@ -15,7 +15,7 @@ const FIRST: &[u8] = b"T1";
 /// The transaction of the second loan.
 const SECOND: &[u8] = b"T2";
 
-/// A Cancel that no requester has sent.
+/// A Cancel of the second loan, which no requester has sent.
 const OTHER_CANCEL: &[u8] = b"\x66\x10\x80\x01\x01\xA1\x08\x81\x02G1\x82\x02T2\x82\x01\x02";
 
 /// The events of two desks.
@@ -111,7 +111,7 @@ fn kinds(events: &mut Events, alloc: Global) {
     push_restart(events, Role::Responder);
 }
 
-/// Adds noise, and saves that fail.
+/// Adds noise for `who`, and two saves of `who` that fail. The record of the second lands.
 fn push_faults(events: &mut Events, alloc: Global, who: Role) {
     events.push(noise(alloc, who));
     for landed in [false, true] {
@@ -137,13 +137,13 @@ fn request(alloc: Global, transaction: &[u8], item: &[u8]) -> Option<DeskEvent> 
     Some(DeskEvent::Wish(id(alloc, transaction)?, request))
 }
 
-/// Returns the event that a side sends its message 1.
+/// Returns the event that the side of `who` in this transaction sends its message 1.
 fn sent(alloc: Global, who: Role, transaction: &[u8]) -> Option<DeskEvent> {
     let one = Number::new(1)?;
     Some(DeskEvent::Send(who, id(alloc, transaction)?, one))
 }
 
-/// Returns the event that message 1 of the requester reaches the responder.
+/// Returns the event that message 1 of the requester in this transaction reaches the responder.
 fn delivered(alloc: Global, transaction: &[u8]) -> Option<DeskEvent> {
     let one = Number::new(1)?;
     Some(DeskEvent::Deliver(Role::Responder, id(alloc, transaction)?, one))

@@ -13,7 +13,7 @@ const CANCEL: &[u8] = b"\x66\x10\x80\x01\x01\xA1\x08\x81\x02G1\x82\x02T1\x82\x01
 /// A Cancel of another transaction.
 const OTHER_CANCEL: &[u8] = b"\x66\x10\x80\x01\x01\xA1\x08\x81\x02G1\x82\x02T2\x82\x01\x02";
 
-/// A Cancel without its last byte.
+/// A Cancel of another transaction, without its last byte.
 const CUT: &[u8] = b"\x66\x10\x80\x01\x01\xA1\x08\x81\x02G1\x82\x02T2\x82\x01";
 
 /// The events of two sides.
@@ -126,7 +126,7 @@ fn push_unchanging(events: &mut Events, alloc: Global, who: Role, unsaved: u8) {
     events.push(delivered(who, 1));
 }
 
-/// Adds saves that fail.
+/// Adds two saves of `who` that fail. The record of the second lands.
 fn push_faults(events: &mut Events, who: Role) {
     for landed in [false, true] {
         events.push(Some(save_fault(who, landed)));

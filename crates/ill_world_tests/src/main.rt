@@ -26,6 +26,7 @@ use ill_test_kit::answer_lines;
 use session::Session;
 use std::io;
 
+/// Performs the scripts of the input, and prints their traces.
 fn main(rt: HostRuntime) -> io::Result<()> {
     answer_lines(&rt, &mut Session::new(rt.alloc()))
 }

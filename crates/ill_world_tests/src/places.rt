@@ -10,7 +10,7 @@ use std::alloc::Global;
 struct Answers {
     /// The allocator of all pages.
     alloc: Global,
-    /// The label begins each line.
+    /// The text that begins each line.
     label: &'static str,
     /// The answer at the last place.
     last: Page,

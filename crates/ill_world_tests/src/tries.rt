@@ -29,7 +29,7 @@ pub trait Tried: Drop {
     /// Prints the state of both sides.
     fn print(&self, alloc: Global, page: &mut Page) -> Option<()>;
 
-    /// Prints the rest of the world.
+    /// Prints the parts of the world that `print` leaves out.
     fn print_more(&self, alloc: Global, page: &mut Page) -> Option<()>;
 }
 

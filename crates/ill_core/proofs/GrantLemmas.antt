@@ -77,7 +77,8 @@ day_chains p q r one two = omega (arith, one, two)
 pub before_chains : (a b c : Date) → is_before a b ≡ true → is_before b c ≡ true → is_before a c ≡ true
 before_chains a b c one two =
     is_before_by a c
-    (less_chains a.year b.year c.year _ _ _ (less_chains a.month b.month c.month _ _ _ (day_chains a.day b.day c.day)) (before_is a b one)
+    (less_chains a.year b.year c.year _ _ _ (less_chains a.month b.month c.month _ _ _ (day_chains a.day b.day c.day))
+    (before_is a b one)
     (before_is b c two))
 
 -- If `p` equals `q` and `A` is false, `Less p q A` is false.
@@ -109,7 +110,8 @@ itself_not_before a = false_from_ne_true (is_before a a) (not_before_itself a)
 -- If `d` is before `c`, and `e` is not before `c`, then `e` is not before `d`.
 not_before_earlier : (d c e : Date) → is_before d c ≡ true → is_before e c ≡ false → is_before e d ≡ false
 not_before_earlier d c e earlier not_before =
-    false_from_ne_true (is_before e d) (λ h. let no : true ≡ false = sym (before_chains e d c h earlier) ∙ not_before in search rules)
+    false_from_ne_true (is_before e d)
+    (λ h. let no : true ≡ false = sym (before_chains e d c h earlier) ∙ not_before in search rules)
 
 -- If `A` implies `B` or `C`, `Less p r A` implies `Less p q B` or `Less q r C`.
 less_either : (p q r : ℕ) (A B C : Type 0) → (A → B ⊎ C) → Less p r A → (Less p q B) ⊎ (Less q r C)

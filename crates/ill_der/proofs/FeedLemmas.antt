@@ -361,7 +361,8 @@ push_after_filled handles again old new piece size filled end before now after w
     (push_after_first handles held piece (drop (end - size) piece) apdu.0 before now after result feed begun apdu.2 on_held)
 
 -- If nothing was held, handling `piece` has the outcome of a push of `piece`.
-push_when_empty : {S F : Type 0} (handles : Handles S F) (held piece : List ℕ) (before after : S) (result : Result (Option DerFault) F)
+push_when_empty : {S F : Type 0} (handles : Handles S F) (held piece : List ℕ) (before after : S)
+    (result : Result (Option DerFault) F)
     (new : FeedState)
     → held ≡ []
     → HandlesRest handles (Ok held, before) piece result (new, after)

@@ -77,7 +77,8 @@ one_takes [] n octets fits e = absurd cc
 one_takes (m ∷ rest) n octets fits e =
     elim (chosen (ltb m 128) Invalid (Definite m 2) (Definite n octets) e) [
       | inl h ↦ absurd (let no_form : Invalid ≡ Definite n octets = h.1 in cc)
-      | inr h ↦ with_equal_form (0x81 ∷ m ∷ rest) m 2 n octets h.1 (rw (middle_form m (ltb-false m 128 h.0) (fits 0)) (refl, refl))
+      | inr h ↦ with_equal_form (0x81 ∷ m ∷ rest) m 2 n octets h.1
+          (rw (middle_form m (ltb-false m 128 h.0) (fits 0)) (refl, refl))
     ]
 
 -- If `two_octet_length rest` is `Definite n octets`, 82 and `rest` begin with the length octets of `n`.

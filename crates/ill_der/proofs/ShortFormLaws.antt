@@ -28,7 +28,8 @@ use Rattle.ill_der.specs.Types.{identifier_of, type_with}
 use Rattle.ill_der.specs.ShortForm.{txn_id, head, request, due_date, answer, reply, wish, grant, encode_body, made_of, read_body}
 use Rattle.ill_der.specs.ShortForm.{contents_of, encoding, Outer, header_by, header_of, header_at, outer_by, outer_at, body_of}
 use Rattle.ill_der.specs.ShortForm.{inside_of, apdu_at}
-use Rattle.ill_der.proofs.Chains.{bind_ok, bind_err, test_failed, chosen, done, ok_is, no_value, short_is, short_or_memory, IsInside}
+use Rattle.ill_der.proofs.Chains.{bind_ok, bind_err, test_failed, chosen, done, ok_is, no_value, short_is, short_or_memory}
+use Rattle.ill_der.proofs.Chains.{IsInside}
 use Rattle.ill_der.proofs.Chains.{tag_inside, length_inside, fault_is}
 use Rattle.ill_der.specs.Laws.{IsBytes}
 use Rattle.ill_der.proofs.Bytes.{IsBytes-drop, IsBytes-take}
@@ -485,7 +486,8 @@ outer_by_takes first apdu_type (Definite n octets) bytes outer fits k f e =
     let small = test_failed (ltb 355 n)
     (cond (ltb (length bytes) (octets + n)) (Err (Short (length bytes + 1))) (Ok (outer_with apdu_type n octets bytes)))
     (Length 1) outer e in
-    let whole = test_failed (ltb (length bytes) (octets + n)) (Ok (outer_with apdu_type n octets bytes)) (Short (length bytes + 1))
+    let whole = test_failed (ltb (length bytes) (octets + n)) (Ok (outer_with apdu_type n octets bytes))
+    (Short (length bytes + 1))
     outer small.1 in
     let is : outer_with apdu_type n octets bytes ≡ outer = ok_is (outer_with apdu_type n octets bytes) outer whole.1 in
     let enough = ltb-false (length bytes) (octets + n) whole.0 in
@@ -707,7 +709,8 @@ final_after_one_octet false false false x y z w final = refl
 
 -- If a choice is final with Truncated in its case `two`, `z` in this case changes nothing.
 -- In `length_more` this case is an octet 82, after which one of two octets is missing.
-final_after_two_octets : (short one two : Bool) (x y z w : LengthForm) → IsFinal (cond short x (cond one y (cond two Truncated w)))
+final_after_two_octets : (short one two : Bool) (x y z w : LengthForm)
+    → IsFinal (cond short x (cond one y (cond two Truncated w)))
     → cond short x (cond one y (cond two z w)) ≡ cond short x (cond one y (cond two Truncated w))
 final_after_two_octets true one two x y z w final = refl
 final_after_two_octets false true two x y z w final = refl
@@ -743,7 +746,8 @@ outer_by_more apdu_type (Definite n octets) bytes more outer e =
     let small = test_failed (ltb 355 n)
     (cond (ltb (length bytes) (octets + n)) (Err (Short (length bytes + 1))) (Ok (outer_with apdu_type n octets bytes)))
     (Length 1) outer e in
-    let whole = test_failed (ltb (length bytes) (octets + n)) (Ok (outer_with apdu_type n octets bytes)) (Short (length bytes + 1))
+    let whole = test_failed (ltb (length bytes) (octets + n)) (Ok (outer_with apdu_type n octets bytes))
+    (Short (length bytes + 1))
     outer small.1 in
     let enough = ltb-false (length bytes) (octets + n) whole.0 in
     let longer : ltb (length (bytes ++ more)) (octets + n) ≡ false = le-ltb _ _ (omega (arith, length-append bytes more)) in

@@ -52,7 +52,8 @@ pub record LeftLast (files : List File) (after : List File) : Type 0 where
   pub left : AreLeft files first
 
 -- If a crash may leave `after` of `files` and a new file `f`, it may leave all but the last of `after` of `files`.
-pub left_without_last : (files : List File) (f : File) (after : List File) → AreLeft (files ++ f ∷ []) after → LeftLast files after
+pub left_without_last : (files : List File) (f : File) (after : List File) → AreLeft (files ++ f ∷ []) after
+    → LeftLast files after
 left_without_last [] f [] left = absurd left
 left_without_last [] f (g ∷ []) left = record { first = []; last = g; is = refl; left = tt }
 left_without_last [] f (g ∷ h ∷ after) left = absurd left.1

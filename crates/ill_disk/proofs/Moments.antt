@@ -107,7 +107,8 @@ each_moment P old new d held (meanwhile before during was is passed) =
 -- ---- answers
 
 -- If `new` is neither `old` nor `change old`, no answer of a call that makes `change` leads to it (`Changes`).
-no_other_change : {E : Type 0} (change : Disk → Disk) (old new : Disk) (answer : Result (Unit {0}) E) → Changes change old answer new →
+no_other_change : {E : Type 0} (change : Disk → Disk) (old new : Disk) (answer : Result (Unit {0}) E)
+    → Changes change old answer new →
     (new ≡ old → ⊥) → (new ≡ change old → ⊥) → ⊥
 no_other_change change old new (Ok done) is not_old not_new = not_new is
 no_other_change change old new (Err fault) is not_old not_new = ⊎_elim not_old not_new is

@@ -48,7 +48,8 @@ add_spread asked spots x spread is = record {
       (λ first. ⊎_elim
       (λ also. spread.mails mail other spot second first also differ)
       (λ last. spread_both second spot (spread_each second spots mail spot
-      (and_parts (keeps_off asked second) (is_spread_from_all second spots) (admitted_as asked spots x second is last.1)).1 first))
+      (and_parts (keeps_off asked second) (is_spread_from_all second spots) (admitted_as asked spots x second is last.1)).1
+      first))
       (last_or spots x other (Some second) two))
       (λ last. ⊎_elim
       (λ also. spread_each spot spots other second

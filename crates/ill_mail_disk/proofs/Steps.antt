@@ -15,7 +15,8 @@ pub one_touches : {A E : Type 0} (does : Disk → Result A E → Disk → Type 0
     ((d e : Disk) → does d answer e → TouchesOnly paths d e) → Touches paths old new
 one_touches does paths old answer new answers touches = record {
   whole = answers.whole;
-  moments = λ h. one_more_call (throughout_nothing (touch_self paths old.now)) (answers.past h) (touches old.now new.now (answers.done h));
+  moments = λ h. one_more_call (throughout_nothing (touch_self paths old.now)) (answers.past h)
+      (touches old.now new.now (answers.done h));
   honest = answers.honest;
 }
 

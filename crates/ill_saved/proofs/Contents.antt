@@ -609,7 +609,8 @@ module _ (role : Role) (sides : List Side) (counted : List ℕ) (as_many : lengt
       → is_same_role role (role_for action) ≡ true
       → ChangesOnlySideOf (λ old answer new. Acts old action answer new) txn (record { role = role; sides = sides }) (Some answer)
       new
-      → DeskActs many_sides desk_with txn action (core_answer answer) (record { role = new.role; held = held_of new.sides counted })
+      → DeskActs many_sides desk_with txn action (core_answer answer)
+      (record { role = new.role; held = held_of new.sides counted })
   desk_acts_so grows txn action answer new fits only =
       let to = changed_held grows txn (λ old answer new. Acts old action answer new)
       (λ old new answer does. acts_row old new action answer does) answer new only in

@@ -131,7 +131,8 @@ read_has_kept {path = path} {old = old} reads = record {
 pub flush_has_kept : {E : Type 0} {path : List ℕ} {old read flushed : DiskState} {answer : Result (Unit {0}) E} →
     HasKept path old read → Answers (Changes (after_flush path)) read answer flushed → HasKept path old flushed
 flush_has_kept {path = path} {old = old} {read = read} {flushed = flushed} {answer = answer} so_far flushes = record {
-  moments = λ h. one_more_call (so_far.moments h) (flushes.past (so_far.honest ∙ h)) (flush_keeps path old.now read.now flushed.now
+  moments = λ h. one_more_call (so_far.moments h) (flushes.past (so_far.honest ∙ h))
+      (flush_keeps path old.now read.now flushed.now
       answer (so_far.moments h).last (flushes.done (so_far.honest ∙ h)));
   honest = flushes.honest ∙ so_far.honest;
 }
@@ -376,7 +377,8 @@ module _ {E : Type 0} {aside path bytes : List ℕ} {old made flushed renamed : 
 pub look_up_has_kept : {E : Type 0} {path : List ℕ} {old looked : DiskState} {answer : Result (Unit {0}) E} →
     Answers (Changes unchanged) old answer looked → HasKept path old looked
 look_up_has_kept {path = path} {old = old} {looked = looked} {answer = answer} looks = record {
-  moments = λ h. one_more_call (throughout_nothing (refl, old_left path old.now)) (looks.past h) (after_call (IsOld path old.now) unchanged
+  moments = λ h. one_more_call (throughout_nothing (refl, old_left path old.now)) (looks.past h)
+      (after_call (IsOld path old.now) unchanged
       old.now looked.now answer (looks.done h) (refl, old_left path old.now) (refl, old_left path old.now));
   honest = looks.honest;
 }

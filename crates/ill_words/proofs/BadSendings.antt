@@ -104,4 +104,5 @@ not_misjudged_sending was_asked side says (unasked_sends y over unasked) e =
     true≢false (e ∙ or_from (not (is_over (sides.Responder y))) was_asked (ap not over) unasked)
 not_misjudged_sending was_asked side says (asked_is_silent y asked) e =
     true≢false (sym (or_right (not (is_over (sides.Responder y))) was_asked asked) ∙ sym e)
-not_misjudged_sending was_asked side says (open_is_silent _ is_open) e = true≢false (sym (open_wants was_asked side is_open) ∙ sym e)
+not_misjudged_sending was_asked side says (open_is_silent _ is_open) e =
+    true≢false (sym (open_wants was_asked side is_open) ∙ sym e)

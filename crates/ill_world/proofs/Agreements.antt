@@ -229,7 +229,8 @@ facing P pair txn (sides.Requester x) (sides.Requester y) responder_sent request
     heeded = absurd responder_stands
 
 -- If `HoldsOfRecords P` holds, and a world satisfies the invariant, `P` holds of its four pairs of records.
-of_both_facing : (P : RequesterRecord → ResponderRecord → Type 0) → HoldsOfRecords P → (txn : Qualifiers) (w : Parties) → Invariant txn w
+of_both_facing : (P : RequesterRecord → ResponderRecord → Type 0) → HoldsOfRecords P → (txn : Qualifiers) (w : Parties)
+    → Invariant txn w
     → OfBoth (Facing P) w
 of_both_facing P pair txn w stands =
     let sent = w.responder.sent in

@@ -177,7 +177,8 @@ module _ (rows : TransitionsHear) where
       → is_among (states.NotSupplied ∷ []) (taking lends y apdus).state ≡ true
   unsupplied_stays y apdus is =
       keeps_all lends (λ r. is_among (states.NotSupplied ∷ []) r.state ≡ true)
-      (λ r a ended. ap (is_among (states.NotSupplied ∷ [])) (rows.responder_final r a (unsupplied_is_final r.state ended)) ∙ ended) y
+      (λ r a ended. ap (is_among (states.NotSupplied ∷ [])) (rows.responder_final r a (unsupplied_is_final r.state ended))
+      ∙ ended) y
       apdus is
     where
       -- NOT-SUPPLIED is one of the states that no message changes.

@@ -9,4 +9,5 @@ pub returns-clause-over : goal.returns-clause-over
 returns-clause-over c = λ side misjudges. not_misjudged side (is_over side) misjudges refl
 
 pub returns-clause-sends : goal.returns-clause-sends
-returns-clause-sends c = λ was_asked side misjudges. not_misjudged_sending was_asked side (wants_sending was_asked side) misjudges refl
+returns-clause-sends c = λ was_asked side misjudges.
+    not_misjudged_sending was_asked side (wants_sending was_asked side) misjudges refl

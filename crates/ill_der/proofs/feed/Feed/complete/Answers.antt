@@ -7,7 +7,8 @@ use Rattle.ill_der.specs.ShortForm.{apdu_at}
 use Rattle.ill_der.specs.Stream.{IfShort}
 use Rattle.ill_der.specs.Handling.{HandlesEach}
 use Rattle.ill_der.specs.FeedView.{held_of, HandlesFirst, HandlesRest}
-use Rattle.ill_der.proofs.FeedLemmas.{closing_some, is_open, holds_prefix, holds_still, short_held, first_ends_in_piece, push_after_filled}
+use Rattle.ill_der.proofs.FeedLemmas.{closing_some, is_open, holds_prefix, holds_still, short_held, first_ends_in_piece}
+use Rattle.ill_der.proofs.FeedLemmas.{push_after_filled}
 use Rattle.ill_der.proofs.FeedLemmas.{push_when_open_and_empty, all_left, fault_of_all, fails_first, still_held}
 use Rattle.ill_der.proofs.feed.Feed.complete.Goals as goal
 
@@ -17,7 +18,8 @@ returns-then-self-eq0 g c =
     let held = take c.self.inside.size c.self.inside.buffer in
     let opened = holds_prefix c.self.inside.closed held c.args.self.now c.self.view_is c.requires in
     let none : held ≡ [] = rw c.if-self-eq0.true refl in
-    push_when_open_and_empty g.H.Handler.handles held c.args.piece.now _ _ c.args.self.now c.hand_on.result c.hand_on.new.self opened none
+    push_when_open_and_empty g.H.Handler.handles held c.args.piece.now _ _ c.args.self.now c.hand_on.result c.hand_on.new.self
+    opened none
     c.hand_on.ensures
 
 -- The first APDU contains all held bytes, so `end` is at least `size`.
@@ -32,7 +34,8 @@ overflow_sub-after g c =
     HandlesFirst handles (take filled new) (c.args.handler.now, c.args.context.now) (Ok r)
     (c.handle_first.new.handler, c.handle_first.new.context)) c.in-Ok-Ok.field-0-is
     c.in-Ok-Ok.ensures in
-    let there = first_ends_in_piece handles c.read_again.ensures old new c.args.piece.now c.self.inside.size filled c.in-Ok-Ok.end _ _
+    let there = first_ends_in_piece handles c.read_again.ensures old new c.args.piece.now c.self.inside.size filled c.in-Ok-Ok.end
+    _ _
     c.fill-filled.ensures c.self.invariant first in
     there.0
 

@@ -17,7 +17,8 @@ may c =
     let room : nat_lt (length live.held) most_sides ≡ true = search rules in
     let done : acts (idle_side live.role c.args.txn.now) c.args.action.now ≡ Ok c.in_ok-side.side = search rules in
     let begun = c.rows_begin.ensures.acts (idle_side live.role c.args.txn.now) c.in_ok-side.side c.args.action.now done in
-    may_begin_with c.rows_grow.ensures live c.args.txn.now c.requires.none room c.in_ok-side.side (acted c.args.action.now done) begun
+    may_begin_with c.rows_grow.ensures live c.args.txn.now c.requires.none room c.in_ok-side.side (acted c.args.action.now done)
+    begun
 
 -- The side that has begun may be put.
 pub hold-requires-clause-may : goal.hold-requires-clause-may

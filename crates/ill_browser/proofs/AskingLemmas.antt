@@ -1,4 +1,4 @@
--- Proves what holds of a request that asks for something.
+-- Proves what holds of a request that asks for something: its path, sender, method, size and fields.
 use Rattle.std.proofs.Common.{◌≡◌, ◌≤◌, ◌⊎◌, inl, inr, ⊎_elim, ℕ, Bool, true, false, List, length}
 use Rattle.std.proofs.Common.{Result, Ok, Err, refl, sym, subst, arith, rules}
 use Rattle.std.specs.Prelude.{◌==◌, not, nat_lt, if◌then◌else◌, bytes_eq, codes}
@@ -13,19 +13,21 @@ use Rattle.ill_browser.specs.Wanted.{Asked, asked_by, asked_with, looked_of, pos
 
 -- ---- choices
 
--- A value that a refusal did not take the place of passed its test.
+-- If a choice that refuses unless `test` is true gives `Ok x`, `test` is true and `next` is `Ok x`. The refusal is
+-- first here.
 pub passed_unless : {X : Type 0} (test : Bool) (refusal : VisitFault) (next : Result X VisitFault) (x : X)
     → (if not test then Err refusal else next) ≡ Ok x → (test ≡ true) × (next ≡ Ok x)
 passed_unless true refusal next x e = (refl, e)
 passed_unless false refusal next x e = search rules
 
--- The same, with the refusal after the test.
+-- If a choice that refuses unless `test` is true gives `Ok x`, `test` is true and `next` is `Ok x`. The refusal is last
+-- here.
 pub passed_if : {X : Type 0} (test : Bool) (refusal : VisitFault) (next : Result X VisitFault) (x : X)
     → (if test then next else Err refusal) ≡ Ok x → (test ≡ true) × (next ≡ Ok x)
 passed_if true refusal next x e = (refl, e)
 passed_if false refusal next x e = search rules
 
--- The same, with the refusal before the value.
+-- If a choice that refuses if `test` is true gives `Ok x`, `test` is false and `next` is `Ok x`.
 pub passed_not : {X : Type 0} (test : Bool) (refusal : VisitFault) (next : Result X VisitFault) (x : X)
     → (if test then Err refusal else next) ≡ Ok x → (test ≡ false) × (next ≡ Ok x)
 passed_not true refusal next x e = search rules
@@ -33,7 +35,7 @@ passed_not false refusal next x e = (refl, e)
 
 -- ---- sizes
 
--- A size within the limit is at most 4,096.
+-- If a size above `most` is refused, and `said` is the size, `said` is at most `most`.
 within : (most size said : ℕ) → (if nat_lt most size then Err refusals.TooLong else Ok size) ≡ Ok said → said ≤ most
 within most size said e =
     let passed = passed_not (nat_lt most size) refusals.TooLong (Ok size) said e in
@@ -41,7 +43,7 @@ within most size said e =
     let few : nat_lt most size ≡ false = passed.0 in
     grind (arith, nat_tests, few, same)
 
--- A size that is said is at most 4,096.
+-- If `text` says `size` and is not refused, `size` is at most 4,096.
 said_few : (text : List ℕ) (size : ℕ) → size_said text ≡ Ok size → size ≤ 4096
 said_few text size e =
     let digits = passed_unless (is_numeral text) refusals.NoLength _ size e in
@@ -55,7 +57,7 @@ record IsFitForm (rules : RulesShown) (v : VisitShown) (size : ℕ) : Type 0 whe
   form : is_form v ≡ true
   few : size ≤ 4096
 
--- A form with a size is fit.
+-- If `form_size` gives a size, the form is not refused before its body is read (`IsFitForm`).
 form_is_fit : (rules : RulesShown) (v : VisitShown) (size : ℕ) → form_size rules v ≡ Ok size → IsFitForm rules v size
 form_is_fit rules v size e =
     let own = passed_unless (is_own rules v) refusals.Foreign _ size e in
@@ -63,20 +65,20 @@ form_is_fit rules v size e =
     let form = passed_unless (is_form v) refusals.NoForm _ size user.1 in
     record { own = own.0; user = user.0; form = form.0; few = said_few v.content_length size form.1 }
 
--- No method is both POST and GET.
+-- If the method is POST, it is not GET.
 no_look : (method : List ℕ) → bytes_eq method (codes "POST") ≡ true → bytes_eq method (codes "GET") ≡ false
 no_look method post =
     let is = (bytes_eq-Decides method (codes "POST")).0 post in
     subst (λ m. bytes_eq m (codes "GET") ≡ false) (sym is) refl
 
--- The size of a form's body is that of the form.
+-- If a request is no look and sends a form, the size of its body is that of the form.
 at_post : (look post : Bool) (form : Result ℕ VisitFault) (size : ℕ) → look ≡ false → post ≡ true
     → (if look then Ok 0 else if post then form else Err refusals.Method) ≡ Ok size → form ≡ Ok size
 at_post false true form size not_look is_post e = e
 at_post true post form size not_look is_post e = search rules
 at_post false false form size not_look is_post e = search rules
 
--- The size of the body of a page's request is 0.
+-- If a request has a size, it is a look and the size is 0, or `form` gives the size.
 at_look : (look post : Bool) (form : Result ℕ VisitFault) (size : ℕ)
     → (if look then Ok 0 else if post then form else Err refusals.Method) ≡ Ok size
     → ((look ≡ true) × (size ≡ 0)) ⊎ ((look ≡ false) × ((post ≡ true) × (form ≡ Ok size)))
@@ -84,7 +86,7 @@ at_look true post form size e = inl (refl, search rules)
 at_look false true form size e = inr (refl, (refl, e))
 at_look false false form size e = search rules
 
--- Equal numbers are found equal.
+-- If `==` finds two numbers equal, they are equal.
 same_length : (n size : ℕ) → (n == size) ≡ true → n ≡ size
 same_length n size e = grind (arith, nat_tests, e)
 
@@ -95,7 +97,7 @@ pub record AsksWhole (rules : RulesShown) (v : VisitShown) (body : List ℕ) (as
   pub full : length body ≡ size
   pub by : asked_by v body ≡ Ok asked
 
--- The same, for a size that is worked out.
+-- If `asked_with sized` gives `Ok asked`, `sized` is a size, `body` has it, and the fields ask for `asked`.
 asked_whole : (sized : Result ℕ VisitFault) (v : VisitShown) (body : List ℕ) (asked : Asked) → asked_with sized v body ≡ Ok asked
     → (size : ℕ) × ((sized ≡ Ok size) × ((length body ≡ size) × (asked_by v body ≡ Ok asked)))
 asked_whole (Ok size) v body asked e =
@@ -103,14 +105,14 @@ asked_whole (Ok size) v body asked e =
     (size, (refl, (same_length (length body) size passed.0, passed.1)))
 asked_whole (Err refusal) v body asked e = search rules
 
--- A request that asks for something has a whole body.
+-- If a request asks for `asked`, its body is whole, and its fields ask for `asked` (`AsksWhole`).
 pub asks_whole : (rules : RulesShown) (v : VisitShown) (body : List ℕ) (asked : Asked) → wanted_of rules v body ≡ Ok asked
     → AsksWhole rules v body asked
 asks_whole rules v body asked e =
     let whole = asked_whole (body_size rules v) v body asked e in
     record { size = whole.0; sized = whole.1.0; full = whole.1.1.0; by = whole.1.1.1 }
 
--- What a form that asks for something has.
+-- A form that asks for `asked` is of a page of this program, is short, and has no query. Its fields ask for `asked`.
 pub record AsksByForm (rules : RulesShown) (v : VisitShown) (body : List ℕ) (asked : Asked) : Type 0 where
   pub root : is_root v.path ≡ true
   pub own : is_own rules v ≡ true
@@ -120,33 +122,33 @@ pub record AsksByForm (rules : RulesShown) (v : VisitShown) (body : List ℕ) (a
   pub no_query : (length v.query == 0) ≡ true
   pub posts : posted_of (fields_in body) ≡ Ok asked
 
--- What the fields of a form ask for, they ask for without a query.
+-- If a request is no look and gives `Ok asked`, it has no query, and `posted` is `Ok asked`.
 by_form_if : (look : Bool) (looked posted : Result Asked VisitFault) (no_query : Bool) (asked : Asked) → look ≡ false
     → (if look then looked else if no_query then posted else Err refusals.Fields) ≡ Ok asked
     → (no_query ≡ true) × (posted ≡ Ok asked)
 by_form_if false looked posted no_query asked not_look e = passed_if no_query refusals.Fields posted asked e
 by_form_if true looked posted no_query asked not_look e = search rules
 
--- The same, of a request.
+-- If `v` is no look and its fields ask for `asked`, it has no query, and its body asks.
 by_form : (v : VisitShown) (body : List ℕ) (asked : Asked) → is_look v ≡ false → asked_by v body ≡ Ok asked
     → ((length v.query == 0) ≡ true) × (posted_of (fields_in body) ≡ Ok asked)
 unfolding asked_by
 by_form v body asked not_look e =
     by_form_if (is_look v) (looked_of (fields_in v.query)) (posted_of (fields_in body)) (length v.query == 0) asked not_look e
 
--- What a request of a page asks for, its query asks for.
+-- If a request is a look and gives `Ok asked`, `looked` is `Ok asked`.
 by_query_if : (look : Bool) (looked other : Result Asked VisitFault) (asked : Asked) → look ≡ true
     → (if look then looked else other) ≡ Ok asked → looked ≡ Ok asked
 by_query_if true looked other asked look e = e
 by_query_if false looked other asked look e = search rules
 
--- The same, of a request.
+-- If `v` is a look and its fields ask for `asked`, the fields of its query ask for it.
 by_query : (v : VisitShown) (body : List ℕ) (asked : Asked) → is_look v ≡ true → asked_by v body ≡ Ok asked
     → looked_of (fields_in v.query) ≡ Ok asked
 unfolding asked_by
 by_query v body asked look e = by_query_if (is_look v) (looked_of (fields_in v.query)) _ asked look e
 
--- A form that asks for something is fit, has no query, and its fields ask for it.
+-- If a request sends a form and asks for `asked`, it is a form as `AsksByForm` says.
 pub asks_by_form : (rules : RulesShown) (v : VisitShown) (body : List ℕ) (asked : Asked) → is_post v ≡ true
     → wanted_of rules v body ≡ Ok asked → AsksByForm rules v body asked
 asks_by_form rules v body asked post e =
@@ -167,7 +169,7 @@ asks_by_form rules v body asked post e =
       posts = posted.1;
     }
 
--- The body of a request has at most 4,096 bytes.
+-- If `body_size` gives a size, it is at most 4,096.
 pub sized_few : (rules : RulesShown) (v : VisitShown) (size : ℕ) → body_size rules v ≡ Ok size → size ≤ 4096
 sized_few rules v size e =
     let root = passed_unless (is_root v.path) refusals.NoPage _ size e in
@@ -176,19 +178,19 @@ sized_few rules v size e =
     (λ post. (form_is_fit rules v size post.1.1).few)
     (at_look (is_look v) (is_post v) (form_size rules v) size root.1)
 
--- The body of a request that asks for something has at most 4,096 bytes.
+-- If a request asks for something, its body has at most 4,096 bytes.
 pub asks_few : (rules : RulesShown) (v : VisitShown) (body : List ℕ) (asked : Asked) → wanted_of rules v body ≡ Ok asked
     → length body ≤ 4096
 asks_few rules v body asked e =
     let whole = asks_whole rules v body asked e in
     subst (λ size. size ≤ 4096) (sym whole.full) (sized_few rules v whole.size whole.sized)
 
--- What a request that looks at a page asks for, its query asks for.
+-- If a request looks at a page and asks for `asked`, the fields of its query ask for it.
 pub asks_by_query : (rules : RulesShown) (v : VisitShown) (body : List ℕ) (asked : Asked) → is_look v ≡ true
     → wanted_of rules v body ≡ Ok asked → looked_of (fields_in v.query) ≡ Ok asked
 asks_by_query rules v body asked look e = by_query v body asked look (asks_whole rules v body asked e).by
 
--- Each method that asks for something is GET or POST.
+-- If a request asks for something, its method is GET or POST.
 pub look_or_post : (rules : RulesShown) (v : VisitShown) (body : List ℕ) (asked : Asked) → wanted_of rules v body ≡ Ok asked
     → (is_look v ≡ true) ⊎ (is_post v ≡ true)
 look_or_post rules v body asked e =

@@ -1,4 +1,4 @@
--- The meaning of a request excludes the wrong readings.
+-- Proves that the meaning of a request excludes the wrong readings of `BadAsking.antt`.
 use Rattle.std.proofs.Common.{◌≡◌, ◌<◌, ◌≤◌, ℕ, Bool, true, false, List, [], ◌∷◌, length, Result, Ok, refl}
 use Rattle.std.proofs.Common.{sym, subst, arith, rules}
 use Rattle.std.specs.Prelude.{◌==◌, ◌&&◌, ◌||◌, not, if◌then◌else◌, bytes_eq, codes}
@@ -22,29 +22,29 @@ use Rattle.ill_browser.proofs.LookLemmas.{finds_these, loan_has_no_page, looks_a
 use Rattle.ill_browser.proofs.LookLemmas.{stray_looks_at_nothing, words_stand_alone}
 use Rattle.ill_browser.proofs.NamingLemmas.{not_both}
 
--- A text that is another site is not this one.
+-- If the site is "cross-site", the test of `is_own` fails, whatever `origin` says.
 cross_site : (site : List ℕ) (origin : Bool) → bytes_eq site (codes "cross-site") ≡ true
     → (if length site == 0 then origin else bytes_eq site (codes "same-origin")) ≡ false
 cross_site site origin cross =
     let is = (bytes_eq-Decides site (codes "cross-site")).0 cross in
     subst (λ s. (if length s == 0 then origin else bytes_eq s (codes "same-origin")) ≡ false) (sym is) refl
 
--- Without a site the origin decides.
+-- If the site has length 0 and the origin is not the operator's, the test of `is_own` fails.
 by_origin : (site : ℕ) (origin same : Bool) → site ≡ 0 → origin ≡ false → (if site == 0 then origin else same) ≡ false
 by_origin site origin same none other = simp (none, other) refl
 
--- The origin is not the operator's if they differ.
+-- If the origins are not the same, the test of `is_origin` fails.
 other_origin : (named same : Bool) → same ≡ false → (named && same) ≡ false
 other_origin true same other = other
 other_origin false same other = refl
 
--- No origin is the operator's.
+-- If `origin` is empty, it is not `own`, that of the operator: the test of `is_origin` fails.
 no_origin : (own origin : List ℕ) → length origin ≡ 0 → (not (length own == 0) && bytes_eq origin own) ≡ false
 no_origin [] origin none = refl
 no_origin (first ∷ more) [] none = other_origin _ _ refl
 no_origin (first ∷ more) (byte ∷ bytes) none = search rules
 
--- Without a user a form has none, unless the operator wants none.
+-- If the operator wants a name and `user` has length 0, the test of `has_user` fails.
 no_user : (is_open : Bool) (user : ℕ) → is_open ≡ false → user ≡ 0 → (is_open || not (user == 0)) ≡ false
 no_user is_open user closed nobody = simp (closed, nobody) refl
 
@@ -52,7 +52,7 @@ no_user is_open user closed nobody = simp (closed, nobody) refl
 too_long : (size : ℕ) → 4096 < size → size ≤ 4096 → ⊥
 too_long size long few = omega (arith, long, few)
 
--- A text that has bytes is not empty.
+-- A size above 0 is not found equal to 0.
 no_rest : (size : ℕ) → 0 < size → (size == 0) ≡ true → ⊥
 no_rest size some none = grind (arith, nat_tests, some, none)
 
@@ -60,13 +60,13 @@ no_rest size some none = grind (arith, nat_tests, some, none)
 not_none : (count : ℕ) → count ≡ 0 → 0 < count → ⊥
 not_none count none some = omega (arith, none, some)
 
--- What a query that asks for something looks at.
+-- If a request looks at a page and asks for `asked`, the fields of its query ask for it (`LooksAt`).
 looks : (rules : RulesShown) (v : VisitShown) (body : List ℕ) (asked : Asked) → is_look v ≡ true
     → Ok asked ≡ wanted_of rules v body → LooksAt (fields_in v.query) asked
 looks rules v body asked look e =
     looks_at (fields_in v.query) asked (asks_by_query rules v body asked look (sym e))
 
--- What is asked for is no wrong reading.
+-- If `result` is what a request asks for, it is no wrong reading. Each case cites the lemma that excludes it.
 is_no_misreading : (rules : RulesShown) (v : VisitShown) (body : List ℕ) (result : Result Asked VisitFault)
     → MisreadsVisit rules v body result → result ≡ wanted_of rules v body → ⊥
 is_no_misreading r v body _ (look_changes asked change look) e = look_changes_nothing r v body asked look (sym e) change

@@ -1,11 +1,11 @@
--- Proves what is found among the values of a list.
+-- Proves what is found among the values of a list, for the contract of `first` (`src/field.rt`).
 use Rattle.std.proofs.Common.{◌≡◌, ◌∙◌, ℕ, Bool, true, false, List, [], ◌∷◌, map, Option, Some, None, option_map, refl, ap}
 use Rattle.std.specs.Prelude.{bytes_eq, string_bytes}
 use Rattle.std.specs.List.{find}
 use Rattle.ill_browser.specs.declared.field.Field.{Field}
 use Rattle.ill_browser.specs.Fields.{Pair, field_shown, first_named}
 
--- The same for a list with an item more, whose value passes or not.
+-- If `find_mapped` holds for `items`, it holds for `item ∷ items`. `passes` says if the value of `item` passes.
 one_more : {X Y : Type 0} (value : X → Y) (test : Y → Bool) (item : X) (items : List X)
     → find test (map value items) ≡ option_map value (find (λ x. test (value x)) items)
     → (passes : Bool) → test (value item) ≡ passes
@@ -20,7 +20,7 @@ find_mapped value test [] = refl
 find_mapped value test (item ∷ items) =
     one_more value test item items (find_mapped value test items) (test (value item)) refl
 
--- Two maps one after another are one map.
+-- Two functions mapped over an option, one after the other, are one function mapped over it.
 twice : {X Y Z : Type 0} (f : Y → Z) (g : X → Y) (o : Option X) → option_map f (option_map g o) ≡ option_map (λ x. f (g x)) o
 twice f g None = refl
 twice f g (Some x) = refl

@@ -1,4 +1,4 @@
--- Proves what the query of a page asks for.
+-- Proves what the query of a page asks for. So the wrong readings of a query are excluded.
 use Rattle.std.proofs.Common.{◌≡◌, ◌∙◌, ◌<◌, ⊎_elim, ℕ, true, false, List, [], ◌∷◌, length, Option, Some, None}
 use Rattle.std.proofs.Common.{Ok, Err, refl, sym, subst, ap, arith, rules}
 use Rattle.std.specs.Prelude.{◌==◌, bytes_eq, codes}
@@ -14,16 +14,21 @@ use Rattle.ill_browser.specs.Wanted.{page_named, slip_named, slip_names}
 use Rattle.ill_browser.proofs.NamingLemmas.{are_once, bound, either, has_loan, if_some, named_by, no_doubled, no_stranger}
 use Rattle.ill_browser.proofs.NamingLemmas.{not_both, one_of, only_counts, only_once, within}
 
--- What a query asks for, and what its fields have then.
+-- The fields of a query ask for `asked`: for one of five pages. Each case says what the fields then have.
 pub data LooksAt (fields : List Pair) (asked : Asked) : Type 0 where
+  -- There are no fields: all loans.
   at_desks : fields ≡ [] → asked ≡ Desks None → LooksAt fields asked
+  -- All fields have the name `find`, and its only value is `words`.
   at_found : (words : List ℕ) → are_named find_names fields ≡ true → only_named (codes "find") fields ≡ Some words
       → asked ≡ Desks (Some words) → LooksAt fields asked
+  -- All fields have names of a loan, and they name `loan`.
   at_loan : (loan : LoanAsked) → are_named loan_names fields ≡ true → loan_named fields ≡ Some loan → asked ≡ Loan loan
       → LooksAt fields asked
+  -- All fields have names of a slip, and they name `loan` and the page "slip".
   at_slip : (loan : LoanAsked) (page : List ℕ) → are_named slip_names fields ≡ true
       → only_named (codes "page") fields ≡ Some page → bytes_eq page (codes "slip") ≡ true → loan_named fields ≡ Some loan
       → asked ≡ Slip loan → LooksAt fields asked
+  -- All fields have names of figures, and they name two days.
   at_figures : (from to : Date) → are_named figures_names fields ≡ true → day_named (codes "from") fields ≡ Some from
       → day_named (codes "to") fields ≡ Some to → asked ≡ Figures from to → LooksAt fields asked
 
@@ -32,7 +37,7 @@ empty : {X : Type 0} (items : List X) → (length items == 0) ≡ true → items
 empty [] none = refl
 empty (item ∷ items) none = search rules
 
--- The result of an equation, read from its other side.
+-- If `Some one` equals `Some other`, `other` equals `one`.
 same : {X : Type 0} (one other : X) → Some one ≡ Some other → other ≡ one
 same one other e = search rules
 
@@ -47,21 +52,21 @@ desks : (fields : List Pair) (asked : Asked) → (length fields == 0) ≡ true �
     → LooksAt fields asked
 desks fields asked none e = at_desks (empty fields none) (same (Desks None) asked (named_by (Some (Desks None)) asked e))
 
--- Words to find are those of the field `find`.
+-- If the fields have the name `find` alone, and `found_named` gives `asked`, they ask for words to find.
 found : (fields : List Pair) (asked : Asked) → are_named find_names fields ≡ true → or_fields (found_named fields) ≡ Ok asked
     → LooksAt fields asked
 found fields asked named e =
     let words = bound (only_named (codes "find") fields) _ asked (named_by (found_named fields) asked e) in
     at_found words.0 named words.1.0 (same _ asked words.1.1)
 
--- The page of a loan is that of the loan that the fields name.
+-- If the fields have names of a loan alone, and `page_named` gives `asked`, they ask for its page.
 page : (fields : List Pair) (asked : Asked) → are_named loan_names fields ≡ true → or_fields (page_named fields) ≡ Ok asked
     → LooksAt fields asked
 page fields asked named e =
     let loan = bound (loan_named fields) _ asked (named_by (page_named fields) asked e) in
     at_loan loan.0 named loan.1.0 (same _ asked loan.1.1)
 
--- A slip is that of the loan that the fields name.
+-- If the fields have names of a slip alone, and `slip_named` gives `asked`, they ask for the slip.
 slip : (fields : List Pair) (asked : Asked) → are_named slip_names fields ≡ true → or_fields (slip_named fields) ≡ Ok asked
     → LooksAt fields asked
 slip fields asked named e =
@@ -71,7 +76,7 @@ slip fields asked named e =
     let loan = bound (loan_named fields) _ asked slip.1 in
     at_slip loan.0 page.0 named page.1.0 page.1.1 loan.1.0 (same _ asked loan.1.1)
 
--- Figures are those of the days that the fields name.
+-- If the fields have names of figures alone, and `figures_named` gives `asked`, they ask for figures.
 figures : (fields : List Pair) (asked : Asked) → are_named figures_names fields ≡ true
     → or_fields (figures_named fields) ≡ Ok asked → LooksAt fields asked
 figures fields asked named e =
@@ -79,11 +84,12 @@ figures fields asked named e =
     let last = bound (day_named (codes "to") fields) _ asked first.1.1 in
     at_figures first.0 last.0 named first.1.0 last.1.0 (same _ asked last.1.1)
 
--- A refusal asks for nothing.
+-- A refusal asks for nothing: it is never `Ok asked`.
 refused : (fields : List Pair) (asked : Asked) (refusal : VisitFault) → Err refusal ≡ Ok asked → LooksAt fields asked
 refused fields asked refusal e = search rules
 
--- What a query asks for.
+-- If `looked_of fields` is `Ok asked`, the fields ask for `asked` as one of the five pages (`LooksAt`). The tests of
+-- `looked_of` are taken in their order.
 pub looks_at : (fields : List Pair) (asked : Asked) → looked_of fields ≡ Ok asked → LooksAt fields asked
 looks_at fields asked e =
     ⊎_elim (λ at. desks fields asked at.0 at.1) (λ e.
@@ -97,7 +103,7 @@ looks_at fields asked e =
     (either (are_named find_names fields) (or_fields (found_named fields)) _ asked e))
     (either (length fields == 0) (or_fields (Some (Desks None))) _ asked e)
 
--- A query asks for no change.
+-- If the fields of a query ask for `asked`, it is no change.
 pub looks_change_nothing : (fields : List Pair) (asked : Asked) → LooksAt fields asked → is_change asked ≡ false
 looks_change_nothing fields asked (at_desks none is) = ap is_change is
 looks_change_nothing fields asked (at_found words named found is) = ap is_change is
@@ -105,20 +111,20 @@ looks_change_nothing fields asked (at_loan loan named loaned is) = ap is_change 
 looks_change_nothing fields asked (at_slip loan page named paged slips loaned is) = ap is_change is
 looks_change_nothing fields asked (at_figures from to named first last is) = ap is_change is
 
--- A query that asks for something has some of the known names, each once.
+-- All fields have names of `names`. Each of these is on one field, and is known in queries.
 pub record IsTidy (fields : List Pair) : Type 0 where
   pub names : List (List ℕ)
   pub named : are_named names fields ≡ true
   pub once : are_once names fields ≡ true
   pub known : list_all (λ name. is_among name query_names) names ≡ true
 
--- The day in a field is in one field alone.
+-- If the fields name a day by `name`, one field alone has this name.
 day_once : (name : List ℕ) (fields : List Pair) (day : Date) → day_named name fields ≡ Some day
     → (count_named name fields == 1) ≡ true
 day_once name fields day e =
     let text = bound (only_named name fields) _ day e in only_once name fields text.0 text.1.0
 
--- A query that asks for something is tidy.
+-- If the fields of a query ask for something, they are tidy. For each page, `names` are those of its fields.
 is_tidy : (fields : List Pair) (asked : Asked) → LooksAt fields asked → IsTidy fields
 is_tidy fields asked (at_desks none is) =
     record { names = []; named = subst (λ fields. are_named [] fields ≡ true) (sym none) refl; once = refl; known = refl }
@@ -157,7 +163,7 @@ stray_looks_at_nothing fields asked name looks some stray =
     let one = one_of tidy.names name fields tidy.named some in
     not_both (is_among name query_names) (within tidy.names query_names name tidy.known one) stray
 
--- No fields have no name.
+-- If there are no fields, none has `name`.
 pub none_counts : (fields : List Pair) (name : List ℕ) → fields ≡ [] → 0 < count_named name fields → ⊥
 none_counts fields name none some =
     let none_here : 0 < count_named name [] = subst (λ fields. 0 < count_named name fields) none some in
@@ -194,7 +200,7 @@ one_value : {X : Type 0} (o : Option X) (one other : X) → o ≡ Some one → o
 one_value (Some x) one other first second = search rules
 one_value None one other first second = search rules
 
--- Words to find are those of the only field `find`.
+-- If a query asks for the desks, and its only field `find` has `words`, `find` is these words.
 pub finds_these : (fields : List Pair) (find : Option (List ℕ)) (words : List ℕ) → LooksAt fields (Desks find)
     → only_named (codes "find") fields ≡ Some words → find ≡ Some words
 finds_these fields find words (at_desks none is) here =
@@ -206,7 +212,7 @@ finds_these fields find words (at_loan loan named loaned is) here = search (rule
 finds_these fields find words (at_slip loan page named paged slips loaned is) here = search (rules, is)
 finds_these fields find words (at_figures from to named first last is) here = search (rules, is)
 
--- A query that names a page names the slip.
+-- If a query asks for something, and its only field `page` has the text `page`, this text is "slip".
 pub page_is_slip : (fields : List Pair) (asked : Asked) (page : List ℕ) → LooksAt fields asked
     → only_named (codes "page") fields ≡ Some page → bytes_eq page (codes "slip") ≡ true
 page_is_slip fields asked page (at_desks none is) here =
@@ -220,7 +226,7 @@ page_is_slip fields asked page (at_slip loan other named paged slips loaned is) 
 page_is_slip fields asked page (at_figures from to named first last is) here =
     absurd (no_stranger figures_names (codes "page") fields named (only_counts (codes "page") fields page here) refl)
 
--- A query for the page of a loan names no page.
+-- If a query asks for the page of a loan, it has no field `page`.
 pub loan_has_no_page : (fields : List Pair) (loan : LoanAsked) → LooksAt fields (Loan loan)
     → 0 < count_named (codes "page") fields → ⊥
 loan_has_no_page fields loan (at_desks none is) page = none_counts fields (codes "page") none page
@@ -232,7 +238,7 @@ loan_has_no_page fields loan (at_slip other name named paged slips loaned is) pa
 loan_has_no_page fields loan (at_figures from to named first last is) page =
     no_stranger figures_names (codes "page") fields named page refl
 
--- A query for a slip names a page.
+-- If a query asks for a slip, it has a field `page`.
 pub slip_has_page : (fields : List Pair) (loan : LoanAsked) → LooksAt fields (Slip loan) → 0 < count_named (codes "page") fields
 slip_has_page fields loan (at_desks none is) = search (rules, is)
 slip_has_page fields loan (at_found words named found is) = search (rules, is)

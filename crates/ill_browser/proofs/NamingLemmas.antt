@@ -11,35 +11,35 @@ use Rattle.ill_browser.specs.BadAsking.{is_among}
 use Rattle.ill_browser.specs.Fields.{Pair, are_named, count_named, first_named, is_named, only_named}
 use Rattle.ill_browser.specs.Wanted.{Asked, LoanAsked, ◌>>=◌, loan_named, or_fields}
 
--- What is bound is the value of a first, given to the next.
+-- If `first >>= next` is `Some b`, `first` has a value `a`, and `next a` is `Some b`.
 pub bound : {A B : Type 0} (first : Option A) (next : A → Option B) (b : B) → (first >>= next) ≡ Some b
     → (a : A) × ((first ≡ Some a) × (next a ≡ Some b))
 bound (Some a) next b e = (a, (refl, e))
 bound None next b e = search rules
 
--- What is asked for by fields, they name.
+-- If `or_fields named` is `Ok asked`, `named` is `Some asked`.
 pub named_by : (named : Option Asked) (asked : Asked) → or_fields named ≡ Ok asked → named ≡ Some asked
 named_by (Some named) asked e = search rules
 named_by None asked e = search rules
 
--- A choice gave its first result, or its other.
+-- If a choice gives `Ok x`, its test is true and `one` is `Ok x`, or `other` is `Ok x`.
 pub either : {X : Type 0} (test : Bool) (one other : Result X VisitFault) (x : X) → (if test then one else other) ≡ Ok x
     → ((test ≡ true) × (one ≡ Ok x)) ⊎ (other ≡ Ok x)
 either true one other x e = inl (refl, e)
 either false one other x e = inr e
 
--- A value is no absence.
+-- No option is both `Some x` and None.
 pub some_is_none : {X : Type 0} (x : X) (o : Option X) → o ≡ Some x → o ≡ None → ⊥
 some_is_none x (Some y) some none = search rules
 some_is_none x None some none = search rules
 
--- A value that a test let through passed it.
+-- If a choice between `o` and None gives `Some x`, its test is true and `o` is `Some x`.
 pub if_some : {X : Type 0} (test : Bool) (o : Option X) (x : X) → (if test then o else None) ≡ Some x → (test ≡ true)
     × (o ≡ Some x)
 if_some true o x e = (refl, e)
 if_some false o x e = search rules
 
--- Fields with an only value of a name have this name once.
+-- If the only field with `name` has a value, one field alone has this name.
 pub only_once : (name : List ℕ) (fields : List Pair) (text : List ℕ) → only_named name fields ≡ Some text
     → (count_named name fields == 1) ≡ true
 only_once name fields text e = (if_some (count_named name fields == 1) (first_named name fields) text e).0
@@ -48,12 +48,12 @@ only_once name fields text e = (if_some (count_named name fields == 1) (first_na
 one_counts : (count : ℕ) → (count == 1) ≡ true → 0 < count
 one_counts count one = grind (arith, nat_tests, one)
 
--- Fields with an only value of a name have this name.
+-- If the only field with `name` has a value, some field has this name.
 pub only_counts : (name : List ℕ) (fields : List Pair) (text : List ℕ) → only_named name fields ≡ Some text
     → 0 < count_named name fields
 only_counts name fields text e = one_counts (count_named name fields) (only_once name fields text e)
 
--- The same for one field more, which has the name or not.
+-- If `one_of` holds for `fields`, it holds for `field ∷ fields`. `is` says if `field` has the name.
 counted_more : (names : List (List ℕ)) (name : List ℕ) (field : Pair) (fields : List Pair) (is : Bool)
     → (0 < count_named name fields → is_among name names ≡ true) → is_named name field ≡ is
     → list_any (λ known. is_named known field) names ≡ true → 0 < count_named name (field ∷ fields) → is_among name names ≡ true
@@ -61,12 +61,12 @@ counted_more names name field fields true rest same one some =
     subst (λ text. is_among text names ≡ true) ((bytes_eq-Decides field.0 name).0 same) one
 counted_more names name field fields false rest same one some = rest (subst (λ count. 0 < count) (simp (same) refl) some)
 
--- A conjunction is true at both sides.
+-- If a conjunction is true, both its sides are.
 and_both : (a b : Bool) → (a && b) ≡ true → (a ≡ true) × (b ≡ true)
 and_both true b e = (refl, e)
 and_both false b e = search rules
 
--- A name that a field has is one of the names that all fields have.
+-- If each field has one of `names`, a `name` that a field has is one of them.
 pub one_of : (names : List (List ℕ)) (name : List ℕ) (fields : List Pair) → are_named names fields ≡ true
     → 0 < count_named name fields → is_among name names ≡ true
 one_of names name [] named some = search (arith, rules)
@@ -74,18 +74,18 @@ one_of names name (field ∷ fields) named some =
     let both = and_both (list_any (λ known. is_named known field) names) (are_named names fields) named in
     counted_more names name field fields (is_named name field) (one_of names name fields both.1) refl both.0 some
 
--- No Bool is both.
+-- No Bool is both true and false.
 pub not_both : (b : Bool) → b ≡ true → b ≡ false → ⊥
 not_both true is is_not = search rules
 not_both false is is_not = search rules
 
--- A name that is none of the names that all fields have is on no field.
+-- If each field has one of `names`, no field has a `name` that is none of them.
 pub no_stranger : (names : List (List ℕ)) (name : List ℕ) (fields : List Pair) → are_named names fields ≡ true
     → 0 < count_named name fields → is_among name names ≡ false → ⊥
 no_stranger names name fields named some stranger =
     not_both (is_among name names) (one_of names name fields named some) stranger
 
--- A name is among names if it is the first of some of them, or among the others.
+-- If `known` and the names after it are among `all`, `name` is too, if it is one of these.
 among_first : (name known : List ℕ) (all : List (List ℕ)) (same other among : Bool) → bytes_eq name known ≡ same
     → (other ≡ true → is_among name all ≡ true) → among ≡ true → is_among known all ≡ among → (same || other) ≡ true
     → is_among name all ≡ true
@@ -93,7 +93,7 @@ among_first name known all true other among same rest is e one =
     subst (λ text. is_among text all ≡ true) (sym ((bytes_eq-Decides name known).0 same)) (e ∙ is)
 among_first name known all false other among same rest is e one = rest one
 
--- A name that is among some of the names is among all.
+-- If each of `names` is among `all`, a `name` that is among `names` is among `all`.
 pub within : (names all : List (List ℕ)) (name : List ℕ) → list_all (λ known. is_among known all) names ≡ true
     → is_among name names ≡ true → is_among name all ≡ true
 within [] all name known one = search rules
@@ -110,13 +110,13 @@ are_once names fields = list_all (λ name. count_named name fields == 1) names
 pub not_twice : (count : ℕ) → (count == 1) ≡ true → 1 < count → ⊥
 not_twice count one more = grind (arith, nat_tests, one, more)
 
--- The same for one name more.
+-- If `same || other` and `once && rest` are true, `same` and `once` are, or `other` and `rest` are.
 among_more : (name known : List ℕ) (same other once rest : Bool) → (same || other) ≡ true → (once && rest) ≡ true
     → ((same ≡ true) × (once ≡ true)) ⊎ ((other ≡ true) × (rest ≡ true))
 among_more name known true other once rest one all = inl (refl, (and_both once rest all).0)
 among_more name known false other once rest one all = inr (one, (and_both once rest all).1)
 
--- No name is on two fields, if it is one of the names that are each on one.
+-- If each of `names` is on one field alone, no `name` among them is on two.
 once_not_twice : (names : List (List ℕ)) (name : List ℕ) (fields : List Pair) → are_once names fields ≡ true
     → is_among name names ≡ true → 1 < count_named name fields → ⊥
 once_not_twice [] name fields once one more = search rules
@@ -128,7 +128,7 @@ once_not_twice (known ∷ names) name fields once one more =
     (among_more name known (bytes_eq name known) (is_among name names) (count_named known fields == 1) (are_once names fields)
     one once)
 
--- Fields with these names alone, each once, have no name twice.
+-- If each field has one of `names`, and each of these is on one field, no `name` is on two.
 pub no_doubled : (names : List (List ℕ)) (name : List ℕ) (fields : List Pair) → are_named names fields ≡ true
     → are_once names fields ≡ true → 1 < count_named name fields → ⊥
 no_doubled names name fields named once more =
@@ -140,7 +140,7 @@ pub record HasLoan (fields : List Pair) : Type 0 where
   pub group : (count_named (codes "group") fields == 1) ≡ true
   pub transaction : (count_named (codes "transaction") fields == 1) ≡ true
 
--- Fields that name a loan have its parts.
+-- If the fields name a loan, its desk, group and transaction are each on one field alone.
 pub has_loan : (fields : List Pair) (loan : LoanAsked) → loan_named fields ≡ Some loan → HasLoan fields
 has_loan fields loan e =
     let desk = bound (only_named (codes "desk") fields) _ loan e in

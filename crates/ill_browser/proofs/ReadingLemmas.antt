@@ -1,4 +1,4 @@
--- Proves how many bytes are read of a request.
+-- Proves that at most 4,096 bytes are read of a request.
 use Rattle.std.proofs.Common.{◌≡◌, ◌≤◌, inl, inr, ℕ, List, [], length, Option, Some, None, Result, Ok, Err, refl, sym, subst}
 use Rattle.std.proofs.Common.{arith}
 use Rattle.std.specs.Io.KnownBytes.{Consumes}
@@ -10,20 +10,20 @@ use Rattle.ill_browser.specs.Visit.{RulesShown, VisitShown, body_size}
 use Rattle.ill_browser.specs.Wanted.{Answers, Asked, BreaksOff}
 use Rattle.ill_browser.proofs.AskingLemmas.{sized_few}
 
--- An input that lost no bytes.
+-- An input that stays as it was lost no bytes.
 all_left : (left : Option (List ℕ)) → Consumes left left []
 all_left None = tt
 all_left (Some bytes) = refl
 
--- At most 4,096 bytes were read.
+-- At most 4,096 bytes were read of `left`, and `rest` is what remains of it.
 abbrev pub ReadsFew : (left rest : Option (List ℕ)) → Type 0
 ReadsFew left rest = (body : List ℕ) × (length body ≤ 4096) × Consumes left rest body
 
--- An input that stays lost few bytes.
+-- If the input stayed, at most 4,096 bytes were read: none.
 stays : (left rest : Option (List ℕ)) → rest ≡ left → ReadsFew left rest
 stays left rest e = ([], omega arith, subst (λ rest. Consumes left rest []) (sym e) (all_left left))
 
--- A body that did not break off, though it was not read, lost no bytes.
+-- If a body was not read (`BreaksOff`) and the result is not `Cut`, no bytes were read: memory ran out.
 broken : (size : ℕ) (left rest : Option (List ℕ)) (result : Result Wanted VisitFault) → BreaksOff size left rest result
     → (result ≡ Err Cut → ⊥) → ReadsFew left rest
 broken size left rest (Err OutOfMemory) breaks whole = stays left rest breaks
@@ -38,7 +38,7 @@ broken size left rest (Err NoLength) breaks whole = absurd breaks
 broken size left rest (Err TooLong) breaks whole = absurd breaks
 broken size left rest (Err Fields) breaks whole = absurd breaks
 
--- A request whose sizes are few loses few bytes.
+-- If `size` is at most 4,096 or a refusal, and the result is not `Cut`, few bytes were read.
 read_few : (size : Result ℕ VisitFault) (wanted : List ℕ → Result Asked VisitFault) (left rest : Option (List ℕ))
     (result : Result Wanted VisitFault) → ((n : ℕ) → size ≡ Ok n → n ≤ 4096) → Answers size wanted left rest result
     → (result ≡ Err Cut → ⊥) → ReadsFew left rest

@@ -8,7 +8,7 @@ use Rattle.ill_browser.specs.declared.fault.VisitFault.TheVariants.{NoPage, Meth
 use Rattle.ill_browser.specs.declared.visit.Rules.{Rules}
 use Rattle.ill_browser.specs.declared.visit.Visit.{Visit}
 
--- The texts of the environment that count. A text that is not there is empty.
+-- The texts of the environment that count: those of `Visit` (`src/visit.rt`). A text that is not there is empty.
 pub record VisitShown : Type 0 where
   pub method : List ℕ
   pub path : List ℕ
@@ -71,7 +71,7 @@ has_user rules v = rules.is_open || not (length v.user == 0)
 abbrev pub is_form : VisitShown → Bool
 is_form v = bytes_eq v.content_type (codes "application/x-www-form-urlencoded")
 
--- Returns true if `text` is decimal digits.
+-- Returns true if `text` has bytes, and each is a decimal digit.
 abbrev pub is_numeral : List ℕ → Bool
 is_numeral text = not (length text == 0) && list_all is_ascii_digit text
 

@@ -141,7 +141,7 @@ figures_named fields = do
   to ← day_named (codes "to") fields
   Some (Figures from to)
 
--- Returns what is asked for, or the refusal if nothing is.
+-- Returns what is asked for, or the refusal `Fields` if nothing is.
 abbrev pub or_fields : Option Asked → Result Asked VisitFault
 or_fields (Some asked) = Ok asked
 or_fields None = Err Fields
@@ -175,7 +175,7 @@ asked_by v body =
     else if length v.query == 0 then posted_of (fields_in body)
     else Err Fields
 
--- Returns what a request with this body asks for, if it is to have `size` bytes or is refused.
+-- Returns what `body` asks for if its length is the size, or else `Cut`. A refusal in place of the size stays.
 abbrev pub asked_with : Result ℕ VisitFault → VisitShown → (body : List ℕ) → Result Asked VisitFault
 asked_with (Ok size) v body = if length body == size then asked_by v body else Err Cut
 asked_with (Err refusal) v body = Err refusal
@@ -184,32 +184,34 @@ asked_with (Err refusal) v body = Err refusal
 abbrev pub wanted_of : RulesShown → VisitShown → (body : List ℕ) → Result Asked VisitFault
 wanted_of rules v body = asked_with (body_size rules v) v body
 
--- The result is what was asked for, or its refusal. Or memory ran out.
+-- If the result has a value, `asked` is what it asks for. If it has a refusal, `asked` is that refusal. `OutOfMemory`
+-- says nothing of `asked`.
 abbrev pub Reads : Result Asked VisitFault → Result Wanted VisitFault → Type 0
 Reads asked (Ok wanted) = asked ≡ Ok (asked_of wanted)
 Reads asked (Err OutOfMemory) = Unit {0}
 Reads asked (Err refusal) = asked ≡ Err refusal
 
--- The body broke off, or could not be read. Or memory ran out, and nothing was read.
+-- The result is `Cut`, and the body was to have bytes. Or it is `OutOfMemory`, and nothing was read.
 abbrev pub BreaksOff : {X : Type 0} → (size : ℕ) → (left rest : Option (List ℕ)) → Result X VisitFault → Type 0
 BreaksOff size left rest (Err Cut) = 0 < size
 BreaksOff size left rest (Err OutOfMemory) = rest ≡ left
 BreaksOff size left rest other = ⊥
 
--- The `size` bytes of the body were read, and the result is what was asked with them. Or they could not be read.
+-- The `size` bytes of the body were read, and the result is what `wanted` gives for them. Or the body broke off.
 abbrev pub ReadsBody : (size : ℕ) → (List ℕ → Result Asked VisitFault) → (left rest : Option (List ℕ)) →
     Result Wanted VisitFault → Type 0
 ReadsBody size wanted left rest result =
     ((body : List ℕ) × (length body ≡ size) × Consumes left rest body × Reads (wanted body) result)
     ⊎ BreaksOff size left rest result
 
--- A request has this result. It was refused, and nothing was read. Or exactly its body was read.
+-- If the first argument is a refusal, it is the result, and nothing was read. If it is a size, a body of that size was
+-- read, or it broke off.
 abbrev pub Answers : Result ℕ VisitFault → (List ℕ → Result Asked VisitFault) → (left rest : Option (List ℕ)) →
     Result Wanted VisitFault → Type 0
 Answers (Err refusal) wanted left rest result = (result ≡ Err refusal) × (rest ≡ left)
 Answers (Ok size) wanted left rest result = ReadsBody size wanted left rest result
 
--- The result is what the fields name, or the refusal `Fields` if they name none. Or memory ran out.
+-- If the result has a value, `named` is what it shows. If it is `Fields`, `named` is None. Else memory ran out.
 abbrev pub ReadsNamed : {X V : Type 0} → (shown : X → V) → Option V → Result X VisitFault → Type 0
 ReadsNamed shown named (Ok value) = named ≡ Some (shown value)
 ReadsNamed shown named (Err Fields) = named ≡ None

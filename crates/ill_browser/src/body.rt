@@ -19,7 +19,8 @@ pub const BODY_LIMIT: usize = 4096;
 /// The most digits in the length of a body.
 const LENGTH_DIGITS: usize = 4;
 
-/// Returns the number of bytes that `text` says, or its refusal.
+/// Returns the number of bytes that `text` says. Refuses a text that is no numeral, has more than four digits, or says
+/// more than `BODY_LIMIT`.
 pub(crate) fn size_said(text: &[u8]) -> Result<usize, VisitFault>
     ensures { result ≡ size_said text.now }
 {
@@ -43,7 +44,7 @@ fn size_within(size: usize) -> Result<usize, VisitFault>
     }
 }
 
-/// Returns true if `text` is decimal digits.
+/// Returns true if `text` has bytes, and each is a decimal digit.
 fn is_numeral(text: &[u8]) -> bool
     ensures value { result ≡ is_numeral text.now }
     ensures digits { OnTrue result (EachIndex text.now (λ k. IsInRange 48 57 (slice_index text.now k))) }
@@ -51,7 +52,7 @@ fn is_numeral(text: &[u8]) -> bool
     !text.is_empty() && is_digits(text)
 }
 
-/// Returns true if each byte is a decimal digit.
+/// Returns true if each byte of `text` is a decimal digit.
 fn is_digits(text: &[u8]) -> bool
     ensures value { result ≡ list_all is_ascii_digit text.now }
     ensures each { OnTrue result (EachIndex text.now (λ k. IsInRange 48 57 (slice_index text.now k))) }
@@ -59,7 +60,7 @@ fn is_digits(text: &[u8]) -> bool
     text.iter().all(|byte| byte.is_ascii_digit())
 }
 
-/// Returns the value of decimal digits.
+/// Returns the value of `digits`: at most four decimal digits, so that it fits.
 fn decimal(digits: &[u8]) -> usize
     requires few { length digits.now ≤ 4 }
     requires digits { EachIndex digits.now (λ k. IsInRange 48 57 (slice_index digits.now k)) }
@@ -72,7 +73,8 @@ fn decimal(digits: &[u8]) -> usize
     value
 }
 
-/// Reads `size` bytes.
+/// Reads `size` bytes from `reader`. If it fails, the body broke off, or could not be read. Or memory ran out before a
+/// byte was read.
 pub(crate) fn read_body<R: Read>(
     alloc: Global,
     size: usize,

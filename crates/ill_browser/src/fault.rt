@@ -42,6 +42,7 @@ pub enum VisitFault {
     OutOfMemory,
 }
 
+// A failed allocation is the fault `OutOfMemory`.
 impl From<AllocError> for VisitFault {
     ghost from_gives = { λ _ refusal. refusal ≡ OutOfMemory };
 
@@ -50,6 +51,7 @@ impl From<AllocError> for VisitFault {
     }
 }
 
+// A failed allocation that gives back its value is the fault `OutOfMemory` too.
 impl<T: Drop> From<AllocFailed<T>> for VisitFault {
     ghost from_gives = { λ _ refusal. refusal ≡ OutOfMemory };
 

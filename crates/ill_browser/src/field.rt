@@ -30,14 +30,14 @@ pub(crate) fn read_fields<'a>(alloc: Global, form: &'a [u8]) -> Result<Vec<Field
     Ok(fields)
 }
 
-/// Returns the text that a value of a form stands for.
+/// Returns the text that a value of a form stands for. Bytes that are no UTF-8 become U+FFFD.
 fn text(alloc: Global, value: &[u8]) -> Result<String, OutOfMemory>
     ensures { IfOk result (λ text. string_bytes text ≡ text_of value.now) }
 {
     decode(alloc, value)?.into_owned(alloc)
 }
 
-/// Returns the value of the only field with this name.
+/// Returns the value of the only field with this name. If two fields have it, or none has, it returns None.
 pub(crate) fn only<'a>(fields: &'a [Field<'_>], name: &str) -> Option<&'a str>
     ensures { option_map (λ value. value.now) result ≡ only_named name.now (map field_shown fields.now) }
 {

@@ -87,7 +87,7 @@ fn form_size(rules: &Rules<'_>, visit: &Visit<'_>) -> Result<usize, VisitFault>
     }
 }
 
-/// Returns true if a page of this program sent the request. The browser says where it came from.
+/// Returns true if a page of this program sent the request. `site` says so, or `origin` if `site` is empty.
 fn is_own(rules: &Rules<'_>, visit: &Visit<'_>) -> bool
     ensures { result ≡ is_own (rules_shown rules.now) (visit_shown visit.now) }
 {

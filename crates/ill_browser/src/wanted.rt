@@ -80,7 +80,8 @@ const ACT_NAMES: [&str; 6] = ["desk", "group", "transaction", "stamp", "word", "
 /// The names of the fields in the form of a note.
 const NOTE_NAMES: [&str; 4] = ["desk", "group", "transaction", "note"];
 
-/// Reads what a request asks for. If it is no refusal before, exactly the bytes of its body are read from `reader`.
+/// Reads what a request asks for. If `body_size` refuses it, nothing is read from `reader`. Else exactly its body is
+/// read, unless that breaks off.
 pub fn read_wanted<R: Read>(
     alloc: Global,
     rules: &Rules<'_>,

@@ -30,7 +30,8 @@ ten_read d a b c e x f g y h i first second found =
     let digits = read.1 in
     (read.0, inr cc)
 
--- If the digits of a text with hyphens are read as `d`, it is the text of `d` with hyphens.
+-- If the digits of a text with hyphens are read as `d`, it is the text of `d` with hyphens. Its ten bytes are named one
+-- after another, for `ten_read`.
 dashed_read : (text : List ℕ) (d : Date) → is_dashed text ≡ true
     → read_date (slice_index text 0 ∷ slice_index text 1 ∷ slice_index text 2 ∷ slice_index text 3
     ∷ slice_index text 5 ∷ slice_index text 6 ∷ slice_index text 8 ∷ slice_index text 9 ∷ []) ≡ Ok d
@@ -62,6 +63,7 @@ dashed_read text d is found =
 pub text_read : (text : List ℕ) (d : Date) → read_day text ≡ Ok d → IsTextOf d text
 text_read text d found = go (is_dashed text) refl found
   where
+    -- `b` says if `text` has the shape of a day with hyphens. Each shape is one of the two texts.
     go : (b : Bool) → is_dashed text ≡ b
         → read_date (without_dashes text (if b then Some (slice_index text 0 ∷ slice_index text 1 ∷ slice_index text 2
         ∷ slice_index text 3 ∷ slice_index text 5 ∷ slice_index text 6 ∷ slice_index text 8 ∷ slice_index text 9 ∷ [])

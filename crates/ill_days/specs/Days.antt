@@ -17,7 +17,7 @@ undashed text =
     ∷ slice_index text 5 ∷ slice_index text 6 ∷ slice_index text 8 ∷ slice_index text 9 ∷ [])
     else None
 
--- Returns `text` without the hyphens of a day, if it has them.
+-- Returns `digits`, which are the bytes of `text` beside its hyphens, or `text` itself if there are none.
 abbrev pub without_dashes : List ℕ → Option (List ℕ) → List ℕ
 without_dashes text None = text
 without_dashes text (Some digits) = digits

@@ -1,4 +1,4 @@
--- Proves what equal stamps say of two sides.
+-- Proves what equal stamps say of two sides. So an action that is done changes the stamp.
 use Rattle.std.proofs.Common.{◌≡◌, ◌≤◌, ◌+◌, ◌*◌, ℕ, List, ◌++◌, length, drop, Ok, Err, Result, refl, sym, ap}
 use Rattle.std.proofs.Common.{subst, ◌∙◌, arith, rules}
 use Rattle.std.specs.Prelude.{codes}
@@ -28,7 +28,7 @@ use Rattle.ill_record.specs.Side.{acts, done_by, issued_of}
 use Rattle.ill_record.specs.Records.{record_encoding}
 use Rattle.ill_post.specs.Stamp.{side_stamp}
 
--- The rests of equal texts are equal, if their fronts have one length.
+-- If `a ++ c` equals `b ++ d`, and `a` is as long as `b`, `c` equals `d`.
 same_rest : (a b c d : List ℕ) → length a ≡ length b → a ++ c ≡ b ++ d → c ≡ d
 same_rest a b c d same e =
     sym (drop-append_seam a c) ∙ ap (drop (length a)) e ∙ ap (λ n. drop n (b ++ d)) same ∙ drop-append_seam b d
@@ -37,7 +37,7 @@ same_rest a b c d same e =
 text_size : (bytes : List ℕ) → length (encode_lower (sha256 bytes)) ≡ 64
 text_size bytes = length-encode_with lower_digits (sha256 bytes) ∙ ap (λ n. 2 * n) (length-sha256 bytes)
 
--- A loan that is held has not the stamp of one that is not.
+-- The stamp of `side` is not "new", that of a loan which is not held: it is longer.
 pub new_is_no_stamp : (side : Side) → codes "new" ≡ side_stamp side → ⊥
 unfolding side_stamp
 new_is_no_stamp side e =
@@ -45,7 +45,8 @@ new_is_no_stamp side e =
     let sizes = ap length e ∙ length-append (encode_lower (sha256 (record_encoding side))) _ in
     omega (arith, sizes, size)
 
--- Two stamps that are equal count the same number of messages.
+-- If `s` and `t` have one stamp and at most 255 messages each, they have equally many messages. Their digests have one
+-- length, so the counts after these are equal.
 pub same_count : (s t : Side) → length (issued_of s) ≤ 255 → length (issued_of t) ≤ 255 → side_stamp s ≡ side_stamp t
     → length (issued_of s) ≡ length (issued_of t)
 unfolding side_stamp
@@ -54,7 +55,7 @@ same_count s t few-s few-t e =
     (append_cancel_left (codes "-") _ _
     (same_rest _ _ _ _ (text_size (record_encoding s) ∙ sym (text_size (record_encoding t))) e))
 
--- The laws of actions: each issues one message, and none is beyond the 255th.
+-- What the laws of `ill_core` say of actions that are done. Each issues one message, and at most 255 are issued then.
 pub record Rows : Type 0 where
   pub wish_issues : (x new : RequesterRecord) (wish : Wish) → requester_actions.acts x wish ≡ Ok new
       → IssuesNext x.txn x.issued new.issued
@@ -64,7 +65,7 @@ pub record Rows : Type 0 where
   pub deed_few : (y new : ResponderRecord) (deed : Deed) (today : Date) → responder_actions.acts y deed today ≡ Ok new
       → length new.issued ≤ 255
 
--- If one more APDU is issued, the list is longer by one.
+-- If `new` is `old` and one APDU more (`IssuesNext`), it is longer by one.
 longer : (txn : Qualifiers) (old new : List Apdu) → IssuesNext txn old new → length new ≡ length old + 1
 longer txn old new more = ap length more.1 ∙ length-append old _
 
@@ -74,7 +75,7 @@ done_is : {R : Type 0} (make : R → Side) (r : Result R Refusal) (new : Side) �
 done_is make (Ok made) new e = (made, refl, search rules)
 done_is make (Err refusal) new e = search rules
 
--- An action that is done issues one more message, and none beyond the 255th.
+-- If `action` leads from `old` to `new`, one more message is issued, and at most 255 are issued.
 issues_one : Rows → (old new : Side) (action : Action) → acts old action ≡ Ok new
     → (length (issued_of new) ≡ length (issued_of old) + 1) × (length (issued_of new) ≤ 255)
 issues_one rows (sides.Requester x) new (actions.Wish wish) e =
@@ -88,7 +89,7 @@ issues_one rows (sides.Responder y) new (actions.Deed deed today) e =
 issues_one rows (sides.Requester x) new (actions.Deed deed today) e = search rules
 issues_one rows (sides.Responder y) new (actions.Wish wish) e = search rules
 
--- After an action that is done, the stamp is another one.
+-- If `action` leads from `old` to `new`, their stamps differ: they count different numbers of messages.
 pub another : Rows → (old new : Side) (action : Action) → acts old action ≡ Ok new → side_stamp old ≡ side_stamp new → ⊥
 another rows old new action e same =
     let one = issues_one rows old new action e in

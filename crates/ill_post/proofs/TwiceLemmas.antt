@@ -36,17 +36,17 @@ pub record Known : Type 0 where
   pub changes : (old new : Side) (action : Action) → acts old action ≡ Ok new → side_stamp old ≡ side_stamp new → ⊥
   pub grows : (old new : Side) → IsSideTransition old new → Grows old new
 
--- The idle side of a side is of its transaction.
+-- `idle_of side` is of the transaction of `side`.
 idle_txn : (side : Side) → txn_of (idle_of side) ≡ txn_of side
 idle_txn (sides.Requester x) = refl
 idle_txn (sides.Responder y) = refl
 
--- The idle side of a transaction is of this transaction.
+-- `idle_side role txn` is of the transaction `txn`.
 idle_is_of : (role : Role) (txn : Qualifiers) → txn_of (idle_side role txn) ≡ txn
 idle_is_of roles.Requester txn = refl
 idle_is_of roles.Responder txn = refl
 
--- An action that is done keeps the transaction.
+-- If `action` leads from `old` to `new`, they are of one transaction.
 keeps_txn : Known → (old new : Side) (action : Action) → acts old action ≡ Ok new → txn_of new ≡ txn_of old
 keeps_txn known old new action e =
     sym (idle_txn new) ∙ ap txn_of (known.grows old new (transitions.acted action e)).0 ∙ idle_txn old
@@ -57,22 +57,22 @@ keeps_txn known old new action e =
 abbrev side_of : DeskEntry → Side
 side_of held = held.side
 
--- The stamp of a loan is that of the side of its entry.
+-- The stamp for `txn` is that of the side in the entry found for `txn`. Without an entry it is "new".
 stamp_held : (txn : Qualifiers) (live : DeskContents)
     → stamp_for txn live ≡ stamp_of (option_map side_of (found_by txn_held txn live.held))
 unfolding side_with
 stamp_held txn live = ap stamp_of (found_mapped txn_held txn_of side_of (λ held. refl) txn live.held)
 
--- The sides of whole entries are these sides.
+-- The sides in the entries that `whole` makes of `all` are `all`.
 sides_of_whole : (all : List Side) → map side_of (map whole all) ≡ all
 sides_of_whole [] = refl
 sides_of_whole (side ∷ all) = ap (λ more. side ∷ more) (sides_of_whole all)
 
--- A save changes no stamp.
+-- A save changes no stamp: what it leaves (`whole_of`) has the stamp for `txn` that `live` had.
 stamp_saved : (txn : Qualifiers) (live : DeskContents) → stamp_for txn (whole_of (sides_held live)) ≡ stamp_for txn live
 stamp_saved txn live = ap (λ all. stamp_of (side_with txn all)) (sides_of_whole (map side_of live.held))
 
--- The stamp of a loan whose entry was put is that of the entry's side.
+-- If `entry` is of `txn` and is put into `live`, the stamp for `txn` is that of its side.
 stamp_put : (txn : Qualifiers) (live : DeskContents) (entry : DeskEntry) → txn_held entry ≡ txn
     → stamp_for txn (with_held live entry) ≡ side_stamp entry.side
 stamp_put txn live entry of_txn =
@@ -83,7 +83,8 @@ stamp_put txn live entry of_txn =
 
 -- ---- an action that was done
 
--- An action was done on an entry: that of its loan, or an idle one.
+-- The desk did `action` on the entry `held`: that of the loan of `txn`, or an idle one. Then it held `between`, in
+-- which the side of this entry is `after`.
 record Reached (live : DeskContents) (txn : Qualifiers) (action : Action) (between : DeskContents) : Type 0 where
   held : DeskEntry
   after : Side
@@ -91,26 +92,26 @@ record Reached (live : DeskContents) (txn : Qualifiers) (action : Action) (betwe
   done : acts held.side action ≡ Ok after
   put : between ≡ with_held live (record { side = after; released = held.released })
 
--- If an action of an entry is done, its contents have the side after it.
+-- If `acted` gives `between`, the result is a side `after`, and `between` is `live` with this side.
 acted_is : (live between : DeskContents) (held : DeskEntry) (result : Result Side Refusal) → acted live held result ≡ Ok between
     → (after : Side) × ((result ≡ Ok after) × (between ≡ with_held live (record { side = after; released = held.released })))
 acted_is live between held (Ok after) e = (after, (refl, search rules))
 acted_is live between held (Err refusal) e = search rules
 
--- The same, for the entry that was found.
+-- If `acts_reached` gives `between`, `call` found an entry `held`, and the action on it gives `between`.
 reached_is : (live between : DeskContents) (action : Action) (call : Result DeskEntry DeskFault)
     → acts_reached live action call ≡ Ok between
     → (held : DeskEntry) × ((call ≡ Ok held) × (acted live held (acts held.side action) ≡ Ok between))
 reached_is live between action (Ok held) e = (held, (refl, e))
 reached_is live between action (Err fault) e = search rules
 
--- An action of the other role is not done.
+-- If a choice between `done` and `WrongRole` gives `between`, `done` does.
 own_is : (same : Bool) (done : Result DeskContents DeskFault) (between : DeskContents)
     → (if same then done else Err (faults.Core WrongRole)) ≡ Ok between → done ≡ Ok between
 own_is true done between e = e
 own_is false done between e = search rules
 
--- An action that a desk has done was done on an entry.
+-- If a desk does `action` in the loan of `txn`, it does so on an entry (`Reached`).
 reached : (live between : DeskContents) (txn : Qualifiers) (action : Action) → desk_acts live txn action ≡ Ok between
     → Reached live txn action between
 reached live between txn action e =
@@ -119,7 +120,7 @@ reached live between txn action e =
     let put = acted_is live between there.0 (acts there.0.side action) there.1.1 in
     record { held = there.0; after = put.0; call = there.1.0; done = put.1.0; put = put.1.1 }
 
--- The entry of an action is that of its loan, or an idle one.
+-- The entry `held` of an action is the one that was found. If none was, `held` is the idle one.
 which_is : (may_begin has_room : Bool) (idle held : DeskEntry) (found : Option DeskEntry)
     → held_or_begun may_begin has_room idle found ≡ Ok held → (found ≡ Some held) ⊎ ((found ≡ None) × (held ≡ idle))
 which_is may_begin has_room idle held (Some there) e = inl (search rules)
@@ -127,7 +128,8 @@ which_is true true idle held None e = inr (refl, search rules)
 which_is true false idle held None e = search rules
 which_is false has_room idle held None e = search rules
 
--- The loan had another stamp before an action that was done.
+-- If an action was done, the stamp that its loan had before is not that of the side `after`. If the loan was not held,
+-- its stamp was "new".
 another : Known → (live between : DeskContents) (txn : Qualifiers) (action : Action) (r : Reached live txn action between)
     → stamp_for txn live ≡ side_stamp r.after → ⊥
 another known live between txn action r same =
@@ -138,7 +140,7 @@ another known live between txn action r same =
     (sym (stamp_held txn live ∙ ap (λ o. stamp_of (option_map side_of o)) none.0) ∙ same))
     (which_is _ _ _ _ _ r.call)
 
--- The entry of an action is of its transaction.
+-- The entry on which an action in the loan of `txn` was done is of `txn`.
 entry_txn : (live between : DeskContents) (txn : Qualifiers) (action : Action) (r : Reached live txn action between)
     → txn_of r.held.side ≡ txn
 entry_txn live between txn action r =
@@ -147,7 +149,7 @@ entry_txn live between txn action r =
     (λ none. ap txn_held none.1 ∙ idle_is_of live.role txn)
     (which_is _ _ _ _ _ r.call)
 
--- After an action that was done and saved, the loan has another stamp.
+-- If a desk does `action` in the loan of `txn` and is saved, the loan has another stamp than before.
 stale : Known → (live between : DeskContents) (txn : Qualifiers) (action : Action) → desk_acts live txn action ≡ Ok between
     → stamp_for txn live ≡ stamp_for txn (whole_of (sides_held between)) → ⊥
 stale known live between txn action e same =
@@ -159,29 +161,31 @@ stale known live between txn action e same =
 
 -- ---- a form that was sent
 
--- If a form was done, its action was.
+-- If `told acted` is `Done`, the action was done.
 told_done : (acted : Result (Unit {0}) DeskFault) → ◌≡◌ {A = Result Posted DeskFault} (Ok Done) (told acted)
     → (done : Unit {0}) × (acted ≡ Ok done)
 told_done (Ok done) e = (done, refl)
 told_done (Err fault) e = told_fault fault (is_refusal fault) e where
+  -- A fault is told as a refusal or stays a fault: it is never `Done`.
   told_fault : (fault : DeskFault) (refused : Bool)
       → ◌≡◌ {A = Result Posted DeskFault} (Ok Done) (if refused then Ok (Refused fault) else Err fault)
       → (done : Unit {0}) × (◌≡◌ {A = Result (Unit {0}) DeskFault} (Err fault) (Ok done))
   told_fault fault true e = search rules
   told_fault fault false e = search rules
 
--- A save that went well follows an action that was done, and leaves the desk whole.
+-- If the result is Ok, the action was done, and `new` holds what a save leaves of `between`.
 saved_is : (acted : Result (Unit {0}) DeskFault) (between new : DeskState) (done : Unit {0})
     → SavesAfter acted between (Ok done) new
     → ((was : Unit {0}) × (acted ≡ Ok was)) × (new.live ≡ whole_of (sides_held between.live))
 saved_is (Ok was) between new done saves = ((was, refl), saves.0)
 saved_is (Err fault) between new done saves = search rules
 
--- The form is not fresh if its stamp is another one.
+-- If the loan of `form` has another stamp than `form`, the form is not fresh.
 not_fresh : (form : FormShown) (live : DeskContents) → (stamp_for form.txn live ≡ form.stamp → ⊥) → is_fresh form live ≡ false
 not_fresh form live other = false_from_ne_true _ (λ is. other ((bytes_eq-Decides (stamp_for form.txn live) form.stamp).0 is))
 
--- After an action that was done and saved, a form with the stamp of before is not fresh.
+-- If `form` was fresh, and its action was done and saved, `form` is no longer fresh. `acted` is the action, `saved` the
+-- save, and `before` the stamp before them.
 after_done : Known → (form : FormShown) (action : Action) (old new : DeskState) (result : Result (Unit {0}) DeskFault)
     (done : Unit {0}) → is_fresh form old.live ≡ true → result ≡ Ok done → ActsAndSaves form.txn action old result new
     → is_fresh form new.live ≡ false
@@ -195,7 +199,7 @@ after_done known form action old new result done fresh was acts_and_saves =
     not_fresh form new.live (λ same. stale known old.live between form.txn action acted
     (before ∙ sym same ∙ ap (stamp_for form.txn) saved.1))
 
--- After a form that was done, it is not fresh.
+-- If `form` was fresh and was performed with the answer `Done`, it is no longer fresh.
 performed : Known → (form : FormShown) (action : Option Action) (old new : DeskState) → is_fresh form old.live ≡ true
     → Performs action form.txn old (Ok Done) new → is_fresh form new.live ≡ false
 performed known form None old new fresh performs = search rules
@@ -203,13 +207,13 @@ performed known form (Some action) old new fresh performs =
     let was = told_done performs.0 performs.2 in
     after_done known form action old new performs.0 was.0 fresh was.1 performs.1
 
--- The same, if it is open whether the form was fresh.
+-- If `PerformsIf` gives the answer `Done`, `form` is no longer fresh. A form that was not fresh is never `Done`.
 performed_if : Known → (form : FormShown) (fresh : Bool) (old new : DeskState) → is_fresh form old.live ≡ fresh
     → PerformsIf fresh form old (Ok Done) new → is_fresh form new.live ≡ false
 performed_if known form true old new fresh performs = performed known form form.action old new fresh performs
 performed_if known form false old new fresh performs = search rules
 
--- After a form that was done, it is not fresh.
+-- If `form` was sent and the answer is `Done`, it is no longer fresh.
 done_is_stale : Known → (form : FormShown) (old new : DeskState) → AnswersPost form old (Ok Done) new
     → is_fresh form new.live ≡ false
 done_is_stale known form old new answers =
@@ -218,7 +222,7 @@ done_is_stale known form old new answers =
     (λ memory. search rules)
     answers
 
--- A form that was done, and is sent again at once, changes nothing.
+-- If `form` is `Done` and is sent again at once, nothing changes. The answer is `Changed`, or memory ran out.
 pub twice : Known → (form : FormShown) (old new last : DeskState) (second : Result Posted DeskFault)
     → AnswersPost form old (Ok Done) new → AnswersPost form new second last
     → ((second ≡ Ok Changed) ⊎ (second ≡ Err faults.OutOfMemory)) × (last ≡ new)

@@ -31,7 +31,7 @@ pub record DeskState : Type 0 where
   pub live : DeskContents
   pub store : StoreState
 
--- Returns the state of a desk.
+-- Returns the state of a desk: what it holds, and the state of its store.
 abbrev pub state_of : {S : Type 0} → (S → StoreState) → DeskOf DeskContents S → DeskState
 state_of state desk = record { live = desk.live; store = state desk.store }
 
@@ -48,7 +48,8 @@ abbrev pub IsFreshness : FormShown → DeskContents → Result Bool DeskFault �
 IsFreshness form live (Ok is) = is ≡ is_fresh form live
 IsFreshness form live (Err fault) = fault ≡ OutOfMemory
 
--- After an action with this answer the desk was saved, if the action was done. Else nothing was.
+-- If the action was done, the desk `between` was saved, with this result. If it failed, its fault is the result, and
+-- nothing was saved.
 abbrev pub SavesAfter : Result (Unit {0}) DeskFault → DeskState → Result (Unit {0}) DeskFault → DeskState → Type 0
 SavesAfter (Ok done) between result new =
     (new.live ≡ held_after many_sides result between.live)
@@ -62,7 +63,7 @@ ActsAndSaves txn action old result new =
     × DeskActs many_sides old.live txn action acted between
     × SavesAfter acted (record old { live = between }) result new
 
--- Returns what came of an action.
+-- Returns the answer to a form whose action had this result. A refusal is an answer. Another fault stays one.
 abbrev pub told : Result (Unit {0}) DeskFault → Result Posted DeskFault
 told (Ok done) = Ok Done
 told (Err fault) = if is_refusal fault then Ok (Refused fault) else Err fault

@@ -55,7 +55,7 @@ pub fn post<S: Store, D: Write>(
     }
 }
 
-/// Returns true if the loan of `form` has its stamp.
+/// Returns true if the loan of `form` still has the stamp of the form.
 fn is_fresh<S: Store>(alloc: Global, desk: &Desk<S>, form: &Form<'_>) -> Result<bool, DeskFault>
     ensures { IsFreshness (form_shown form.now) desk.now.live result }
 {
@@ -104,7 +104,7 @@ fn act_and_save<S: Store, D: Write>(
     }
 }
 
-/// Returns what came of an action. A fault that is no refusal ends the visit.
+/// Returns the answer to a form whose action had the result `acted`. A refusal is an answer. Another fault stays one.
 fn told(acted: Result<(), DeskFault>) -> Result<Posted, DeskFault>
     ensures { result ≡ told acted }
 {

@@ -11,11 +11,11 @@ use Rattle.percent_encoding.specs.Percent.{percent_encode_byte}
 use Rattle.ill_report.specs.Link.{PlaceShown, named_text, place_text}
 use Rattle.ill_page.specs.Urls.{is_of_url}
 
--- A hexadecimal digit may stand in a URL.
+-- The glyph of a hexadecimal digit `d` may stand in a URL.
 glyph_of_url : (d : ℕ) → d < 16 → is_of_url (digit_glyph true d) ≡ true
 glyph_of_url d small = grind (arith, nat_tests)
 
--- A byte that is written as `%` and two digits may stand in a URL.
+-- The text `%` and two digits for `byte` may stand in a URL.
 escape_of_url : (byte : ℕ) → list_all is_of_url (percent_encode_byte byte) ≡ true
 unfolding percent_encode_byte
 escape_of_url byte =
@@ -23,18 +23,18 @@ escape_of_url byte =
     let low = glyph_of_url (byte % 16) (omega arith) in
     simp (high, low) refl
 
--- A byte that is written as it is may stand in a URL. So may what stands for another.
+-- What a form writes for `byte` may stand in a URL: the byte, `+` for a space, or an escape.
 either_of_url : (byte : ℕ) (is_same is_space : Bool) → is_unchanged byte ≡ is_same
     → list_all is_of_url (if is_same then byte ∷ [] else (if is_space then 43 ∷ [] else percent_encode_byte byte)) ≡ true
 either_of_url byte true is_space same = simp (same) refl
 either_of_url byte false true same = refl
 either_of_url byte false false same = escape_of_url byte
 
--- The text of a byte in a form may stand in a URL.
+-- The text that a form has for `byte` may stand in a URL.
 byte_of_url : (byte : ℕ) → list_all is_of_url (serialize_byte byte) ≡ true
 byte_of_url byte = either_of_url byte (is_unchanged byte) (byte == 32) refl
 
--- The text of a value in a form may stand in a URL.
+-- The text that a form has for `value` may stand in a URL: that of each byte may.
 value_of_url : (value : List ℕ) → list_all is_of_url (byte_serialize value) ≡ true
 unfolding byte_serialize
 value_of_url [] = refl
@@ -42,14 +42,15 @@ value_of_url (byte ∷ value) =
     list_all-append is_of_url (serialize_byte byte) (byte_serialize value)
     ∙ ap (λ first. first && list_all is_of_url (byte_serialize value)) (byte_of_url byte) ∙ value_of_url value
 
--- A name that may stand in a URL may do so with a value.
+-- If `name` may stand in a URL, `name` with the text of `value` after it may too.
 named_of_url : (name value : List ℕ) → list_all is_of_url name ≡ true → list_all is_of_url (named_text name value) ≡ true
 unfolding named_text
 named_of_url name value all =
     list_all-append is_of_url name (byte_serialize value)
     ∙ ap (λ first. first && list_all is_of_url (byte_serialize value)) all ∙ value_of_url value
 
--- The URL of a loan has such bytes alone.
+-- Each byte of the URL of the loan at `place` may stand in a URL. The URL has a name and a value for each of three
+-- parts.
 pub place_of_url : (place : PlaceShown) → list_all is_of_url (place_text place) ≡ true
 unfolding place_text
 place_of_url place =

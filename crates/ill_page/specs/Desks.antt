@@ -39,7 +39,7 @@ desks_begin today find = page_head_with STYLE.now today ++ (search_text (or_none
 
 -- ---- a new loan
 
--- Returns the group of the last loan, if there is a loan.
+-- Returns the group of a loan as the value of an input, or no text if there is no loan.
 abbrev pub group_of : Option Side → List ℕ
 group_of None = []
 group_of (Some side) = html_escaped (txn_of side).group

@@ -68,7 +68,7 @@ unfoldable pub form_text : FormShown → Verb → Inputs → List ℕ
 form_text form verb inputs =
     FORM.now ++ (loan_fields form.place ++ (act_fields form.stamp verb ++ shown_text form.today verb inputs))
 
--- Returns the forms of a verb.
+-- Returns the forms of `verb`, one for each of its inputs.
 abbrev pub verb_text : FormShown → Verb → List ℕ
 verb_text form verb = flat_map (form_text form verb) (inputs_of verb)
 

@@ -39,7 +39,7 @@ loan_seen shown = record {
 abbrev pub notice_text : List ℕ → List ℕ
 notice_text notice = if length notice == 0 then [] else ALERT.now ++ (html_text notice ++ ALERT_END.now)
 
--- Returns the beginning of a page, with a notice.
+-- Returns the beginning of a page: its head, the link to the page of all loans, and `notice`.
 unfoldable pub begun_text : Date → (notice : List ℕ) → List ℕ
 begun_text today notice = page_head_with STYLE.now today ++ (ALL.now ++ notice_text notice)
 
@@ -54,7 +54,7 @@ abbrev pub title_text : Option (List ℕ) → List ℕ
 title_text (Some title) = html_text title
 title_text None = codes "-"
 
--- Returns the loan and its desk.
+-- Returns the loan on a page: its desk and its transaction.
 abbrev pub place_of : LoanSeen → PlaceShown
 place_of seen = record { desk = seen.desk; txn = txn_of seen.side }
 

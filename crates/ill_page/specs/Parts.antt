@@ -9,7 +9,7 @@ use Rattle.ill_page.specs.declared.words.TheConstants.{TO_REQUEST, TO_CANCEL, TO
 use Rattle.ill_page.specs.declared.words.TheConstants.{TO_RENEW, TO_RETURN, TO_ANSWER, TO_CANCEL_REPLY}
 use Rattle.ill_page.specs.declared.words.TheConstants.{TO_SHIP, TO_RENEW_ANSWER, TO_OVERDUE, TO_RECALL, TO_CHECK_IN, TO_EXPIRE}
 
--- Returns the text of inputs before the day that is proposed. If none is, this is all text.
+-- Returns the text of inputs before the day that is proposed. If none is proposed, it is their whole text.
 abbrev pub before : Inputs → List ℕ
 before inputs.Bare = BARE.now
 before inputs.YesNo = YES_NO.now
@@ -25,13 +25,13 @@ has_day inputs.Due = true
 has_day inputs.Grant = true
 has_day other = false
 
--- Returns the text of inputs after the day that is proposed.
+-- Returns the text of inputs after the day that is proposed. If none is proposed, it is empty.
 abbrev pub after : Inputs → List ℕ
 after inputs.Due = DUE_END.now
 after inputs.Grant = GRANT_END.now
 after other = []
 
--- Returns the inputs of each form of a verb.
+-- Returns the inputs of each form of a verb. The answer to a renewal has two forms. A request has its own form.
 abbrev pub inputs_of : Verb → List Inputs
 inputs_of verbs.Request = []
 inputs_of verbs.Reply = inputs.YesNo ∷ []

@@ -96,7 +96,7 @@ fn push_new(page: &mut Vec<u8>, shown: &DeskShown<'_>) -> Result<(), OutOfMemory
     }
 }
 
-/// Appends the form that begins a loan. It proposes the group of the last loan, and a number of the day.
+/// Appends the form that begins a loan, below the name of its desk.
 #[tactic(auto, unfolding(crate::specs::Desks::begin_text))]
 fn push_begin(page: &mut Vec<u8>, shown: &DeskShown<'_>) -> Result<(), OutOfMemory>
     ensures { OnOk result (page.new.items ≡ page.old.items
@@ -109,7 +109,7 @@ fn push_begin(page: &mut Vec<u8>, shown: &DeskShown<'_>) -> Result<(), OutOfMemo
     Ok(())
 }
 
-/// Appends the form that begins a loan.
+/// Appends the form that begins a loan: its desk, the stamp `new`, the verb, and the inputs.
 #[tactic(auto, unfolding(crate::specs::Desks::begin_form))]
 fn push_begin_form(page: &mut Vec<u8>, shown: &DeskShown<'_>) -> Result<(), OutOfMemory>
     ensures { OnOk result (page.new.items ≡ page.old.items

@@ -34,7 +34,7 @@ pub struct LoanShown<'a> {
     pub lines: &'a [u8],
 }
 
-/// Appends the title of a loan.
+/// Appends the title of the loan of `side`, or a dash if it has none.
 fn push_title(page: &mut Vec<u8>, side: &Side) -> Result<(), OutOfMemory>
     ensures { OnOk result (page.new.items ≡ page.old.items ++ title_text (item_asked (request_of side.now))) }
 {
@@ -155,7 +155,7 @@ pub fn notice_page(alloc: Global, today: Day, notice: &str) -> Result<Vec<u8>, O
     Ok(page)
 }
 
-/// Returns the beginning of a page, with a notice.
+/// Returns the beginning of a page: its head, the link to the page of all loans, and `notice`.
 #[tactic(auto, unfolding(crate::specs::Page::begun_text))]
 fn begun(alloc: Global, today: Day, notice: &str) -> Result<Vec<u8>, OutOfMemory>
     ensures { IfOk result (λ page. page.items ≡ begun_text today notice.now) }

@@ -19,10 +19,10 @@ pub(crate) const FORM_END: &str = "</fieldset></form>\n";
 /// The text before the name of a field that a browser sends unseen.
 pub(crate) const HIDDEN: &str = "<input type=\"hidden\" name=\"";
 
-/// The text between the name of such a field and its value.
+/// The text between the name of an unseen field and its value.
 pub(crate) const VALUE: &str = "\" value=\"";
 
-/// The text after the value of such a field.
+/// The text after the value of an unseen field.
 pub(crate) const HIDDEN_END: &str = "\">";
 
 /// The text before the purpose of a form.
@@ -72,7 +72,7 @@ pub(crate) const LOAN: &str = "<section>\n<h2 dir=\"auto\">";
 /// The text after the title of a loan, before its state.
 pub(crate) const STATE: &str = "</h2>\n<p>";
 
-/// The text after these lines.
+/// The text after the lines of what is known of a loan.
 pub(crate) const KNOWN_END: &str = "</pre>\n</section>\n";
 
 /// The text after the content of each page.
@@ -101,7 +101,7 @@ pub(crate) enum Inputs {
 }
 
 impl Inputs {
-    /// Returns the text before the day that is proposed. If none is, this is all text.
+    /// Returns the text of the inputs before the day that is proposed. If none is proposed, it is their whole text.
     pub(crate) fn before(self) -> &'static str
         ensures { result.now ≡ before self }
     {
@@ -123,7 +123,7 @@ impl Inputs {
         matches!(self, Inputs::Due | Inputs::Grant)
     }
 
-    /// Returns the text after the day that is proposed.
+    /// Returns the text of the inputs after the day that is proposed. If none is proposed, it is empty.
     pub(crate) fn after(self) -> &'static str
         ensures { result.now ≡ after self }
     {

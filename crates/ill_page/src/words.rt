@@ -10,13 +10,13 @@ pub const SEARCH: &str = "\
 <form method=\"get\" action=\"?\" role=\"search\">\
 <label>Title, number or note <input type=\"search\" name=\"find\" dir=\"auto\" value=\"";
 
-/// The text after them.
+/// The text after the words that are sought, in their form.
 pub const SEARCH_END: &str = "\"></label> <button>Search</button></form>\n";
 
 /// The text before the words that are sought, in the line that names them.
 pub const FOUND: &str = "<p role=\"status\">Only loans with <b dir=\"auto\">";
 
-/// The text after them.
+/// The text after the words that are sought, in the line that names them.
 pub const FOUND_END: &str = "</b> are shown. <a href=\"?\">All loans</a></p>\n";
 
 /// The form that asks for figures.
@@ -220,7 +220,7 @@ Memory ran out. Look again before you act. If this comes again, tell the operato
 /// The text before the words of a fault, for a form that its desk refused.
 pub const NOTHING_DONE: &str = "Nothing was done: ";
 
-/// The text after the words of such a fault.
+/// The text after the words of a fault, for a form that its desk refused.
 pub const FAULT_END: &str = ".";
 
 /// The notice of a form that names no action.

@@ -1,4 +1,4 @@
--- Proves how a page of the command `report` grows by the parts of desks.
+-- Proves how a page of the command `report` grows by the parts of desks, for `push_files` (`src/visits.rt`).
 use Rattle.std.proofs.Common.{◌≡◌, ℕ, ◌+◌, ◌<◌, Bool, List, [], ◌∷◌, ◌++◌, length, map, fold, take, get_or, Result, Ok, Err, true}
 use Rattle.std.proofs.Common.{refl, ap, sym, ◌∙◌, append_assoc, add-one}
 use Rattle.std.specs.Prelude.{IfErr, Option}
@@ -19,14 +19,14 @@ use Rattle.ill_text.specs.Fault.{IsOpenFault}
 pub no_parts : (today : Date) (since : Option Date) (before : List ℕ) → AddsParts today since [] before before (Ok true)
 no_parts today since before = ([], refl, sym (append-nil before), refl)
 
--- Appending `part` makes the gravest fault the graver of the old one and the fault of `part`.
+-- If `part` is appended to `parts`, the gravest fault is the graver of the old one and that of `part`.
 graver_part : (parts : List Part) (part : Part)
     → gravest_part (parts ++ part ∷ []) ≡ graver (gravest_part parts) (part_answer part)
 graver_part parts part =
     ap (λ answers. fold graver (Ok true) answers) (map-append part_answer parts (part ∷ []))
     ∙ fold-append graver (Ok true) (map part_answer parts) (part_answer part ∷ [])
 
--- Appending `part` makes the text of some parts longer by its text.
+-- If `part` is appended to `parts`, the text of the parts after `before` grows by its text.
 longer_by_part : (today : Date) (since : Option Date) (before : List ℕ) (parts : List Part) (part : Part)
     → (before ++ flat_map (part_text today since) parts) ++ part_text today since part
     ≡ before ++ flat_map (part_text today since) (parts ++ part ∷ [])
@@ -35,8 +35,8 @@ longer_by_part today since before parts part =
     ∙ ap (λ text. before ++ (flat_map (part_text today since) parts ++ text)) (sym (append-nil (part_text today since part)))
     ∙ ap (λ text. before ++ text) (sym (flat_map-append (part_text today since) parts (part ∷ [])))
 
--- If a page has parts for the first `place` of `files`, and then one for the next, it has them for the first
--- `place + 1`.
+-- If a page has parts for the first `place` files and then the next, it has `place + 1`. `told` says so of the files,
+-- `text` of the page, and `graver_is` of the faults.
 pub one_more_part : (today : Date) (since : Option Date) (files : List (List ℕ)) (place : ℕ) (file before between after : List ℕ)
     (answer next : Result Bool ToolFault)
     → place < length files → file ≡ get_or files place file → AddsParts today since (take place files) before between answer

@@ -12,12 +12,13 @@ use Rattle.ill_visits.specs.declared.visit.Visit.{Visit}
 use Rattle.ill_visits.specs.declared.visit.Visit.TheVariants as visits
 use Rattle.ill_visits.specs.Visits.{RunsVisit}
 
--- No bytes have no messages.
+-- In a list of no bytes are no messages.
 nothing_in : AreIn [] []
 unfolding apdu_at outer_at header_at
 nothing_in = (Ok [], ([], record { encoded = tt; parts = refl }, (refl, refl)))
 
--- If the answer is that the writer failed, a visit may have written a prefix of no bytes.
+-- If the answer is `Write`, `RunsVisit` allows that nothing was written: the output stayed. Each case is a desk without
+-- sides, of whose text a prefix of no bytes was written.
 pub nothing_written : (visit : Visit) (form : Form) (is_headed is_first : Bool) (path : List ℕ) (written : Option (List ℕ))
     (answer : Result Bool ToolFault) → answer ≡ Err Write
     → RunsVisit visit form is_headed is_first

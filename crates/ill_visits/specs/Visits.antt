@@ -54,7 +54,7 @@ CountsDesk view is_headed is_first stop =
     × GoesWell (WritesNews (λ came. figures_text view is_headed is_first stop.path (figures_of view.span diary sides came)) bytes
     stop.before stop.after) stop.answer)
 
--- A visit has the effect of its command at one desk.
+-- A stop of the visit has the effect of its command at one desk: a list, news or figures.
 abbrev pub RunsVisit : Visit → Form → (is_headed is_first : Bool) → Stop → Type 0
 RunsVisit (visits.List wanted find) form = ListsDesk form wanted.now (option_map (λ words. words.now) find)
 RunsVisit (visits.News last since) form = TellsDesk form last since

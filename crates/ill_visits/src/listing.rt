@@ -77,7 +77,8 @@ pub(crate) fn list_file<T: Files, W: Write, E: Write>(
     all_well(answer)
 }
 
-/// Reads what a list shows of the annex of the desk in `listed`. Lines without days and news show its notes alone.
+/// Reads what a list shows of the annex of the desk in `listed`. A list in lines reads the notes alone, if it shows no
+/// days and no news.
 fn listed_annex<T: Files, E: Write>(
     rt: &T,
     alloc: Global,

@@ -21,7 +21,7 @@ use std::rt::Files;
 /// A visit of a command to a desk in a file.
 #[derive(Clone, Copy)]
 pub(crate) enum Visit<'a> {
-    /// Those of its wanted loans are listed that have the words, if there are any.
+    /// Its wanted loans are listed. If there are words, these are the loans that have them.
     List(&'a Wanted, Option<&'a str>),
     /// The last of the messages that came to it are told, or all of them. With a day, these are what came since.
     News(Option<Number>, Option<Day>),

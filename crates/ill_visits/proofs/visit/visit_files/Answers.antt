@@ -8,6 +8,7 @@ use Rattle.ill_text.proofs.VisitsLemmas.{no_visit, one_more_visit}
 use Rattle.ill_visits.proofs.visit.visit_files.Goals as goal
 
 -- Proves the loop invariant of `visit_files` after one more desk. `one_more_visit` appends the visit at `place`.
+-- `within` and `found` say that its file is the next of `names`, and `ran` that the visit had its effect.
 pub loop-place-preserved : goal.loop-place-preserved
 loop-place-preserved g c =
     let names = map (λ file. string_bytes file) c.args.files.now in

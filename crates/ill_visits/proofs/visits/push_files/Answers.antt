@@ -8,7 +8,7 @@ use Rattle.ill_visits.proofs.visits.push_files.Goals as goal
 use Rattle.ill_text.specs.Fault.{IsOpenFault}
 
 -- Proves the loop invariant of `push_files` after one more desk. `one_more_part` appends its part, and by `open_graver`
--- the gravest fault is one of opening.
+-- the gravest fault is one of opening. `within` and `found` say that its file is the next of `names`.
 pub loop-place-preserved : goal.loop-place-preserved
 loop-place-preserved g c =
     let names = map (λ file. string_bytes file) c.args.files.now in

@@ -10,8 +10,8 @@ use Rattle.ill_text.specs.Visits.{graver}
 use Rattle.ill_visits.proofs.visits.report.Goals as goal
 use Rattle.ill_text.specs.Fault.{IsOpenFault}
 
--- Proves the contract of `report`. The head, the parts of all desks and the end text make up the page. Nothing is
--- written before it.
+-- Proves the contract of `report`. The head, the parts of all desks and the end text make up the page (`whole`).
+-- Nothing is written before it (`silent`). `result` says that the answer is the gravest fault.
 pub returns : goal.returns
 returns g c =
     let today = c.args.today in

@@ -21,8 +21,8 @@ longer_by_desk today find before desks desk =
     ∙ ap (λ text. before ++ (flat_map (part_of today find) desks ++ text)) (sym (append-nil (part_of today find desk)))
     ∙ ap (λ text. before ++ text) (sym (flat_map-append (part_of today find) desks (desk ∷ [])))
 
--- If a page has parts for the first `place` of `files`, and then one for the next, it has them for the first
--- `place + 1`.
+-- If a page has parts for the first `place` files and then the next, it has `place + 1`. `told` says so of the files,
+-- and `text` of the page.
 pub one_more_desk : (today : Date) (find : Option (List ℕ)) (files : List (List ℕ)) (place : ℕ)
     (file before between after : List ℕ) → place < length files → file ≡ get_or files place file
     → AddsDesks today find (take place files) before between → AddsDesk today find file between after
@@ -37,7 +37,7 @@ one_more_desk today find files place file before between after within at so_far 
     let text = one.2 ∙ ap (λ page. page ++ part_of today find desk) so_far.2 ∙ longer_by_desk today find before desks desk in
     (desks ++ desk ∷ [], told, text)
 
--- What follows from a fact holds where the fact does.
+-- If `P` gives `Q`, and `P` holds if `result` is Ok, `Q` holds if `result` is Ok.
 pub then_ok : {T E P Q : Type 0} (result : Result T E) → (P → Q) → OnOk result P → OnOk result Q
 then_ok (Ok value) next holds = next holds
 then_ok (Err fault) next holds = tt

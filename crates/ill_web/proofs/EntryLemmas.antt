@@ -27,7 +27,8 @@ none_is : (bytes : List ℕ) (failed : Bool) → bytes ≡ [] → failed ≡ fal
 none_is bytes failed none fine =
     ap (λ bytes. diary_state (Some bytes) failed) none ∙ ap (λ failed. diary_state (Some []) failed) fine
 
--- What came of a form was entered, and this line by the entry of a turn.
+-- If an entry of `line` beside `beside` had entered nothing, and `EntersPost` holds of it, `EntersTurn` does. The
+-- premises say that `at` is `beside`, and `own` is `line`.
 pub enters_turn : (came : Result Posted DeskFault) (beside at line own : List ℕ) (bytes : List ℕ) (failed : Bool)
     (diary : DiaryState) → at ≡ beside → own ≡ line → bytes ≡ [] → failed ≡ false
     → EntersPost came own (diary_state (Some bytes) failed) diary
@@ -40,25 +41,26 @@ enters_turn came beside at line own bytes failed diary there same none fine ente
 
 -- ---- what was entered
 
--- If the diary has not failed, exactly the line was entered.
+-- If the diary has not failed and grew from nothing by `line`, exactly `line` was entered.
 grown : (failed : Bool) (line : List ℕ) (bytes : Option (List ℕ)) → failed ≡ false → GrowsBy failed line (Some []) bytes
     → bytes ≡ Some line
 grown false line (Some bytes) e grows = ap (λ bytes. Some bytes) grows
 grown false line None e grows = absurd grows
 grown true line bytes e grows = search (rules, e)
 
--- A form that was not done has entered nothing.
+-- If an answer other than `Done` came of a form, nothing was entered.
 not_done : (came : Result Posted DeskFault) (posted : Posted) (line : List ℕ) (diary : DiaryState) → came ≡ Ok posted
     → (posted ≡ Done → ⊥) → EntersPost came line no_entry diary → diary ≡ no_entry
 not_done came posted line diary e other enters =
     at posted other (subst (λ came. EntersPost came line no_entry diary) e enters) where
+      -- Each answer but `Done` enters nothing, by `EntersPost`.
       at : (posted : Posted) → (posted ≡ Done → ⊥) → EntersPost (Ok posted) line no_entry diary → diary ≡ no_entry
       at Changed other enters = enters
       at NoAction other enters = enters
       at (Refused fault) other enters = enters
       at Done other enters = absurd (other refl)
 
--- A form that was done has entered its line.
+-- If `Done` came of a form, and the diary has not failed, exactly `line` was entered.
 done : (came : Result Posted DeskFault) (line : List ℕ) (diary : DiaryState) → came ≡ Ok Done → diary.has_failed ≡ false
     → EntersPost came line no_entry diary → diary.bytes ≡ Some line
 done came line diary e well enters =
@@ -66,19 +68,19 @@ done came line diary e well enters =
 
 -- ---- the action of a form that was done
 
--- Only a form with an action is done.
+-- If a form was performed and `Done` came, it has an action.
 performed : (action : Option Action) (txn : Qualifiers) (old new : DeskState) (came : Result Posted DeskFault) → came ≡ Ok Done
     → Performs action txn old came new → (one : Action) × (action ≡ Some one)
 performed None txn old new came e performs = search (rules, e, performs.0)
 performed (Some one) txn old new came e performs = (one, refl)
 
--- Only a form with an action is done, if it is open whether its loan is as its page showed it.
+-- If `Done` came of `PerformsIf`, the form has an action. A form that is not fresh is never `Done`.
 performed_if : (fresh : Bool) (form : FormShown) (old new : DeskState) (came : Result Posted DeskFault) → came ≡ Ok Done
     → PerformsIf fresh form old came new → (one : Action) × (form.action ≡ Some one)
 performed_if true form old new came e performs = performed form.action form.txn old new came e performs
 performed_if false form old new came e performs = search (rules, e, performs.0)
 
--- A form that was done has an action.
+-- If `Done` came of `AnswersPost`, the form has an action.
 has_action : (form : FormShown) (old new : DeskState) (came : Result Posted DeskFault) → came ≡ Ok Done
     → AnswersPost form old came new → (one : Action) × (form.action ≡ Some one)
 has_action form old new came e answers =
@@ -89,7 +91,7 @@ has_action form old new came e answers =
 
 -- ---- the line of a turn
 
--- A turn that has entered a line has entered that of its action.
+-- If a turn was done and has entered `line`, this is the line of its `action` (`verb_line`).
 entered_own : (stamp : Stamped) (sent : SentForm) (turn : Turn) (line : List ℕ) (action : Action) → IsTurnOf stamp sent turn
     → action_in stamp sent turn ≡ Some action → HasEntered turn line
     → line ≡ verb_line stamp sent.loan.txn action (issued_at sent.loan.txn turn.old.live)
@@ -98,10 +100,11 @@ entered_own stamp sent turn line action (at, answers, (beside, enters)) is (came
     let own = done turn.came (form_line stamp form turn.old.live) turn.entered.diary came well enters in
     same_some (sym has ∙ own)
     ∙ ap (λ action. turn_line stamp sent.loan.txn action (issued_at sent.loan.txn turn.old.live)) is where
+      -- If `Some one` equals `Some other`, `one` equals `other`.
       same_some : {one other : List ℕ} → ◌≡◌ {A = Option (List ℕ)} (Some one) (Some other) → one ≡ other
       same_some e = search (rules, e)
 
--- No line is empty.
+-- A text that ends with `byte` is not empty.
 not_empty : (front back : List ℕ) (byte : ℕ) → [] ≡ front ++ (back ++ (byte ∷ [])) → ⊥
 not_empty [] [] byte e = search (rules, e)
 not_empty [] (first ∷ back) byte e = search (rules, e)
@@ -129,7 +132,7 @@ same_verb day by txn one other number e =
     (append_cancel_left (stamp_text day by) _ _ e) in
     append_cancel_right one other (codes " " ++ decimal number) (append_cancel_left (loan_key txn) _ _ keys)
 
--- No turn has a wrong entry.
+-- If a turn is that of a form, it has no wrong entry. Each case compares what was entered with the line of its action.
 pub no_turn_misenters : (stamp : Stamped) (sent : SentForm) (turn : Turn) → IsTurnOf stamp sent turn
     → MisentersTurn stamp sent turn → ⊥
 no_turn_misenters stamp sent turn (at, answers, (beside, enters)) (not_done_enters posted other came some) =

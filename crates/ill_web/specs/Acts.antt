@@ -54,7 +54,8 @@ abbrev pub of_post : Result Posted DeskFault → Result Posted Trouble
 of_post (Ok posted) = Ok posted
 of_post (Err fault) = Err (troubles.Desk (desk_fault fault))
 
--- A form was answered at a desk, exactly as `AnswersPost` says. Its line was entered in the diary beside a file.
+-- The form was answered at a desk, exactly as `AnswersPost` says, and `answer` is what came of it. Its `line` was
+-- entered beside a file as `EntersTurn` says.
 abbrev pub PostsAt : (beside line : List ℕ) → FormShown → DeskState → Result Posted Trouble → DeskState → Type 0
 PostsAt beside line form old answer new =
     (came : Result Posted DeskFault) × (entered : Entered) × AnswersPost form old came new
@@ -134,7 +135,7 @@ ActsIn stamp sent None result = IsErrAnd result IsEarly
 abbrev pub may_act : (user : List ℕ) → Bool
 may_act user = length user == 0 || is_name user
 
--- The form acts, if a diary can name its user, so that it `may_act`.
+-- If `may_act`, the form acts as `ActsIn` says. Else it has no turn, and the trouble is `NoName`.
 abbrev pub ActsIf : (may_act : Bool) → Stamped → SentForm → Option Turn → Result (List ℕ) Trouble → Type 0
 ActsIf true stamp sent turn result = ActsIn stamp sent turn result
 ActsIf false stamp sent turn result = (turn ≡ None) × (result ≡ Err troubles.NoName)
@@ -154,11 +155,11 @@ KeepsNote loan note result =
     × NotesAtFile (file_at loan.desk) loan.txn note (Some []) output answer
     × ((result ≡ note_told loan answer) ⊎ (result ≡ Err no_memory))
 
--- The note is kept, if it is one.
+-- If `is_note`, the note is kept as `KeepsNote` says. Else the trouble is `NoNote`.
 abbrev pub NotesIf : (is_note : Bool) → LoanAsked → (note : List ℕ) → Result (List ℕ) Trouble → Type 0
 NotesIf true loan note result = KeepsNote loan note result
 NotesIf false loan note result = result ≡ Err troubles.NoNote
 
--- The note is kept, if it is one.
+-- If the text `note` is a note, it is kept as `KeepsNote` says. Else the trouble is `NoNote`.
 abbrev pub Notes : LoanAsked → (note : List ℕ) → Result (List ℕ) Trouble → Type 0
 Notes loan note result = NotesIf (is_note note) loan note result

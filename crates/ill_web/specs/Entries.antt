@@ -52,6 +52,6 @@ pub record Entered : Type 0 where
 abbrev pub no_entry : DiaryState
 no_entry = diary_state (Some []) false
 
--- The line was entered in the diary beside a file, as `EntersPost` says.
+-- What was entered is in the diary beside the file `beside`. It is what `EntersPost` says for `line`.
 abbrev pub EntersTurn : Result Posted DeskFault → (beside line : List ℕ) → Entered → Type 0
 EntersTurn came beside line entered = (entered.beside ≡ beside) × EntersPost came line no_entry entered.diary

@@ -37,7 +37,7 @@ use Rattle.ill_web.specs.Troubles.{Telling, no_memory}
 
 -- ---- what goes wrong
 
--- Returns the result of a function that makes a reply.
+-- Returns the result of a function of the code that makes a reply, with the bytes of the reply.
 abbrev pub said : Result (Vec ℕ Global) Trouble → Result (List ℕ) Trouble
 said (Ok reply) = Ok reply.items
 said (Err trouble) = Err trouble

@@ -39,7 +39,7 @@ rules_of operator = record { origin = operator.origin.now; is_open = operator.is
 
 -- ---- what is asked for
 
--- The form acts, if its text for a desk names one. Else it has no turn.
+-- If the text for the desk names one, the form acts as `ActsIf` says. Else it has no turn, and the trouble is `NoDesk`.
 abbrev pub ActsHere : HouseShown → SentForm → Option Turn → Result (List ℕ) Trouble → Type 0
 ActsHere house sent turn result =
     ((file_named house.files sent.loan.desk ≡ Some sent.loan.desk)
@@ -77,7 +77,7 @@ AnswersRequest operator v left rest turn result =
 
 -- ---- the reply
 
--- Returns the reply that was found, or the reply if something is wrong.
+-- Returns the reply in a result, or the one that tells its trouble.
 abbrev pub reply_of : Date → Result (List ℕ) Trouble → List ℕ
 reply_of today (Ok reply) = reply
 reply_of today (Err trouble) = trouble_reply today trouble

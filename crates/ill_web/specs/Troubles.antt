@@ -1,4 +1,4 @@
--- Why a request gets no page of a loan, and what a reader is told then.
+-- Why a request does not get what it asks for, and what a reader is told then.
 use Rattle.std.specs.Prelude.{ℕ, List}
 use Rattle.ill_values.specs.Day.{Date}
 use Rattle.ill_saved.specs.declared.fault.DeskFault.TheVariants.{NoSuchTransaction, Store}
@@ -50,11 +50,11 @@ failed (tools.Desk (Store fault)) = tells statuses.Busy BUSY.now
 failed tools.OutOfMemory = tells statuses.Failed OUT_OF_MEMORY.now
 failed other = tells statuses.Failed NO_DESK_FILE.now
 
--- Memory ran out.
+-- The trouble of a request for which memory ran out.
 abbrev pub no_memory : Trouble
 no_memory = troubles.Desk tools.OutOfMemory
 
--- Returns what is told when something is wrong.
+-- Returns what a reader is told of a trouble.
 abbrev pub trouble_told : Trouble → Telling
 trouble_told (troubles.Refused fault) = refused fault
 trouble_told (troubles.Desk fault) = failed fault
@@ -64,6 +64,6 @@ trouble_told troubles.NoNote = tells statuses.Bad NO_NOTE.now
 trouble_told troubles.OtherGroup = tells statuses.Bad OTHER_GROUP.now
 trouble_told troubles.NoSpan = tells statuses.Bad NO_SPAN.now
 
--- Returns the reply when something is wrong.
+-- Returns the reply that tells a trouble: its status, and a page with its notice.
 abbrev pub trouble_reply : Date → Trouble → List ℕ
 trouble_reply today trouble = page_reply (trouble_told trouble).status (notice_page today (trouble_told trouble).notice)

@@ -95,7 +95,7 @@ fn take_turn<T: LockFiles>(house: &House<'_, T>, sent: &Sent<'_>) -> Result<Vec<
     tell(house, sent.place, answered)
 }
 
-/// Refuses a loan of another group if its desk is one of a shelf.
+/// Refuses a loan of another group if its desk is one of a shelf. There the name of a file is that for its group.
 fn refuse_other_group<T: Files>(
     house: &House<'_, T>,
     place: &Place<'_>,
@@ -178,7 +178,7 @@ fn of_post(posted: Result<Posted, DeskFault>) -> Result<Posted, Trouble>
     }
 }
 
-/// Returns the reply to a form at `place` that was answered so.
+/// Returns the reply to a form at `place` of which `answered` came.
 fn tell<T: Files>(
     house: &House<'_, T>,
     place: &Place<'_>,
@@ -234,7 +234,7 @@ fn status_of(posted: Posted) -> Status
     }
 }
 
-/// Returns the words for a form that was not done.
+/// Returns the notice that says why a form was not done, by what came of it: `posted`.
 fn notice_of(alloc: Global, posted: Posted) -> Result<String, OutOfMemory>
     ensures { IfOk result (λ notice. IsNotice posted (string_bytes notice)) }
 {
@@ -245,7 +245,7 @@ fn notice_of(alloc: Global, posted: Posted) -> Result<String, OutOfMemory>
     }
 }
 
-/// Returns the words for a form that was refused.
+/// Returns the notice of a form that its desk refused with `fault`.
 fn refusal_notice(alloc: Global, fault: ToolFault) -> Result<String, OutOfMemory>
     ensures { IfOk result (λ notice. IsRefusal (string_bytes notice)) }
 {

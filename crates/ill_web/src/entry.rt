@@ -68,7 +68,9 @@ fn user_named(user: &str) -> Option<&str>
 /// The diary beside the file of a desk. It knows what was entered through it.
 #[derive(Drop)]
 pub struct TurnDiary<'a, T> {
+    /// The runtime, which has the files.
     rt: &'a T,
+    /// The memory.
     alloc: Global,
     /// The path of the desk's file.
     file: &'a str,
@@ -96,6 +98,7 @@ pub fn turn_entry<'a, T>(
     Entry::new(line, diary)
 }
 
+// Each write opens the diary again. What it writes is noted in `entered`.
 impl<T: Files> Write for TurnDiary<'_, T> {
     ghost contents = { λ diary. Some diary.entered.items };
 

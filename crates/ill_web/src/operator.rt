@@ -50,7 +50,8 @@ impl<'a> Operator<'a> {
 }
 
 impl<'a> Options<'a> {
-    /// Takes the options at the front of `words`, and returns the words after them. Returns `None` if one is none.
+    /// Takes the options at the front of `words`, and returns the words after them. Returns `None` if the word after
+    /// `--today` is no day.
     fn take<'b>(&mut self, words: &'b [&'a str]) -> Option<&'b [&'a str]> {
         match words {
             ["--open", rest @ ..] => {

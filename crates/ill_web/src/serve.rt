@@ -53,7 +53,7 @@ pub fn serve<T: LockFiles, R: Read, W: Write>(
     send_reply(writer, reply)
 }
 
-/// Returns the reply that was found, or the reply if something is wrong.
+/// Returns the reply in `answered`, or the one that tells its trouble.
 fn reply_of(
     alloc: Global,
     operator: &Operator<'_>,
@@ -67,7 +67,7 @@ fn reply_of(
     }
 }
 
-/// Returns the reply to a request with which something is wrong.
+/// Returns the reply that tells `trouble`: its status, and a page with its notice.
 fn trouble_reply(
     alloc: Global,
     operator: &Operator<'_>,
@@ -100,7 +100,7 @@ fn send<W: Write>(writer: &mut W, bytes: &[u8]) -> u8
     }
 }
 
-/// Returns the reply to a request.
+/// Reads what `request` asks for, finds the desks of the operator, and returns the reply.
 fn answer<T: LockFiles, R: Read>(
     rt: &T,
     alloc: Global,

@@ -101,7 +101,7 @@ struct Opened<'a> {
     sides: &'a Sides,
 }
 
-/// Appends the part of a desk with this annex. It tells what came today.
+/// Appends the part of the desk in `opened`, with `annex` and the news of the day.
 fn push_opened<T>(
     house: &House<'_, T>,
     page: &mut Vec<u8>,

@@ -1,4 +1,4 @@
-//! Why a request gets no page of a loan, and what a reader is told then.
+//! Why a request does not get what it asks for, and what a reader is told then.
 
 ghost use Rattle.std.specs.Prelude.{◌≡◌};
 ghost use Rattle.ill_web.specs.Troubles.{failed, no_memory, refused, telling, tells, trouble_told};
@@ -15,7 +15,7 @@ use ill_saved::DeskFault;
 use ill_text::fault::ToolFault;
 use ill_values::OutOfMemory;
 
-/// Why a request gets no page of a loan.
+/// Why a request does not get what it asks for.
 #[derive(Clone, Copy)]
 pub enum Trouble {
     /// The request was refused.
@@ -34,6 +34,7 @@ pub enum Trouble {
     OtherGroup,
 }
 
+/// The refusal of a request is the trouble `Refused`.
 impl From<VisitFault> for Trouble {
     ghost from_gives = { λ fault trouble. trouble ≡ troubles.Refused fault };
 
@@ -42,6 +43,7 @@ impl From<VisitFault> for Trouble {
     }
 }
 
+/// The fault of a desk is the trouble `Desk`.
 impl From<ToolFault> for Trouble {
     ghost from_gives = { λ fault trouble. trouble ≡ troubles.Desk fault };
 
@@ -50,6 +52,7 @@ impl From<ToolFault> for Trouble {
     }
 }
 
+/// If memory runs out, the trouble is that of a desk: `no_memory`.
 impl From<OutOfMemory> for Trouble {
     ghost from_gives = { λ _ trouble. trouble ≡ no_memory };
 
@@ -59,7 +62,7 @@ impl From<OutOfMemory> for Trouble {
 }
 
 impl Trouble {
-    /// Returns what a reader is told.
+    /// Returns what a reader is told of this trouble.
     pub fn told(self) -> Told<'static>
         ensures { telling result ≡ trouble_told self }
     {
@@ -82,7 +85,7 @@ fn tells(status: Status, notice: &'static str) -> Told<'static>
     Told { status, notice }
 }
 
-/// Returns what is told of a request that was refused.
+/// Returns what is told of a request that was refused with `fault`.
 fn refused(fault: VisitFault) -> Told<'static>
     ensures { telling result ≡ refused fault }
 {

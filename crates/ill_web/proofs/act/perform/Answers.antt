@@ -4,6 +4,7 @@ use Rattle.ill_text.specs.Diary.{DiaryState, diary_state}
 use Rattle.ill_web.proofs.EntryLemmas.{enters_turn}
 use Rattle.ill_web.proofs.act.perform.Goals as goal
 
+-- By `enters_turn` the entry, which had entered nothing, has entered what `EntersTurn` says.
 pub returns : goal.returns
 returns g c =
     let entry = c.turn_entry-entry.result in

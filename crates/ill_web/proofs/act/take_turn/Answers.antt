@@ -5,6 +5,7 @@ use Rattle.ill_web.specs.Sent.{sent_form}
 use Rattle.ill_web.proofs.TurnLemmas.{has_turn}
 use Rattle.ill_web.proofs.act.take_turn.Goals as goal
 
+-- By `has_turn` the form that `answer` has answered has a turn, and `tell` tells what came.
 pub returns : goal.returns
 returns g c =
     let stamp = stamp_on c.args.house.now.operator.now.today c.args.house.now.user.now in

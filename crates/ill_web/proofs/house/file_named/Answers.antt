@@ -4,6 +4,7 @@ use Rattle.std.specs.Prelude.{bytes_eq}
 use Rattle.ill_browser.proofs.FieldLemmas.{find_mapped}
 use Rattle.ill_web.proofs.house.file_named.Goals as goal
 
+-- By `find_mapped` the first path with the text is that of the first file with these bytes.
 pub returns : goal.returns
 returns c =
     ap (λ found. option_map (λ file. string_bytes file) found) c.file_with.ensures

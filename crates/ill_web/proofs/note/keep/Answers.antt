@@ -5,6 +5,7 @@ use Rattle.ill_commands.specs.Note.{NotesAtFile}
 use Rattle.ill_place.specs.Place.{file_at}
 use Rattle.ill_web.proofs.note.keep.Goals as goal
 
+-- The fault of `note` is the result. `kept` has it for an output that was empty, and for the words as one text.
 pub returns : goal.returns
 returns g c =
     let place = file_at c.args.place.now.desk.now in

@@ -5,6 +5,7 @@ use Rattle.ill_web.specs.Pages.{sides_part}
 use Rattle.ill_web.proofs.DeskLemmas.{then_ok}
 use Rattle.ill_web.proofs.show.push_opened.Goals as goal
 
+-- The part that `push_desk_part` appends has the annex that `with_news` returned.
 pub returns : goal.returns
 returns g c =
     let opened = c.args.opened.now in

@@ -4,6 +4,7 @@ use Rattle.ill_browser.specs.Wanted.{LoanAsked}
 use Rattle.ill_web.specs.Pages.{ShowsSlip, said}
 use Rattle.ill_web.proofs.show.show_slip.Goals as goal
 
+-- If the desk is named, the reply of `slip_reply` is that for the loan that was asked for.
 pub returns : goal.returns
 returns g c =
     inl (

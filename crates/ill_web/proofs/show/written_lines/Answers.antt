@@ -5,6 +5,7 @@ use Rattle.ill_show.specs.Loan.{RunsLoan, beside_of}
 use Rattle.ill_show.specs.declared.loan.LoanForm.TheVariants.{Lines}
 use Rattle.ill_web.proofs.show.written_lines.Goals as goal
 
+-- The lines are those that `run_desk_loan` wrote, since nothing was written before.
 pub returns-in-Ok : goal.returns-in-Ok
 returns-in-Ok g c =
     let beside = beside_of c.args.beside.now in

@@ -5,6 +5,7 @@ use Rattle.ill_web.specs.Pages.{file_named}
 use Rattle.ill_web.proofs.PlaceLemmas.{named_is}
 use Rattle.ill_web.proofs.house.House.place.Goals as goal
 
+-- If a file is found, its path is the text for the desk (`named_is`). So the place has this text.
 pub returns-in-Some : goal.returns-in-Some
 returns-in-Some g c =
     let files = map (λ file. string_bytes file) c.args.self.now.files.now in

@@ -72,19 +72,19 @@ no_look method post =
     subst (λ m. bytes_eq m (codes "GET") ≡ false) (sym is) refl
 
 -- If a request is no look and sends a form, the size of its body is that of the form.
-at_post : (look post : Bool) (form : Result ℕ VisitFault) (size : ℕ) → look ≡ false → post ≡ true
+size_of_post : (look post : Bool) (form : Result ℕ VisitFault) (size : ℕ) → look ≡ false → post ≡ true
     → (if look then Ok 0 else if post then form else Err refusals.Method) ≡ Ok size → form ≡ Ok size
-at_post false true form size not_look is_post e = e
-at_post true post form size not_look is_post e = search rules
-at_post false false form size not_look is_post e = search rules
+size_of_post false true form size not_look is_post e = e
+size_of_post true post form size not_look is_post e = search rules
+size_of_post false false form size not_look is_post e = search rules
 
 -- If a request has a size, it is a look and the size is 0, or `form` gives the size.
-at_look : (look post : Bool) (form : Result ℕ VisitFault) (size : ℕ)
+size_of_look_or_form : (look post : Bool) (form : Result ℕ VisitFault) (size : ℕ)
     → (if look then Ok 0 else if post then form else Err refusals.Method) ≡ Ok size
     → ((look ≡ true) × (size ≡ 0)) ⊎ ((look ≡ false) × ((post ≡ true) × (form ≡ Ok size)))
-at_look true post form size e = inl (refl, search rules)
-at_look false true form size e = inr (refl, (refl, e))
-at_look false false form size e = search rules
+size_of_look_or_form true post form size e = inl (refl, search rules)
+size_of_look_or_form false true form size e = inr (refl, (refl, e))
+size_of_look_or_form false false form size e = search rules
 
 -- If `==` finds two numbers equal, they are equal.
 same_length : (n size : ℕ) → (n == size) ≡ true → n ≡ size
@@ -156,7 +156,7 @@ asks_by_form rules v body asked post e =
     let not_look = no_look v.method post in
     let root = passed_unless (is_root v.path) refusals.NoPage _ whole.size whole.sized in
     let fit = form_is_fit rules v whole.size
-    (at_post (is_look v) (is_post v) (form_size rules v) whole.size not_look post root.1) in
+    (size_of_post (is_look v) (is_post v) (form_size rules v) whole.size not_look post root.1) in
     let posted = by_form v body asked not_look whole.by in
     let few : length body ≤ 4096 = subst (λ size. size ≤ 4096) (sym whole.full) fit.few in
     record {
@@ -176,7 +176,7 @@ sized_few rules v size e =
     ⊎_elim
     (λ look. subst (λ size. size ≤ 4096) (sym look.1) (omega arith))
     (λ post. (form_is_fit rules v size post.1.1).few)
-    (at_look (is_look v) (is_post v) (form_size rules v) size root.1)
+    (size_of_look_or_form (is_look v) (is_post v) (form_size rules v) size root.1)
 
 -- If a request asks for something, its body has at most 4,096 bytes.
 pub asks_few : (rules : RulesShown) (v : VisitShown) (body : List ℕ) (asked : Asked) → wanted_of rules v body ≡ Ok asked
@@ -197,4 +197,4 @@ look_or_post rules v body asked e =
     let whole = asks_whole rules v body asked e in
     let root = passed_unless (is_root v.path) refusals.NoPage _ whole.size whole.sized in
     ⊎_elim (λ look. inl look.0) (λ post. inr post.1.0)
-    (at_look (is_look v) (is_post v) (form_size rules v) whole.size root.1)
+    (size_of_look_or_form (is_look v) (is_post v) (form_size rules v) whole.size root.1)

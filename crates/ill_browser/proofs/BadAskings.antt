@@ -30,8 +30,8 @@ cross_site site origin cross =
     subst (λ s. (if length s == 0 then origin else bytes_eq s (codes "same-origin")) ≡ false) (sym is) refl
 
 -- If the site has length 0 and the origin is not the operator's, the test of `is_own` fails.
-by_origin : (site : ℕ) (origin same : Bool) → site ≡ 0 → origin ≡ false → (if site == 0 then origin else same) ≡ false
-by_origin site origin same none other = simp (none, other) refl
+no_site_is_foreign : (site : ℕ) (origin same : Bool) → site ≡ 0 → origin ≡ false → (if site == 0 then origin else same) ≡ false
+no_site_is_foreign site origin same none other = simp (none, other) refl
 
 -- If the origins are not the same, the test of `is_origin` fails.
 other_origin : (named same : Bool) → same ≡ false → (named && same) ≡ false
@@ -39,10 +39,10 @@ other_origin true same other = other
 other_origin false same other = refl
 
 -- If `origin` is empty, it is not `own`, that of the operator: the test of `is_origin` fails.
-no_origin : (own origin : List ℕ) → length origin ≡ 0 → (not (length own == 0) && bytes_eq origin own) ≡ false
-no_origin [] origin none = refl
-no_origin (first ∷ more) [] none = other_origin _ _ refl
-no_origin (first ∷ more) (byte ∷ bytes) none = search rules
+empty_origin_is_foreign : (own origin : List ℕ) → length origin ≡ 0 → (not (length own == 0) && bytes_eq origin own) ≡ false
+empty_origin_is_foreign [] origin none = refl
+empty_origin_is_foreign (first ∷ more) [] none = other_origin _ _ refl
+empty_origin_is_foreign (first ∷ more) (byte ∷ bytes) none = search rules
 
 -- If the operator wants a name and `user` has length 0, the test of `has_user` fails.
 no_user : (is_open : Bool) (user : ℕ) → is_open ≡ false → user ≡ 0 → (is_open || not (user == 0)) ≡ false
@@ -53,17 +53,17 @@ too_long : (size : ℕ) → 4096 < size → size ≤ 4096 → ⊥
 too_long size long few = omega (arith, long, few)
 
 -- A size above 0 is not found equal to 0.
-no_rest : (size : ℕ) → 0 < size → (size == 0) ≡ true → ⊥
-no_rest size some none = grind (arith, nat_tests, some, none)
+positive_is_not_zero : (size : ℕ) → 0 < size → (size == 0) ≡ true → ⊥
+positive_is_not_zero size some none = grind (arith, nat_tests, some, none)
 
 -- A count that is above 0 is not 0.
 not_none : (count : ℕ) → count ≡ 0 → 0 < count → ⊥
 not_none count none some = omega (arith, none, some)
 
 -- If a request looks at a page and asks for `asked`, the fields of its query ask for it (`LooksAt`).
-looks : (rules : RulesShown) (v : VisitShown) (body : List ℕ) (asked : Asked) → is_look v ≡ true
+query_looks_at : (rules : RulesShown) (v : VisitShown) (body : List ℕ) (asked : Asked) → is_look v ≡ true
     → Ok asked ≡ wanted_of rules v body → LooksAt (fields_in v.query) asked
-looks rules v body asked look e =
+query_looks_at rules v body asked look e =
     looks_at (fields_in v.query) asked (asks_by_query rules v body asked look (sym e))
 
 -- If `result` is what a request asks for, it is no wrong reading. Each case cites the lemma that excludes it.
@@ -77,10 +77,10 @@ is_no_misreading r v body _ (foreign_site_asks asked post cross) e =
     not_both _ asks.own (cross_site v.site _ cross)
 is_no_misreading r v body _ (foreign_origin_asks asked post none other) e =
     let asks = asks_by_form r v body asked post (sym e) in
-    not_both _ asks.own (by_origin (length v.site) _ _ none (other_origin _ _ other))
+    not_both _ asks.own (no_site_is_foreign (length v.site) _ _ none (other_origin _ _ other))
 is_no_misreading r v body _ (silence_asks asked post none silent) e =
     let asks = asks_by_form r v body asked post (sym e) in
-    not_both _ asks.own (by_origin (length v.site) _ _ none (no_origin r.origin v.origin silent))
+    not_both _ asks.own (no_site_is_foreign (length v.site) _ _ none (empty_origin_is_foreign r.origin v.origin silent))
 is_no_misreading r v body _ (nobody_asks asked post nobody closed) e =
     let asks = asks_by_form r v body asked post (sym e) in
     not_both _ asks.user (no_user r.is_open (length v.user) closed nobody)
@@ -96,27 +96,27 @@ is_no_misreading r v body _ (note_beside_act_asks asked name post noted acts som
 is_no_misreading r v body _ (other_note_is_kept loan note post other) e =
     other (note_has_text (fields_in body) loan note (asks_posts r v body (Note loan note) post (sym e)))
 is_no_misreading r v body _ (query_asks asked post query) e =
-    let asks = asks_by_form r v body asked post (sym e) in no_rest (length v.query) query asks.no_query
+    let asks = asks_by_form r v body asked post (sym e) in positive_is_not_zero (length v.query) query asks.no_query
 is_no_misreading r v body _ (doubled_query_asks asked name look more) e =
-    doubled_looks_at_nothing (fields_in v.query) asked name (looks r v body asked look e) more
+    doubled_looks_at_nothing (fields_in v.query) asked name (query_looks_at r v body asked look e) more
 is_no_misreading r v body _ (stray_query_asks asked name look some stray) e =
-    stray_looks_at_nothing (fields_in v.query) asked name (looks r v body asked look e) some stray
+    stray_looks_at_nothing (fields_in v.query) asked name (query_looks_at r v body asked look e) some stray
 is_no_misreading r v body _ (words_beside_another_ask asked name look words other apart) e =
-    words_stand_alone (fields_in v.query) asked name (looks r v body asked look e) words other apart
+    words_stand_alone (fields_in v.query) asked name (query_looks_at r v body asked look e) words other apart
 is_no_misreading r v body _ (figures_of_a_desk_ask asked look day desk) e =
-    figures_have_no_desk (fields_in v.query) asked (looks r v body asked look e) day desk
+    figures_have_no_desk (fields_in v.query) asked (query_looks_at r v body asked look e) day desk
 is_no_misreading r v body _ (other_words_are_found find words look here other) e =
-    other (finds_these (fields_in v.query) find words (looks r v body (Desks find) look e) here)
+    other (finds_these (fields_in v.query) find words (query_looks_at r v body (Desks find) look e) here)
 is_no_misreading r v body _ (other_page_asks asked page look here other) e =
-    not_both _ (page_is_slip (fields_in v.query) asked page (looks r v body asked look e) here) other
+    not_both _ (page_is_slip (fields_in v.query) asked page (query_looks_at r v body asked look e) here) other
 is_no_misreading r v body _ (page_is_passed_over loan look page) e =
-    loan_has_no_page (fields_in v.query) loan (looks r v body (Loan loan) look e) page
+    loan_has_no_page (fields_in v.query) loan (query_looks_at r v body (Loan loan) look e) page
 is_no_misreading r v body _ (slip_of_no_page loan look none) e =
-    not_none _ none (slip_has_page (fields_in v.query) loan (looks r v body (Slip loan) look e))
+    not_none _ none (slip_has_page (fields_in v.query) loan (query_looks_at r v body (Slip loan) look e))
 is_no_misreading r v body _ (figures_from_another_day from to look other) e =
-    other (figures_have_days (fields_in v.query) from to (looks r v body (Figures from to) look e)).0
+    other (figures_have_days (fields_in v.query) from to (query_looks_at r v body (Figures from to) look e)).0
 is_no_misreading r v body _ (figures_to_another_day from to look other) e =
-    other (figures_have_days (fields_in v.query) from to (looks r v body (Figures from to) look e)).1
+    other (figures_have_days (fields_in v.query) from to (query_looks_at r v body (Figures from to) look e)).1
 
 -- What a request asks for is no wrong reading.
 pub not_misread : (rules : RulesShown) (v : VisitShown) (body : List ℕ) → MisreadsVisit rules v body (wanted_of rules v body) → ⊥

@@ -12,7 +12,8 @@ use Rattle.ill_browser.specs.Wanted.{Asked, LoanAsked, Act, Note, act_named, act
 use Rattle.ill_browser.specs.Wanted.{note_names, or_fields, posted_of, wanted_of}
 use Rattle.ill_browser.proofs.AskingLemmas.{asks_by_form, asks_by_query, look_or_post}
 use Rattle.ill_browser.proofs.LookLemmas.{looks_at, looks_change_nothing}
-use Rattle.ill_browser.proofs.NamingLemmas.{bound, either, has_loan, named_by, no_stranger, not_both, not_twice, only_once}
+use Rattle.ill_browser.proofs.NamingLemmas.{bind_gave, choice_gave, has_loan, named_by, no_stranger, not_both, not_twice}
+use Rattle.ill_browser.proofs.NamingLemmas.{only_once}
 
 -- The fields of a form ask for `asked`: for an act or for a note. Each case says what the fields then have.
 pub data Posts (fields : List Pair) (asked : Asked) : Type 0 where
@@ -28,19 +29,19 @@ same : {X : Type 0} (one other : X) → Some one ≡ Some other → other ≡ on
 same one other e = search rules
 
 -- If the fields have names of an act alone, and `act_named` gives `asked`, they ask for an act (`Posts`).
-act : (fields : List Pair) (asked : Asked) → are_named act_names fields ≡ true → or_fields (act_named fields) ≡ Ok asked
+act_posted : (fields : List Pair) (asked : Asked) → are_named act_names fields ≡ true → or_fields (act_named fields) ≡ Ok asked
     → Posts fields asked
-act fields asked named e =
-    let loan = bound (loan_named fields) _ asked (named_by (act_named fields) asked e) in
-    let stamp = bound (only_named (codes "stamp") fields) _ asked loan.1.1 in
+act_posted fields asked named e =
+    let loan = bind_gave (loan_named fields) _ asked (named_by (act_named fields) asked e) in
+    let stamp = bind_gave (only_named (codes "stamp") fields) _ asked loan.1.1 in
     an_act loan.0 stamp.0 named loan.1.0 stamp.1.0 (same _ asked stamp.1.1)
 
 -- If the fields have names of a note alone, and `note_named` gives `asked`, they ask for a note (`Posts`).
 note : (fields : List Pair) (asked : Asked) → are_named note_names fields ≡ true → or_fields (note_named fields) ≡ Ok asked
     → Posts fields asked
 note fields asked named e =
-    let loan = bound (loan_named fields) _ asked (named_by (note_named fields) asked e) in
-    let text = bound (only_named (codes "note") fields) _ asked loan.1.1 in
+    let loan = bind_gave (loan_named fields) _ asked (named_by (note_named fields) asked e) in
+    let text = bind_gave (only_named (codes "note") fields) _ asked loan.1.1 in
     a_note loan.0 text.0 named loan.1.0 text.1.0 (same _ asked text.1.1)
 
 -- A refusal asks for nothing: it is never `Ok asked`.
@@ -51,10 +52,10 @@ refused fields asked refusal e = search rules
 -- `posted_of` are taken in their order.
 pub posts : (fields : List Pair) (asked : Asked) → posted_of fields ≡ Ok asked → Posts fields asked
 posts fields asked e =
-    ⊎_elim (λ at. act fields asked at.0 at.1) (λ e.
+    ⊎_elim (λ at. act_posted fields asked at.0 at.1) (λ e.
     ⊎_elim (λ at. note fields asked at.0 at.1) (λ e. refused fields asked _ e)
-    (either (are_named note_names fields) (or_fields (note_named fields)) _ asked e))
-    (either (are_named act_names fields) (or_fields (act_named fields)) _ asked e)
+    (choice_gave (are_named note_names fields) (or_fields (note_named fields)) _ asked e))
+    (choice_gave (are_named act_names fields) (or_fields (act_named fields)) _ asked e)
 
 -- If the fields of a form ask for `asked`, it is a change.
 pub posts_change : (fields : List Pair) (asked : Asked) → Posts fields asked → is_change asked ≡ true

@@ -11,8 +11,9 @@ use Rattle.ill_browser.specs.Fields.{Pair, are_named, count_named, only_named}
 use Rattle.ill_browser.specs.Wanted.{Asked, LoanAsked, Desks, Loan, Slip, Figures, ◌>>=◌, day_named, figures_named, figures_names}
 use Rattle.ill_browser.specs.Wanted.{find_names, found_named, is_change, is_slip, loan_named, loan_names, looked_of, or_fields}
 use Rattle.ill_browser.specs.Wanted.{page_named, slip_named, slip_names}
-use Rattle.ill_browser.proofs.NamingLemmas.{are_once, bound, either, has_loan, if_some, named_by, no_doubled, no_stranger}
-use Rattle.ill_browser.proofs.NamingLemmas.{not_both, one_of, only_counts, only_once, within}
+use Rattle.ill_browser.proofs.NamingLemmas.{are_once, bind_gave, choice_gave, has_loan, if_some, named_by, no_doubled}
+use Rattle.ill_browser.proofs.NamingLemmas.{no_stranger}
+use Rattle.ill_browser.proofs.NamingLemmas.{not_both, on_field_is_among, only_counts, only_once, within}
 
 -- The fields of a query ask for `asked`: for one of five pages. Each case says what the fields then have.
 pub data LooksAt (fields : List Pair) (asked : Asked) : Type 0 where
@@ -56,14 +57,14 @@ desks fields asked none e = at_desks (empty fields none) (same (Desks None) aske
 found : (fields : List Pair) (asked : Asked) → are_named find_names fields ≡ true → or_fields (found_named fields) ≡ Ok asked
     → LooksAt fields asked
 found fields asked named e =
-    let words = bound (only_named (codes "find") fields) _ asked (named_by (found_named fields) asked e) in
+    let words = bind_gave (only_named (codes "find") fields) _ asked (named_by (found_named fields) asked e) in
     at_found words.0 named words.1.0 (same _ asked words.1.1)
 
 -- If the fields have names of a loan alone, and `page_named` gives `asked`, they ask for its page.
 page : (fields : List Pair) (asked : Asked) → are_named loan_names fields ≡ true → or_fields (page_named fields) ≡ Ok asked
     → LooksAt fields asked
 page fields asked named e =
-    let loan = bound (loan_named fields) _ asked (named_by (page_named fields) asked e) in
+    let loan = bind_gave (loan_named fields) _ asked (named_by (page_named fields) asked e) in
     at_loan loan.0 named loan.1.0 (same _ asked loan.1.1)
 
 -- If the fields have names of a slip alone, and `slip_named` gives `asked`, they ask for the slip.
@@ -73,15 +74,15 @@ slip fields asked named e =
     let slip = if_some (is_slip (only_named (codes "page") fields)) (loan_named fields >>= λ loan. Some (Slip loan)) asked
     (named_by (slip_named fields) asked e) in
     let page = slip_is (only_named (codes "page") fields) slip.0 in
-    let loan = bound (loan_named fields) _ asked slip.1 in
+    let loan = bind_gave (loan_named fields) _ asked slip.1 in
     at_slip loan.0 page.0 named page.1.0 page.1.1 loan.1.0 (same _ asked loan.1.1)
 
 -- If the fields have names of figures alone, and `figures_named` gives `asked`, they ask for figures.
 figures : (fields : List Pair) (asked : Asked) → are_named figures_names fields ≡ true
     → or_fields (figures_named fields) ≡ Ok asked → LooksAt fields asked
 figures fields asked named e =
-    let first = bound (day_named (codes "from") fields) _ asked (named_by (figures_named fields) asked e) in
-    let last = bound (day_named (codes "to") fields) _ asked first.1.1 in
+    let first = bind_gave (day_named (codes "from") fields) _ asked (named_by (figures_named fields) asked e) in
+    let last = bind_gave (day_named (codes "to") fields) _ asked first.1.1 in
     at_figures first.0 last.0 named first.1.0 last.1.0 (same _ asked last.1.1)
 
 -- A refusal asks for nothing: it is never `Ok asked`.
@@ -97,11 +98,11 @@ looks_at fields asked e =
     ⊎_elim (λ at. page fields asked at.0 at.1) (λ e.
     ⊎_elim (λ at. slip fields asked at.0 at.1) (λ e.
     ⊎_elim (λ at. figures fields asked at.0 at.1) (λ e. refused fields asked _ e)
-    (either (are_named figures_names fields) (or_fields (figures_named fields)) _ asked e))
-    (either (are_named slip_names fields) (or_fields (slip_named fields)) _ asked e))
-    (either (are_named loan_names fields) (or_fields (page_named fields)) _ asked e))
-    (either (are_named find_names fields) (or_fields (found_named fields)) _ asked e))
-    (either (length fields == 0) (or_fields (Some (Desks None))) _ asked e)
+    (choice_gave (are_named figures_names fields) (or_fields (figures_named fields)) _ asked e))
+    (choice_gave (are_named slip_names fields) (or_fields (slip_named fields)) _ asked e))
+    (choice_gave (are_named loan_names fields) (or_fields (page_named fields)) _ asked e))
+    (choice_gave (are_named find_names fields) (or_fields (found_named fields)) _ asked e))
+    (choice_gave (length fields == 0) (or_fields (Some (Desks None))) _ asked e)
 
 -- If the fields of a query ask for `asked`, it is no change.
 pub looks_change_nothing : (fields : List Pair) (asked : Asked) → LooksAt fields asked → is_change asked ≡ false
@@ -122,7 +123,7 @@ pub record IsTidy (fields : List Pair) : Type 0 where
 day_once : (name : List ℕ) (fields : List Pair) (day : Date) → day_named name fields ≡ Some day
     → (count_named name fields == 1) ≡ true
 day_once name fields day e =
-    let text = bound (only_named name fields) _ day e in only_once name fields text.0 text.1.0
+    let text = bind_gave (only_named name fields) _ day e in only_once name fields text.0 text.1.0
 
 -- If the fields of a query ask for something, they are tidy. For each page, `names` are those of its fields.
 is_tidy : (fields : List Pair) (asked : Asked) → LooksAt fields asked → IsTidy fields
@@ -160,7 +161,7 @@ pub stray_looks_at_nothing : (fields : List Pair) (asked : Asked) (name : List �
     → 0 < count_named name fields → is_among name query_names ≡ false → ⊥
 stray_looks_at_nothing fields asked name looks some stray =
     let tidy = is_tidy fields asked looks in
-    let one = one_of tidy.names name fields tidy.named some in
+    let one = on_field_is_among tidy.names name fields tidy.named some in
     not_both (is_among name query_names) (within tidy.names query_names name tidy.known one) stray
 
 -- If there are no fields, none has `name`.

@@ -12,10 +12,10 @@ use Rattle.ill_browser.specs.Fields.{Pair, are_named, count_named, first_named, 
 use Rattle.ill_browser.specs.Wanted.{Asked, LoanAsked, ◌>>=◌, loan_named, or_fields}
 
 -- If `first >>= next` is `Some b`, `first` has a value `a`, and `next a` is `Some b`.
-pub bound : {A B : Type 0} (first : Option A) (next : A → Option B) (b : B) → (first >>= next) ≡ Some b
+pub bind_gave : {A B : Type 0} (first : Option A) (next : A → Option B) (b : B) → (first >>= next) ≡ Some b
     → (a : A) × ((first ≡ Some a) × (next a ≡ Some b))
-bound (Some a) next b e = (a, (refl, e))
-bound None next b e = search rules
+bind_gave (Some a) next b e = (a, (refl, e))
+bind_gave None next b e = search rules
 
 -- If `or_fields named` is `Ok asked`, `named` is `Some asked`.
 pub named_by : (named : Option Asked) (asked : Asked) → or_fields named ≡ Ok asked → named ≡ Some asked
@@ -23,10 +23,10 @@ named_by (Some named) asked e = search rules
 named_by None asked e = search rules
 
 -- If a choice gives `Ok x`, its test is true and `one` is `Ok x`, or `other` is `Ok x`.
-pub either : {X : Type 0} (test : Bool) (one other : Result X VisitFault) (x : X) → (if test then one else other) ≡ Ok x
+pub choice_gave : {X : Type 0} (test : Bool) (one other : Result X VisitFault) (x : X) → (if test then one else other) ≡ Ok x
     → ((test ≡ true) × (one ≡ Ok x)) ⊎ (other ≡ Ok x)
-either true one other x e = inl (refl, e)
-either false one other x e = inr e
+choice_gave true one other x e = inl (refl, e)
+choice_gave false one other x e = inr e
 
 -- No option is both `Some x` and None.
 pub some_is_none : {X : Type 0} (x : X) (o : Option X) → o ≡ Some x → o ≡ None → ⊥
@@ -53,13 +53,13 @@ pub only_counts : (name : List ℕ) (fields : List Pair) (text : List ℕ) → o
     → 0 < count_named name fields
 only_counts name fields text e = one_counts (count_named name fields) (only_once name fields text e)
 
--- If `one_of` holds for `fields`, it holds for `field ∷ fields`. `is` says if `field` has the name.
-counted_more : (names : List (List ℕ)) (name : List ℕ) (field : Pair) (fields : List Pair) (is : Bool)
+-- If `on_field_is_among` holds for `fields`, it holds for `field ∷ fields`. `is` says if `field` has the name.
+one_of_more : (names : List (List ℕ)) (name : List ℕ) (field : Pair) (fields : List Pair) (is : Bool)
     → (0 < count_named name fields → is_among name names ≡ true) → is_named name field ≡ is
     → list_any (λ known. is_named known field) names ≡ true → 0 < count_named name (field ∷ fields) → is_among name names ≡ true
-counted_more names name field fields true rest same one some =
+one_of_more names name field fields true rest same one some =
     subst (λ text. is_among text names ≡ true) ((bytes_eq-Decides field.0 name).0 same) one
-counted_more names name field fields false rest same one some = rest (subst (λ count. 0 < count) (simp (same) refl) some)
+one_of_more names name field fields false rest same one some = rest (subst (λ count. 0 < count) (simp (same) refl) some)
 
 -- If a conjunction is true, both its sides are.
 and_both : (a b : Bool) → (a && b) ≡ true → (a ≡ true) × (b ≡ true)
@@ -67,12 +67,12 @@ and_both true b e = (refl, e)
 and_both false b e = search rules
 
 -- If each field has one of `names`, a `name` that a field has is one of them.
-pub one_of : (names : List (List ℕ)) (name : List ℕ) (fields : List Pair) → are_named names fields ≡ true
+pub on_field_is_among : (names : List (List ℕ)) (name : List ℕ) (fields : List Pair) → are_named names fields ≡ true
     → 0 < count_named name fields → is_among name names ≡ true
-one_of names name [] named some = search (arith, rules)
-one_of names name (field ∷ fields) named some =
+on_field_is_among names name [] named some = search (arith, rules)
+on_field_is_among names name (field ∷ fields) named some =
     let both = and_both (list_any (λ known. is_named known field) names) (are_named names fields) named in
-    counted_more names name field fields (is_named name field) (one_of names name fields both.1) refl both.0 some
+    one_of_more names name field fields (is_named name field) (on_field_is_among names name fields both.1) refl both.0 some
 
 -- No Bool is both true and false.
 pub not_both : (b : Bool) → b ≡ true → b ≡ false → ⊥
@@ -83,7 +83,7 @@ not_both false is is_not = search rules
 pub no_stranger : (names : List (List ℕ)) (name : List ℕ) (fields : List Pair) → are_named names fields ≡ true
     → 0 < count_named name fields → is_among name names ≡ false → ⊥
 no_stranger names name fields named some stranger =
-    not_both (is_among name names) (one_of names name fields named some) stranger
+    not_both (is_among name names) (on_field_is_among names name fields named some) stranger
 
 -- If `known` and the names after it are among `all`, `name` is too, if it is one of these.
 among_first : (name known : List ℕ) (all : List (List ℕ)) (same other among : Bool) → bytes_eq name known ≡ same
@@ -132,7 +132,7 @@ once_not_twice (known ∷ names) name fields once one more =
 pub no_doubled : (names : List (List ℕ)) (name : List ℕ) (fields : List Pair) → are_named names fields ≡ true
     → are_once names fields ≡ true → 1 < count_named name fields → ⊥
 no_doubled names name fields named once more =
-    once_not_twice names name fields once (one_of names name fields named (omega (arith, more))) more
+    once_not_twice names name fields once (on_field_is_among names name fields named (omega (arith, more))) more
 
 -- What fields that name a loan have: a desk, a group and a transaction, each once.
 pub record HasLoan (fields : List Pair) : Type 0 where
@@ -143,9 +143,9 @@ pub record HasLoan (fields : List Pair) : Type 0 where
 -- If the fields name a loan, its desk, group and transaction are each on one field alone.
 pub has_loan : (fields : List Pair) (loan : LoanAsked) → loan_named fields ≡ Some loan → HasLoan fields
 has_loan fields loan e =
-    let desk = bound (only_named (codes "desk") fields) _ loan e in
-    let group = bound (only_named (codes "group") fields) _ loan desk.1.1 in
-    let transaction = bound (only_named (codes "transaction") fields) _ loan group.1.1 in
+    let desk = bind_gave (only_named (codes "desk") fields) _ loan e in
+    let group = bind_gave (only_named (codes "group") fields) _ loan desk.1.1 in
+    let transaction = bind_gave (only_named (codes "transaction") fields) _ loan group.1.1 in
     record {
       desk = only_once (codes "desk") fields desk.0 desk.1.0;
       group = only_once (codes "group") fields group.0 group.1.0;

@@ -100,10 +100,10 @@ no_texts_said m id argument refusal named is right =
     subst (λ (nothing : Bool). IsRefusal nothing refusal) (sym (ap is_none (texts_said m id argument None named is))) right
 
 -- If the parser met the subcommand `word` with `rows`, `subcommand_rows_of` returns both.
-pub met_with : (m : ArgMatches) (word : List ℕ) (rows : List Row) → Some word ≡ subcommand_name_of m
+pub subcommand_met : (m : ArgMatches) (word : List ℕ) (rows : List Row) → Some word ≡ subcommand_name_of m
     → Some rows ≡ option_map (λ (said : Text × List Row). said.1) (subcommand_rows_of m)
     → subcommand_rows_of m ≡ Some (word, rows)
-met_with m word rows named has = go (out-ArgMatches m).subcommand named has
+subcommand_met m word rows named has = go (out-ArgMatches m).subcommand named has
   where
     -- The lemma for `sub`, the subcommand that the parser has.
     go : {Z : Type 0} (sub : Option (Box SubCommand Z))
@@ -130,10 +130,10 @@ refused_mapped None of refusal right = right
 refused_mapped (Some value) of refusal right = right
 
 -- If `result` is the error `refusal`, and `refusal` is justified for `said`, `result` reads `said`.
-pub passed_on : {A B : Type 0} (of : B → A) (said : Option A) (result : Result B Refusal) (refusal : Refusal)
+pub error_reads : {A B : Type 0} (of : B → A) (said : Option A) (result : Result B Refusal) (refusal : Refusal)
     → IsErrAnd result (λ given. given ≡ refusal) → IsRefusal (is_none said) refusal → ReadsValue of said result
-passed_on of said (Ok read) refusal is right = absurd is
-passed_on of said (Err given) refusal is right = subst (λ refusal. IsRefusal (is_none said) refusal) (sym is) right
+error_reads of said (Ok read) refusal is right = absurd is
+error_reads of said (Err given) refusal is right = subst (λ refusal. IsRefusal (is_none said) refusal) (sym is) right
 
 -- If `first` is `value`, a `refusal` that is justified for `rest value` is justified for `first >>= rest`.
 pub refused_at : {A B : Type 0} (first : Option A) (value : A) (rest : A → Option B) (refusal : Refusal)
@@ -203,21 +203,21 @@ options_met words action first met is ends =
     ∙ ap (λ (any : Bool). not met && any) (any_text is_option action)
 
 -- If `if has then None else Some asked` is not None, it is Some `asked`.
-let_if : (has : Bool) (asked : Asked) → is_none (if has then None else Some asked) ≡ false
+unless_keeps : (has : Bool) (asked : Asked) → is_none (if has then None else Some asked) ≡ false
     → (if has then None else Some asked) ≡ Some asked
-let_if true asked is = absurd (true≢false is)
-let_if false asked is = refl
+unless_keeps true asked is = absurd (true≢false is)
+unless_keeps false asked is = refl
 
 -- If `unless_option words asked` is not None, it is Some `asked`.
-let_through : (words : List (List ℕ)) (asked : Asked) → is_none (unless_option words asked) ≡ false
+unless_option_keeps : (words : List (List ℕ)) (asked : Asked) → is_none (unless_option words asked) ≡ false
     → unless_option words asked ≡ Some asked
-let_through words (Act file asking by is_long is_new_group) is =
-    let_if (has_option words asking.words) (Act file asking by is_long is_new_group) is
-let_through words (Note file txn note) is = let_if (has_option words note) (Note file txn note) is
-let_through words other is = refl
+unless_option_keeps words (Act file asking by is_long is_new_group) is =
+    unless_keeps (has_option words asking.words) (Act file asking by is_long is_new_group) is
+unless_option_keeps words (Note file txn note) is = unless_keeps (has_option words note) (Note file txn note) is
+unless_option_keeps words other is = refl
 
 -- If `said` is `asked` and `unless_option` does not refuse it, `said_free words said` is `asked`.
-pub read_whole : (words : List (List ℕ)) (said : Option Asked) (asked : Asked) → said ≡ Some asked
+pub said_free_keeps : (words : List (List ℕ)) (said : Option Asked) (asked : Asked) → said ≡ Some asked
     → is_none (unless_option words asked) ≡ false → said_free words said ≡ Some asked
-read_whole words said asked is free =
-    ap (said_free words) is ∙ let_through words asked free
+said_free_keeps words said asked is free =
+    ap (said_free words) is ∙ unless_option_keeps words asked free

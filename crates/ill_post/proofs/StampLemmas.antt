@@ -56,7 +56,7 @@ same_count s t few-s few-t e =
     (same_rest _ _ _ _ (text_size (record_encoding s) ∙ sym (text_size (record_encoding t))) e))
 
 -- What the laws of `ill_core` say of actions that are done. Each issues one message, and at most 255 are issued then.
-pub record Rows : Type 0 where
+pub record ActionLaws : Type 0 where
   pub wish_issues : (x new : RequesterRecord) (wish : Wish) → requester_actions.acts x wish ≡ Ok new
       → IssuesNext x.txn x.issued new.issued
   pub wish_few : (x new : RequesterRecord) (wish : Wish) → requester_actions.acts x wish ≡ Ok new → length new.issued ≤ 255
@@ -76,7 +76,7 @@ done_is make (Ok made) new e = (made, refl, search rules)
 done_is make (Err refusal) new e = search rules
 
 -- If `action` leads from `old` to `new`, one more message is issued, and at most 255 are issued.
-issues_one : Rows → (old new : Side) (action : Action) → acts old action ≡ Ok new
+issues_one : ActionLaws → (old new : Side) (action : Action) → acts old action ≡ Ok new
     → (length (issued_of new) ≡ length (issued_of old) + 1) × (length (issued_of new) ≤ 255)
 issues_one rows (sides.Requester x) new (actions.Wish wish) e =
     let is = done_is sides.Requester (requester_actions.acts x wish) new e in
@@ -90,8 +90,9 @@ issues_one rows (sides.Requester x) new (actions.Deed deed today) e = search rul
 issues_one rows (sides.Responder y) new (actions.Wish wish) e = search rules
 
 -- If `action` leads from `old` to `new`, their stamps differ: they count different numbers of messages.
-pub another : Rows → (old new : Side) (action : Action) → acts old action ≡ Ok new → side_stamp old ≡ side_stamp new → ⊥
-another rows old new action e same =
+pub action_changes_stamp : ActionLaws → (old new : Side) (action : Action) → acts old action ≡ Ok new
+    → side_stamp old ≡ side_stamp new → ⊥
+action_changes_stamp rows old new action e same =
     let one = issues_one rows old new action e in
     let few : length (issued_of old) ≤ 255 = omega (arith, one.0, one.1) in
     let count = same_count old new few one.1 same in

@@ -32,7 +32,7 @@ use Rattle.ill_post.proofs.StampLemmas.{new_is_no_stamp}
 -- ---- what is known of actions
 
 -- What is known of actions: each that is done changes the stamp, and keeps the transaction.
-pub record Known : Type 0 where
+pub record ActionFacts : Type 0 where
   pub changes : (old new : Side) (action : Action) → acts old action ≡ Ok new → side_stamp old ≡ side_stamp new → ⊥
   pub grows : (old new : Side) → IsSideTransition old new → Grows old new
 
@@ -47,7 +47,7 @@ idle_is_of roles.Requester txn = refl
 idle_is_of roles.Responder txn = refl
 
 -- If `action` leads from `old` to `new`, they are of one transaction.
-keeps_txn : Known → (old new : Side) (action : Action) → acts old action ≡ Ok new → txn_of new ≡ txn_of old
+keeps_txn : ActionFacts → (old new : Side) (action : Action) → acts old action ≡ Ok new → txn_of new ≡ txn_of old
 keeps_txn known old new action e =
     sym (idle_txn new) ∙ ap txn_of (known.grows old new (transitions.acted action e)).0 ∙ idle_txn old
 
@@ -93,52 +93,54 @@ record Reached (live : DeskContents) (txn : Qualifiers) (action : Action) (betwe
   put : between ≡ with_held live (record { side = after; released = held.released })
 
 -- If `acted` gives `between`, the result is a side `after`, and `between` is `live` with this side.
-acted_is : (live between : DeskContents) (held : DeskEntry) (result : Result Side Refusal) → acted live held result ≡ Ok between
+acted_puts_side : (live between : DeskContents) (held : DeskEntry) (result : Result Side Refusal)
+    → acted live held result ≡ Ok between
     → (after : Side) × ((result ≡ Ok after) × (between ≡ with_held live (record { side = after; released = held.released })))
-acted_is live between held (Ok after) e = (after, (refl, search rules))
-acted_is live between held (Err refusal) e = search rules
+acted_puts_side live between held (Ok after) e = (after, (refl, search rules))
+acted_puts_side live between held (Err refusal) e = search rules
 
 -- If `acts_reached` gives `between`, `call` found an entry `held`, and the action on it gives `between`.
-reached_is : (live between : DeskContents) (action : Action) (call : Result DeskEntry DeskFault)
+entry_was_found : (live between : DeskContents) (action : Action) (call : Result DeskEntry DeskFault)
     → acts_reached live action call ≡ Ok between
     → (held : DeskEntry) × ((call ≡ Ok held) × (acted live held (acts held.side action) ≡ Ok between))
-reached_is live between action (Ok held) e = (held, (refl, e))
-reached_is live between action (Err fault) e = search rules
+entry_was_found live between action (Ok held) e = (held, (refl, e))
+entry_was_found live between action (Err fault) e = search rules
 
 -- If a choice between `done` and `WrongRole` gives `between`, `done` does.
-own_is : (same : Bool) (done : Result DeskContents DeskFault) (between : DeskContents)
+role_is_own : (same : Bool) (done : Result DeskContents DeskFault) (between : DeskContents)
     → (if same then done else Err (faults.Core WrongRole)) ≡ Ok between → done ≡ Ok between
-own_is true done between e = e
-own_is false done between e = search rules
+role_is_own true done between e = e
+role_is_own false done between e = search rules
 
 -- If a desk does `action` in the loan of `txn`, it does so on an entry (`Reached`).
 reached : (live between : DeskContents) (txn : Qualifiers) (action : Action) → desk_acts live txn action ≡ Ok between
     → Reached live txn action between
 reached live between txn action e =
-    let own = own_is (is_same_role live.role (role_for action)) _ between e in
-    let there = reached_is live between action (side_for_call live txn (begins action)) own in
-    let put = acted_is live between there.0 (acts there.0.side action) there.1.1 in
+    let own = role_is_own (is_same_role live.role (role_for action)) _ between e in
+    let there = entry_was_found live between action (side_for_call live txn (begins action)) own in
+    let put = acted_puts_side live between there.0 (acts there.0.side action) there.1.1 in
     record { held = there.0; after = put.0; call = there.1.0; done = put.1.0; put = put.1.1 }
 
 -- The entry `held` of an action is the one that was found. If none was, `held` is the idle one.
-which_is : (may_begin has_room : Bool) (idle held : DeskEntry) (found : Option DeskEntry)
+found_or_idle : (may_begin has_room : Bool) (idle held : DeskEntry) (found : Option DeskEntry)
     → held_or_begun may_begin has_room idle found ≡ Ok held → (found ≡ Some held) ⊎ ((found ≡ None) × (held ≡ idle))
-which_is may_begin has_room idle held (Some there) e = inl (search rules)
-which_is true true idle held None e = inr (refl, search rules)
-which_is true false idle held None e = search rules
-which_is false has_room idle held None e = search rules
+found_or_idle may_begin has_room idle held (Some there) e = inl (search rules)
+found_or_idle true true idle held None e = inr (refl, search rules)
+found_or_idle true false idle held None e = search rules
+found_or_idle false has_room idle held None e = search rules
 
 -- If an action was done, the stamp that its loan had before is not that of the side `after`. If the loan was not held,
 -- its stamp was "new".
-another : Known → (live between : DeskContents) (txn : Qualifiers) (action : Action) (r : Reached live txn action between)
+stamp_before_differs : ActionFacts
+    → (live between : DeskContents) (txn : Qualifiers) (action : Action) (r : Reached live txn action between)
     → stamp_for txn live ≡ side_stamp r.after → ⊥
-another known live between txn action r same =
+stamp_before_differs known live between txn action r same =
     ⊎_elim
     (λ found. known.changes r.held.side r.after action r.done
     (sym (stamp_held txn live ∙ ap (λ o. stamp_of (option_map side_of o)) found) ∙ same))
     (λ none. new_is_no_stamp r.after
     (sym (stamp_held txn live ∙ ap (λ o. stamp_of (option_map side_of o)) none.0) ∙ same))
-    (which_is _ _ _ _ _ r.call)
+    (found_or_idle _ _ _ _ _ r.call)
 
 -- The entry on which an action in the loan of `txn` was done is of `txn`.
 entry_txn : (live between : DeskContents) (txn : Qualifiers) (action : Action) (r : Reached live txn action between)
@@ -147,16 +149,16 @@ entry_txn live between txn action r =
     ⊎_elim
     (λ found. sym (found_is txn_held txn live.held r.held found))
     (λ none. ap txn_held none.1 ∙ idle_is_of live.role txn)
-    (which_is _ _ _ _ _ r.call)
+    (found_or_idle _ _ _ _ _ r.call)
 
 -- If a desk does `action` in the loan of `txn` and is saved, the loan has another stamp than before.
-stale : Known → (live between : DeskContents) (txn : Qualifiers) (action : Action) → desk_acts live txn action ≡ Ok between
+stale : ActionFacts → (live between : DeskContents) (txn : Qualifiers) (action : Action) → desk_acts live txn action ≡ Ok between
     → stamp_for txn live ≡ stamp_for txn (whole_of (sides_held between)) → ⊥
 stale known live between txn action e same =
     let r = reached live between txn action e in
     let of_txn = keeps_txn known r.held.side r.after action r.done ∙ entry_txn live between txn action r in
     let entry : DeskEntry = record { side = r.after; released = r.held.released } in
-    another known live between txn action r
+    stamp_before_differs known live between txn action r
     (same ∙ stamp_saved txn between ∙ ap (stamp_for txn) r.put ∙ stamp_put txn live entry of_txn)
 
 -- ---- a form that was sent
@@ -174,11 +176,11 @@ told_done (Err fault) e = told_fault fault (is_refusal fault) e where
   told_fault fault false e = search rules
 
 -- If the result is Ok, the action was done, and `new` holds what a save leaves of `between`.
-saved_is : (acted : Result (Unit {0}) DeskFault) (between new : DeskState) (done : Unit {0})
+save_leaves_whole : (acted : Result (Unit {0}) DeskFault) (between new : DeskState) (done : Unit {0})
     → SavesAfter acted between (Ok done) new
     → ((was : Unit {0}) × (acted ≡ Ok was)) × (new.live ≡ whole_of (sides_held between.live))
-saved_is (Ok was) between new done saves = ((was, refl), saves.0)
-saved_is (Err fault) between new done saves = search rules
+save_leaves_whole (Ok was) between new done saves = ((was, refl), saves.0)
+save_leaves_whole (Err fault) between new done saves = search rules
 
 -- If the loan of `form` has another stamp than `form`, the form is not fresh.
 not_fresh : (form : FormShown) (live : DeskContents) → (stamp_for form.txn live ≡ form.stamp → ⊥) → is_fresh form live ≡ false
@@ -186,13 +188,13 @@ not_fresh form live other = false_from_ne_true _ (λ is. other ((bytes_eq-Decide
 
 -- If `form` was fresh, and its action was done and saved, `form` is no longer fresh. `acted` is the action, `saved` the
 -- save, and `before` the stamp before them.
-after_done : Known → (form : FormShown) (action : Action) (old new : DeskState) (result : Result (Unit {0}) DeskFault)
+after_done : ActionFacts → (form : FormShown) (action : Action) (old new : DeskState) (result : Result (Unit {0}) DeskFault)
     (done : Unit {0}) → is_fresh form old.live ≡ true → result ≡ Ok done → ActsAndSaves form.txn action old result new
     → is_fresh form new.live ≡ false
 after_done known form action old new result done fresh was acts_and_saves =
     let between = acts_and_saves.1 in
     let saves = subst (λ r. SavesAfter acts_and_saves.0 (record old { live = between }) r new) was acts_and_saves.3 in
-    let saved = saved_is acts_and_saves.0 (record old { live = between }) new done saves in
+    let saved = save_leaves_whole acts_and_saves.0 (record old { live = between }) new done saves in
     let acted : DeskActs many_sides old.live form.txn action (Ok saved.0.0) between =
     subst (λ a. DeskActs many_sides old.live form.txn action a between) saved.0.1 acts_and_saves.2 in
     let before = (bytes_eq-Decides (stamp_for form.txn old.live) form.stamp).0 fresh in
@@ -200,7 +202,7 @@ after_done known form action old new result done fresh was acts_and_saves =
     (before ∙ sym same ∙ ap (stamp_for form.txn) saved.1))
 
 -- If `form` was fresh and was performed with the answer `Done`, it is no longer fresh.
-performed : Known → (form : FormShown) (action : Option Action) (old new : DeskState) → is_fresh form old.live ≡ true
+performed : ActionFacts → (form : FormShown) (action : Option Action) (old new : DeskState) → is_fresh form old.live ≡ true
     → Performs action form.txn old (Ok Done) new → is_fresh form new.live ≡ false
 performed known form None old new fresh performs = search rules
 performed known form (Some action) old new fresh performs =
@@ -208,13 +210,13 @@ performed known form (Some action) old new fresh performs =
     after_done known form action old new performs.0 was.0 fresh was.1 performs.1
 
 -- If `PerformsIf` gives the answer `Done`, `form` is no longer fresh. A form that was not fresh is never `Done`.
-performed_if : Known → (form : FormShown) (fresh : Bool) (old new : DeskState) → is_fresh form old.live ≡ fresh
+performed_if : ActionFacts → (form : FormShown) (fresh : Bool) (old new : DeskState) → is_fresh form old.live ≡ fresh
     → PerformsIf fresh form old (Ok Done) new → is_fresh form new.live ≡ false
 performed_if known form true old new fresh performs = performed known form form.action old new fresh performs
 performed_if known form false old new fresh performs = search rules
 
 -- If `form` was sent and the answer is `Done`, it is no longer fresh.
-done_is_stale : Known → (form : FormShown) (old new : DeskState) → AnswersPost form old (Ok Done) new
+done_is_stale : ActionFacts → (form : FormShown) (old new : DeskState) → AnswersPost form old (Ok Done) new
     → is_fresh form new.live ≡ false
 done_is_stale known form old new answers =
     ⊎_elim
@@ -223,10 +225,10 @@ done_is_stale known form old new answers =
     answers
 
 -- If `form` is `Done` and is sent again at once, nothing changes. The answer is `Changed`, or memory ran out.
-pub twice : Known → (form : FormShown) (old new last : DeskState) (second : Result Posted DeskFault)
+pub sent_again_changes_nothing : ActionFacts → (form : FormShown) (old new last : DeskState) (second : Result Posted DeskFault)
     → AnswersPost form old (Ok Done) new → AnswersPost form new second last
     → ((second ≡ Ok Changed) ⊎ (second ≡ Err faults.OutOfMemory)) × (last ≡ new)
-twice known form old new last second first again =
+sent_again_changes_nothing known form old new last second first again =
     ⊎_elim
     (λ performs. let stays = subst (λ fresh. PerformsIf fresh form new second last)
     (done_is_stale known form old new first) performs in (inl stays.0, stays.1))

@@ -7,7 +7,7 @@ use Rattle.ill_text.specs.declared.fault.ToolFault.{ToolFault}
 use Rattle.ill_text.specs.declared.fault.ToolFault.TheVariants.{Arguments, OutOfMemory, Write}
 use Rattle.ill_text.specs.Show.{RunsShow}
 use Rattle.ill_text.specs.Check.{Checks}
-use Rattle.ill_tool.specs.Simulate.{Performs, PerformsDesks}
+use Rattle.ill_tool.specs.Simulate.{RunsSimulate, RunsSimulateDesks}
 use Rattle.ill_line.specs.Asked.{Asked, asked}
 use Rattle.ill_line.specs.Asked as asks
 use Rattle.ill_line.specs.declared.request.Call.{Call}
@@ -50,9 +50,9 @@ Runs state (asks.Show form) old result new =
     GoesWell (RunsShow form old.unread new.unread old.written new.written) result
 Runs state asks.Check old result new = GoesWell (Checks old.unread new.unread old.written new.written) result
 Runs state (asks.Simulate group transaction) old result new =
-    GoesWell (Performs (txn_id_of group transaction) old.unread new.unread old.written new.written) result
+    GoesWell (RunsSimulate (txn_id_of group transaction) old.unread new.unread old.written new.written) result
 Runs state asks.SimulateDesks old result new =
-    GoesWell (PerformsDesks old.unread new.unread old.written new.written) result
+    GoesWell (RunsSimulateDesks old.unread new.unread old.written new.written) result
 Runs state (asks.New file role) old result new = ReadsNothing (NewAtFile (place_of state file) role) old result new
 Runs state (asks.Act file asking by is_long is_new_group) old result new =
     ReadsNothing (ActsAtFile (place_of state file) asking is_long) old result new

@@ -30,13 +30,13 @@ GivesAnswerOf Simulated result =
 -- The command `simulate`: a simulation of the transaction. It reads the input from `old` to `new`, and the
 -- output grows from `before` to `after`. If the arguments are no transaction id, the fault is `Arguments`,
 -- and nothing is read or written.
-abbrev pub Performs : Result Qualifiers TextFault → Option (List ℕ) → Option (List ℕ) →
+abbrev pub RunsSimulate : Result Qualifiers TextFault → Option (List ℕ) → Option (List ℕ) →
     Option (List ℕ) → Option (List ℕ) → Result ℕ ToolFault → Type 0
-Performs (Ok txn) old new before after result = GivesAnswerOf (Simulates txn old new before after) result
-Performs (Err fault) old new before after result =
+RunsSimulate (Ok txn) old new before after result = GivesAnswerOf (Simulates txn old new before after) result
+RunsSimulate (Err fault) old new before after result =
     (result ≡ Err Arguments) × Consumes old new [] × Appends before after []
 
 -- The command `simulate-desks`: a simulation of two desks.
-abbrev pub PerformsDesks : Option (List ℕ) → Option (List ℕ) → Option (List ℕ) → Option (List ℕ) →
+abbrev pub RunsSimulateDesks : Option (List ℕ) → Option (List ℕ) → Option (List ℕ) → Option (List ℕ) →
     Result ℕ ToolFault → Type 0
-PerformsDesks old new before after result = GivesAnswerOf (SimulatesDesks old new before after) result
+RunsSimulateDesks old new before after result = GivesAnswerOf (SimulatesDesks old new before after) result

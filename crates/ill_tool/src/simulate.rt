@@ -2,7 +2,7 @@
 
 ghost use Rattle.std.specs.Prelude.{◌≡◌};
 ghost use Rattle.ill_values.specs.TxnId.{txn_id_of};
-ghost use Rattle.ill_tool.specs.Simulate.{Performs, PerformsDesks, sim_fault};
+ghost use Rattle.ill_tool.specs.Simulate.{RunsSimulate, RunsSimulateDesks, sim_fault};
 
 use ill_line::request::id;
 use ill_text::fault::ToolFault;
@@ -23,7 +23,7 @@ pub fn run_simulate<R: Read, W: Write>(
     reader: &mut R,
     writer: &mut W,
 ) -> Result<u32, ToolFault>
-    ensures { Performs (txn_id_of group.now transaction.now)
+    ensures { RunsSimulate (txn_id_of group.now transaction.now)
         (R.remaining reader.old) (R.remaining reader.new)
         (W.contents writer.old) (W.contents writer.new) result }
 {
@@ -41,7 +41,7 @@ pub fn run_simulate_desks<R: Read, W: Write>(
     reader: &mut R,
     writer: &mut W,
 ) -> Result<u32, ToolFault>
-    ensures { PerformsDesks (R.remaining reader.old) (R.remaining reader.new)
+    ensures { RunsSimulateDesks (R.remaining reader.old) (R.remaining reader.new)
         (W.contents writer.old) (W.contents writer.new) result }
 {
     match simulate_desks(alloc, reader, writer) {

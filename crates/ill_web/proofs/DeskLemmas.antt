@@ -38,6 +38,6 @@ one_more_desk today find files place file before between after within at so_far 
     (desks ++ desk ∷ [], told, text)
 
 -- If `P` gives `Q`, and `P` holds if `result` is Ok, `Q` holds if `result` is Ok.
-pub then_ok : {T E P Q : Type 0} (result : Result T E) → (P → Q) → OnOk result P → OnOk result Q
-then_ok (Ok value) next holds = next holds
-then_ok (Err fault) next holds = tt
+pub ok_implies : {T E P Q : Type 0} (result : Result T E) → (P → Q) → OnOk result P → OnOk result Q
+ok_implies (Ok value) next holds = next holds
+ok_implies (Err fault) next holds = tt

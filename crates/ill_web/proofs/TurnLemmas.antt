@@ -57,13 +57,13 @@ look_changes_nothing law r v body asked look e true is =
     absurd (law r v body (subst (λ result. MisreadsVisit r v body result) (sym e) (look_changes asked is look)))
 
 -- If a look is read as `wanted`, and this is answered (`Follows`), it has no turn.
-look_follows : NoneMisread → (operator : Operator) (v : VisitShown) (left rest : Option (List ℕ)) (turn : Option Turn)
+look_answered : NoneMisread → (operator : Operator) (v : VisitShown) (left rest : Option (List ℕ)) (turn : Option Turn)
     (result : Result (List ℕ) Trouble) (wanted : Result Wanted VisitFault) → is_look v ≡ true
     → Answers (body_size (rules_of operator) v) (wanted_of (rules_of operator) v) left rest wanted
     → Follows operator v.user wanted turn result → turn ≡ None
-look_follows law operator v left rest turn result (Err refusal) look answers (none, e) = none
-look_follows law operator v left rest turn result (Ok w) look answers (inl (none, e)) = none
-look_follows law operator v left rest turn result (Ok w) look answers (inr (files, at)) =
+look_answered law operator v left rest turn result (Err refusal) look answers (none, e) = none
+look_answered law operator v left rest turn result (Ok w) look answers (inl (none, e)) = none
+look_answered law operator v left rest turn result (Ok w) look answers (inr (files, at)) =
     let was = read _ (wanted_of (rules_of operator) v) left rest w answers in
     only_changes (record { today = operator.today; user = v.user; files = files }) (asked_of w) turn result at
     (look_changes_nothing law (rules_of operator) v was.0 (asked_of w) look was.1 (is_change (asked_of w)) refl)
@@ -72,7 +72,7 @@ look_follows law operator v left rest turn result (Ok w) look answers (inr (file
 pub look_has_none : NoneMisread → (operator : Operator) (v : VisitShown) (left rest : Option (List ℕ)) (turn : Option Turn)
     (reply : List ℕ) → is_look v ≡ true → Replies operator v left rest turn reply → turn ≡ None
 look_has_none law operator v left rest turn reply look (result, (wanted, answers, follows), is) =
-    look_follows law operator v left rest turn result wanted look answers follows
+    look_answered law operator v left rest turn result wanted look answers follows
 
 -- If what is asked for has a turn, it is a change.
 turn_changes : (house : HouseShown) (asked : Asked) (turn : Turn) (result : Result (List ℕ) Trouble)
@@ -81,14 +81,14 @@ turn_changes house asked turn result at true is = is
 turn_changes house asked turn result at false is = no_turn turn (only_changes house asked (Some turn) result at is)
 
 -- If a request is read as `wanted`, and this has a turn, an own form was read of the input.
-own_follows : AskedByOwn → (operator : Operator) (v : VisitShown) (left rest : Option (List ℕ)) (turn : Turn)
+own_form_answered : AskedByOwn → (operator : Operator) (v : VisitShown) (left rest : Option (List ℕ)) (turn : Turn)
     (result : Result (List ℕ) Trouble) (wanted : Result Wanted VisitFault)
     → Answers (body_size (rules_of operator) v) (wanted_of (rules_of operator) v) left rest wanted
     → Follows operator v.user wanted (Some turn) result
     → (body : List ℕ) × IsOwnForm (rules_of operator) v body × Consumes left rest body
-own_follows law operator v left rest turn result (Err refusal) answers (none, e) = no_turn turn none
-own_follows law operator v left rest turn result (Ok w) answers (inl (none, e)) = no_turn turn none
-own_follows law operator v left rest turn result (Ok w) answers (inr (files, at)) =
+own_form_answered law operator v left rest turn result (Err refusal) answers (none, e) = no_turn turn none
+own_form_answered law operator v left rest turn result (Ok w) answers (inl (none, e)) = no_turn turn none
+own_form_answered law operator v left rest turn result (Ok w) answers (inr (files, at)) =
     let was = read _ (wanted_of (rules_of operator) v) left rest w answers in (
       was.0,
       law (rules_of operator) v was.0 (asked_of w) was.1
@@ -102,7 +102,7 @@ pub own_has_turn : AskedByOwn → (operator : Operator) (v : VisitShown) (left r
     (reply : List ℕ) → Replies operator v left rest (Some turn) reply
     → (body : List ℕ) × IsOwnForm (rules_of operator) v body × Consumes left rest body
 own_has_turn law operator v left rest turn reply (result, (wanted, answers, follows), is) =
-    own_follows law operator v left rest turn result wanted answers follows
+    own_form_answered law operator v left rest turn result wanted answers follows
 
 -- If a form acts and has a turn, it is the turn of this form (`IsTurnOf`).
 turn_of_form : (stamp : Stamped) (sent : SentForm) (may : Bool) (turn : Turn) (result : Result (List ℕ) Trouble)
@@ -125,13 +125,13 @@ act_of_turn house (Act loan stamp words) turn result (inl (named, acts)) =
 act_of_turn house (Act loan stamp words) turn result (inr (named, none, e)) = no_turn turn none
 
 -- If a request is read as `wanted`, and this has a turn, it is the turn of its form.
-form_follows : (operator : Operator) (v : VisitShown) (left rest : Option (List ℕ)) (turn : Turn)
+form_answered : (operator : Operator) (v : VisitShown) (left rest : Option (List ℕ)) (turn : Turn)
     (result : Result (List ℕ) Trouble) (wanted : Result Wanted VisitFault)
     → Answers (body_size (rules_of operator) v) (wanted_of (rules_of operator) v) left rest wanted
     → Follows operator v.user wanted (Some turn) result → TakesTurn operator v left rest turn
-form_follows operator v left rest turn result (Err refusal) answers (none, e) = no_turn turn none
-form_follows operator v left rest turn result (Ok w) answers (inl (none, e)) = no_turn turn none
-form_follows operator v left rest turn result (Ok w) answers (inr (files, at)) =
+form_answered operator v left rest turn result (Err refusal) answers (none, e) = no_turn turn none
+form_answered operator v left rest turn result (Ok w) answers (inl (none, e)) = no_turn turn none
+form_answered operator v left rest turn result (Ok w) answers (inr (files, at)) =
     let was = read _ (wanted_of (rules_of operator) v) left rest w answers in
     let acted = act_of_turn (record { today = operator.today; user = v.user; files = files }) (asked_of w) turn result at in
     (was.0, acted.0, was.2, was.1 ∙ ap (λ asked. Ok asked) acted.1, acted.2)
@@ -140,7 +140,7 @@ form_follows operator v left rest turn result (Ok w) answers (inr (files, at)) =
 pub turn_is_of_form : (operator : Operator) (v : VisitShown) (left rest : Option (List ℕ)) (turn : Turn)
     (reply : List ℕ) → Replies operator v left rest (Some turn) reply → TakesTurn operator v left rest turn
 turn_is_of_form operator v left rest turn reply (result, (wanted, answers, follows), is) =
-    form_follows operator v left rest turn result wanted answers follows
+    form_answered operator v left rest turn result wanted answers follows
 
 -- If `size` is a refusal, this is the result of reading, and the input stays.
 refused_answers : (size : Result ℕ VisitFault) (wanted : List ℕ → Result Asked VisitFault) (left rest : Option (List ℕ))

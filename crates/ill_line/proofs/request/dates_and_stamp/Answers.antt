@@ -1,11 +1,11 @@
 -- Answers the contract of `dates_and_stamp` (`src/request.rt`).
-use Rattle.ill_line.proofs.RequestLemmas.{passed_on, refused_at, refused_mapped, refused_on}
+use Rattle.ill_line.proofs.RequestLemmas.{error_reads, refused_at, refused_mapped, refused_on}
 use Rattle.ill_line.proofs.request.dates_and_stamp.Goals as goal
 
 -- A justified refusal of the dates is one of both.
 pub returns-in_err-dates : goal.returns-in_err-dates
 returns-in_err-dates c =
-    passed_on _ _ c.from_residual.result c.in_err-dates.field-0.0 c.from_residual.ensures.1
+    error_reads _ _ c.from_residual.result c.in_err-dates.field-0.0 c.from_residual.ensures.1
     (refused_on _ _ _ c.in_err-dates.ensures)
 
 -- The deeds were read. A justified refusal of the stamp is one of both.

@@ -1,17 +1,17 @@
 -- Answers the contract of `wanted` (`src/request.rt`).
-use Rattle.ill_line.proofs.RequestLemmas.{passed_on, read_after, refused_after, refused_on}
+use Rattle.ill_line.proofs.RequestLemmas.{error_reads, read_after, refused_after, refused_on}
 use Rattle.ill_line.proofs.request.wanted.Goals as goal
 
 -- A justified refusal of the day is one of the choice.
 pub returns-in_err-today : goal.returns-in_err-today
 returns-in_err-today c =
-    passed_on _ _ c.from_residual.result c.in_err-today.field-0.0 c.from_residual.ensures.1
+    error_reads _ _ c.from_residual.result c.in_err-today.field-0.0 c.from_residual.ensures.1
     (refused_on _ _ _ c.in_err-today.ensures)
 
 -- A justified refusal of the day of the news is one of the choice.
 pub returns-in_err-since : goal.returns-in_err-since
 returns-in_err-since c =
-    passed_on _ _ c.from_residual-in_err-since.result c.in_err-since.field-0.0 c.from_residual-in_err-since.ensures.1
+    error_reads _ _ c.from_residual-in_err-since.result c.in_err-since.field-0.0 c.from_residual-in_err-since.ensures.1
     (refused_after _ _ _ _ _ c.in_ok-today.ensures c.in_err-since.ensures)
 
 -- Proves the contract of `wanted`. By `read_after` the other arguments are read after the two days.

@@ -1,6 +1,6 @@
 -- Answers the contract of `run_simulate` (`src/simulate.rt`).
 use Rattle.std.proofs.Common.{Ok}
-use Rattle.ill_tool.proofs.SimulateLemmas.{fault_without_id, simulation_performed, performed_until}
+use Rattle.ill_tool.proofs.SimulateLemmas.{fault_without_id, simulation_performed, fault_performed}
 use Rattle.ill_tool.proofs.simulate.run_simulate.Goals as goal
 
 -- Proves the contract of `run_simulate` if no transaction id is made. By `fault_without_id` that fault is the answer.
@@ -13,7 +13,7 @@ returns-in_err-txn g c = fault_without_id _ _ _ c.in_err-txn.field-0.0 c.from_re
 pub returns-in-Ok : goal.returns-in-Ok
 returns-in-Ok g c = simulation_performed _ _ _ _ _ _ (Ok c.in-Ok.count) c.in_ok-txn.ensures c.in-Ok.ensures.simulates
 
--- Proves the contract of `run_simulate` if the simulation fails. By `performed_until` that fault is the answer.
+-- Proves the contract of `run_simulate` if the simulation fails. By `fault_performed` that fault is the answer.
 pub returns : goal.returns
-returns g c = performed_until _ _ _ _ _ _ c.in-Err.fault c.fault_of.result c.in_ok-txn.ensures c.in-Err.ensures.simulates
+returns g c = fault_performed _ _ _ _ _ _ c.in-Err.fault c.fault_of.result c.in_ok-txn.ensures c.in-Err.ensures.simulates
     c.fault_of.ensures

@@ -14,7 +14,7 @@ use Rattle.ill_commands.specs.Streams.{streams_of}
 use Rattle.ill_mail.specs.Keyed.{WithKey}
 use Rattle.ill_mail.specs.Nights.{OutboxAtFile}
 use Rattle.ill_place.specs.Place.{place_of}
-use Rattle.ill_tool.proofs.WordsLemmas.{is_there}
+use Rattle.ill_tool.proofs.WordsLemmas.{is_some_mapped}
 use Rattle.ill_desk.specs.declared.take.TakeForm.{TakeForm}
 use Rattle.std.specs.Prelude.{option_map}
 use Rattle.ill_tool.proofs.words.run.Goals as goal
@@ -124,7 +124,7 @@ returns-in-Outbox g c =
     let place = place_of g.D.DeskStore.Store.state c.in-Outbox.file.now in
     let sent = subst (λ (has_folder : Bool).
     WithKey key (OutboxAtFile has_folder place) before after c.outbox_with.result)
-    (is_there (λ text. text.now) c.in-Outbox.folder) c.outbox_with.ensures in
+    (is_some_mapped (λ text. text.now) c.in-Outbox.folder) c.outbox_with.ensures in
     subst (λ (request : Request). Runs g.D.DeskStore.Store.state (asked request) (streams_of left before)
     c.outbox_with.result (streams_of left after)) (sym c.in-Outbox.is) (refl, sent)
 

@@ -16,7 +16,7 @@ use Rattle.ill_commands.specs.Letters.{TakesWith}
 use Rattle.ill_commands.specs.Streams.{streams_of}
 use Rattle.ill_place.specs.Place.{shelf_of}
 use Rattle.ill_desk.specs.declared.take.TakeForm.{TakeForm}
-use Rattle.ill_tool.proofs.WordsLemmas.{is_there}
+use Rattle.ill_tool.proofs.WordsLemmas.{is_some_mapped}
 use Rattle.ill_tool.proofs.words.run_on_shelf.Goals as goal
 
 -- Proves the contract of `run_on_shelf` for the request `Act`. It is the contract of `act_on_shelf`, which reads no input.
@@ -92,7 +92,7 @@ returns-in-Outbox g c =
     let sent = subst (λ (has_folder : Bool). WithKey key
     (VisitsShelf c.in-Outbox.file.now (Headed g.D.DeskStore.Store.state has_folder (OutboxAtFile has_folder))) before after
     result)
-    (is_there (λ text. text.now) c.in-Outbox.folder) c.outbox_of_shelf_with.ensures in
+    (is_some_mapped (λ text. text.now) c.in-Outbox.folder) c.outbox_of_shelf_with.ensures in
     subst (λ (request : Request). RunsShelf g.D.DeskStore.Store.state (asked request) (streams_of left before) result
     (streams_of left after)) (sym c.in-Outbox.is) (refl, sent)
 

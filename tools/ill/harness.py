@@ -29,9 +29,9 @@ import time
 TOP = os.path.dirname(os.path.dirname(os.path.dirname(os.path.realpath(__file__))))
 TOOLS = os.path.join(TOP, "tools")
 TIMED_OUT = 124  # the status of a run that takes too long
-NO_FOLDER = "no folder of its own: "
-CLOSED = "closed"  # in place of a stream
-FULL = "/dev/full"
+NO_FOLDER = "no folder of its own: "  # how the fault of a script begins that gets none
+CLOSED = "closed"  # in place of a stream that the command does not get
+FULL = "/dev/full"  # a device on which each write fails, since it is full
 # How long a run may take. Programs without proof are slow, so `make test` gives them more.
 SECONDS = int(os.environ.get("ILL_SECONDS", "60"))
 # The gate tries each stop at a call, and `make test` every STOP_STEP-th.
@@ -63,6 +63,7 @@ def own_folder(in_memory=False):
 def apart(part, folder, *words):
     """Performs a part of a script in a process of its own, in a new folder. Returns its exit status."""
     def perform():
+        """Performs the part in the new folder, and ends the process with its status."""
         os.mkdir(folder)
         os.chdir(folder)
         sys.exit(part(*words))
@@ -139,11 +140,12 @@ def build_stop_nth(folder):
 
 STATES = ("IDLE PENDING IN-PROCESS CONDITIONAL CANCEL-PENDING CANCELLED NOT-SUPPLIED SHIPPED RECEIVED RENEW/PENDING "
           "OVERDUE RENEW/OVERDUE NOT-RECEIVED/OVERDUE RECALL RETURNED CHECKED-IN").split()
+# A state as a whole word of a text: `OVERDUE` is not found in `RENEW/OVERDUE`.
 STATE = re.compile("|".join(rf"(?<![-/A-Z]){re.escape(state)}(?![-/A-Z])" for state in STATES))
 
 
 def pairs_in_step():
-    """Returns the pairs of states of docs/PROTOCOL.md's table of both sides."""
+    """Returns the pairs of states (requester, responder) in docs/PROTOCOL.md's table of pairs in step."""
     part = read(os.path.join(TOP, "docs", "PROTOCOL.md")).decode()
     part = part.partition("### A pair of states that is in step")[2].partition("\n#")[0]
     pairs = set()
@@ -165,7 +167,7 @@ class Done:
 
 
 def words_of(words):
-    """Returns a list of words. In a text a space stands between two."""
+    """Returns words as a list. A text is split at its spaces."""
     return words.split() if isinstance(words, str) else list(words)
 
 
@@ -217,6 +219,7 @@ def run(command, given=None, *, piped=None, output=None, errors=None, limit=SECO
     streams = [given, output, errors]
 
     def settle():
+        """Closes the streams that are CLOSED, and calls `before`, in the new process."""
         for descriptor, stream in enumerate(streams):
             if stream == CLOSED:
                 os.close(descriptor)
@@ -243,6 +246,7 @@ def run_held(command, given, **more):
     reading, writing = os.pipe()
 
     def fill():
+        """Writes the bytes into the pipe, until all are there or nobody reads it."""
         with contextlib.suppress(BrokenPipeError):
             rest = memoryview(given)
             while rest:
@@ -269,13 +273,13 @@ def run_unread(command, given, **more):
 
 
 class Program:
-    """A program that is tested."""
+    """A program that is tested, at its path. A run of it may take `limit` seconds."""
 
     def __init__(self, path, limit=SECONDS):
         self.path, self.limit = os.path.realpath(path), limit
 
     def command(self, words):
-        """Returns the command of these words."""
+        """Returns the command line of the program with these words."""
         return [self.path, *words_of(words)]
 
     def run(self, words, given=None, **more):
@@ -283,7 +287,7 @@ class Program:
         return run(self.command(words), given, **{"limit": self.limit, **more})
 
     def well(self, words, given=None, **more):
-        """Runs the program, which has to do it, and returns what it writes."""
+        """Runs the program, which has to end with status 0, and returns its output. Else ends the script."""
         done = self.run(words, given, **more)
         if done.status:
             print(f"FAILED: ill {' '.join(words_of(words))} in the making: {short(done.output + done.errors)}")
@@ -294,25 +298,25 @@ class Program:
 # ---- Verdicts
 
 def short(value, most=160):
-    """Returns the beginning of what came, in a form that fits a line."""
+    """Returns the beginning of a value, quoted in one line of at most `most` characters."""
     text = value.decode(errors="backslashreplace") if isinstance(value, bytes) else value
     text = repr(text)
     return text if len(text) <= most else text[:most] + ".."
 
 
 def differs(what, found, wanted):
-    """Returns nothing if both are equal, or else a text that shows them."""
+    """Returns None if both are equal, or else a text that shows them."""
     return None if found == wanted else f"{what} {short(found)} in place of {short(wanted)}"
 
 
 def lacks_front(what, found, front):
-    """Returns nothing if `found` begins with `front`, or else a text that shows them."""
+    """Returns None if `found` begins with `front`, or else a text that shows them."""
     return None if found.startswith(front) else f"{what} {short(found)}, which does not begin with {short(front)}"
 
 
 def faults_of(done, status, output, errors):
-    """Returns the faults of a run. `output` and `errors` are all that has to stand there, in bytes; or the front of it,
-    in a text; or None for anything."""
+    """Yields the faults of a run, with None for what is right. `output` and `errors` are all the bytes of a stream; or
+    a text, which is its front; or None for anything."""
     yield differs("status", done.status, status)
     for what, found, wanted in (("output", done.output, output), ("errors", done.errors, errors)):
         if isinstance(wanted, str):
@@ -326,7 +330,7 @@ class Wrong(Exception):
 
 
 def expect(is_so, what):
-    """Goes on only if it is so."""
+    """Raises `Wrong` with the text `what`, unless `is_so` is true."""
     if not is_so:
         raise Wrong(what)
 
@@ -347,20 +351,20 @@ class Report:
         return not faults
 
     def fail(self, text):
-        """Prints what has failed."""
+        """Prints that this has failed. The script's status is 1 then."""
         print(f"FAILED: {text}", flush=True)
         self.failed = True
 
     def run(self, name, done, status, output, errors):
-        """Compares a run with what is expected, as `faults_of` says."""
+        """Tells of a case whose run has to have this status and these streams, as `faults_of` says."""
         return self.tell(name, *faults_of(done, status, output, errors))
 
     def same(self, name, found, wanted):
-        """Compares two values."""
+        """Tells of a case that is well if both values are equal."""
         return self.tell(name, differs("it is", found, wanted))
 
     def holds(self, name, is_so, why):
-        """Tells of a case that is well if it is so; `why` says what came else."""
+        """Tells of a case that is well if `is_so` is true; `why` is its fault else."""
         return self.tell(name, None if is_so else why)
 
     @staticmethod
@@ -377,7 +381,8 @@ class Report:
 
 
 class Task:
-    """A function that is called in a process of its own. Its answer is whether all went well, and what to say of it."""
+    """A function that is called with `words` in a process of its own. Its answer is whether all went well, and what to
+    say of it."""
 
     def __init__(self, name, function, *words):
         self.name, self.function, self.words = name, function, words
@@ -393,7 +398,8 @@ class Task:
         return receiver
 
     def end(self, receiver):
-        """Returns the answer. Returns None if a signal has ended the process for the first time: nothing was judged."""
+        """Returns the answer. If a signal has ended the process, nothing was judged: returns None the first time, and a
+        failure the second time."""
         with receiver:
             try:
                 return receiver.recv()
@@ -459,13 +465,15 @@ class Disk:
                 remove(os.path.join(self.folder, name))
 
     def lose(self, kinds):
-        """The power goes: of what was not flushed these kinds are lost, in their order."""
+        """Loses what was not flushed of these kinds, in their order, as when the power goes."""
         kept = sorted(os.listdir(self.folder))
         for kind in kinds:
             for name in [name for name in kept if name.startswith(kind + "-")]:
                 self._lose(kind, os.path.join(self.folder, name), os.path.join(self.at, name[5:].replace("\1", "/")))
 
     def _lose(self, kind, path, there):
+        """Loses one thing of this kind, kept at `path`, of the file `there`. Bytes are cut off; a name leads to its old
+        file again; a name that led to nothing is removed."""
         if kind == "bytes":
             size = int(read(path.replace("/bytes-", "/size-")))
             if os.stat(path).st_size > size:
@@ -479,7 +487,7 @@ class Disk:
 
 
 def stops(calls, hows, is_tried):
-    """Gives each way, with the number of a call and the call, of which `is_tried` says that it may be stopped so. A
-    quick look (`STOP_STEP`) has one of several."""
+    """Yields (way, number of a call, call) for each way of `hows` and each call for which `is_tried` says yes. A quick
+    look (`STOP_STEP`) has one of several."""
     tried = ((how, number, call) for how in hows for number, call in enumerate(calls, 1) if is_tried(how, call))
     return itertools.islice(tried, 0, None, STOP_STEP)

@@ -62,17 +62,17 @@ first damage none
 
 
 def noise(rng, size):
-    """So many bytes, drawn at random."""
+    """Returns so many random bytes."""
     return bytes(rng.choices(range(256), k=size))
 
 
 def bound_memory(most):
-    """Lets this process have so many bytes."""
+    """Lets this process take so many bytes of memory."""
     resource.setrlimit(resource.RLIMIT_AS, (most, most))
 
 
 def tell(name, wrong):
-    """Tells of a part. `wrong` has what is not well, of which the first is shown."""
+    """Tells of a part. `wrong` has its faults, of which the first is shown."""
     REPORT.tell(name, *wrong[:1])
 
 
@@ -80,6 +80,7 @@ class Checks:
     """What is checked, with the program and a folder to work in."""
 
     def __init__(self, program, folder):
+        """Makes the desks of both roles with their loans, in a folder to work in."""
         self.program, self.folder, self.salvage = program, folder, harness.load("salvage")
         self.ill("new", "here", "requester")
         self.ill("new", "there", "responder")
@@ -88,11 +89,11 @@ class Checks:
         self.desks = {name: read(f"{folder}/{name}") for name in ("here", "there")}
 
     def ill(self, *words, given=None):
-        """What the program writes, which has to do what it is asked."""
+        """Runs the program, which has to end with status 0, and returns its output."""
         return self.program.well(words, given, cwd=self.folder)
 
     def play(self, transaction, course):
-        """Performs the course of a loan."""
+        """Performs the course of a loan at both desks."""
         steps = course.replace(" here ", "\nhere ").replace(" there ", "\nthere ").splitlines()
         for step in steps:
             words, _, number = step.partition(">")
@@ -104,18 +105,19 @@ class Checks:
                 self.ill("take", "there" if desk == "here" else "here", given=given)
 
     def shown(self, data):
-        """Whether these bytes are called whole, and the parts of what is shown: the head, each loan, and the end."""
+        """Returns whether tools/salvage calls these bytes whole, and the parts that it shows: the head, each loan, and
+        the end."""
         texts = []
         is_whole = self.salvage.report("desk", data, False, texts.append)
         return is_whole, "".join(texts).split("\n\n")
 
     def is_read(self, data):
-        """Whether the program reads these bytes as a desk."""
+        """Returns true if the program reads these bytes as a desk."""
         write(f"{self.folder}/damaged", data)
         return self.program.run("status damaged", cwd=self.folder).status == 0
 
     def check_whole(self):
-        """A whole desk is shown as the program shows it."""
+        """Compares what is shown of whole desks with `ill status`, and the example of docs/FORMATS.md."""
         wrong, kept = [], ("role ", "group ", "transaction ", "state ", "due ")
         for name, data in self.desks.items():
             is_whole, (_, *loans, _) = self.shown(data)
@@ -130,7 +132,8 @@ class Checks:
         tell("whole desks", wrong)
 
     def check_bits(self):
-        """A wrong bit changes what is shown of its own loan alone."""
+        """Expects that a wrong bit changes what is shown of its own loan alone, and that no such desk is called
+        whole."""
         wrong = []
         for name, data in self.desks.items():
             _, (_, *before, _) = self.shown(data)
@@ -147,7 +150,7 @@ class Checks:
 
     @staticmethod
     def ends(data):
-        """Where each loan of a whole desk ends."""
+        """Returns the offset at which each loan of a whole desk ends."""
         at, found = 7, []
         while at < len(data) - DIGEST:
             at += 2 + int.from_bytes(data[at:at + 2], "big")
@@ -155,7 +158,7 @@ class Checks:
         return found
 
     def check_cuts(self):
-        """Of a desk that is cut the loans before the cut are shown."""
+        """Expects of a desk that is cut that the loans before the cut are shown as before."""
         wrong = []
         for name, data in self.desks.items():
             _, (_, *before, _) = self.shown(data)
@@ -168,7 +171,8 @@ class Checks:
         tell("a desk that is cut", wrong)
 
     def check_digests(self):
-        """With a digest that fits, what is called whole is what the program reads."""
+        """Expects of desks with a wrong bit, whose digest fits, that those called whole are those that the program
+        reads."""
         wrong, count = [], 0
         for name, data in self.desks.items():
             for at in range(len(data) - DIGEST):
@@ -180,7 +184,7 @@ class Checks:
         tell(f"one wrong bit, and a digest that fits: {count} are whole", wrong or ["none is whole"] * (not count))
 
     def check_noise(self):
-        """Noise, and desks with many wrong octets, are shown without a failure."""
+        """Expects that noise, and desks with many wrong octets, are shown without a failure."""
         rng = random.Random(17)
         for _ in range(1500):
             self.shown(self.noisy(bytearray(rng.choice([*self.desks.values()])), rng))
@@ -193,7 +197,7 @@ class Checks:
 
     @staticmethod
     def noisy(data, rng):
-        """These bytes with up to thirty changes."""
+        """Returns these bytes with up to thirty random changes."""
         for _ in range(rng.randrange(1, 30)):
             at = rng.randrange(len(data))
             data[at:at + rng.randrange(3)] = rng.choice([noise(rng, rng.randrange(40)), b"ILL1", data[at:at + 50]])
@@ -201,12 +205,12 @@ class Checks:
         return bytes(data)
 
     def run(self, *words, **more):
-        """The status of the command, and what it writes."""
+        """Runs tools/salvage. Returns its status, its output and its errors."""
         done = harness.run([SALVAGE, *words], cwd=self.folder, **more)
         return done.status, done.output.decode(), done.errors.decode()
 
     def check_command(self):
-        """The command has the right status, and changes nothing."""
+        """Expects of tools/salvage the right status for each use, and no change in the folder."""
         data = self.desks["here"]
         write(f"{self.folder}/wrong-bit", data[:60] + bytes([data[60] ^ 1]) + data[61:])
         os.chmod(f"{self.folder}/wrong-bit", 0o400)
@@ -220,7 +224,7 @@ class Checks:
         tell("the command", wrong + [*self.wrong_outputs()])
 
     def wrong_outputs(self):
-        """What is not well if the output, or that of errors, is full or closed."""
+        """Yields what is wrong with runs whose output or errors are full or closed."""
         for words in ("here", "wrong-bit", "--help"):
             for stream in (FULL, CLOSED):
                 status, _, told = self.run(words, output=stream)
@@ -233,7 +237,7 @@ class Checks:
                     yield f"{words}, errors {stream}: status {status}, {said[:50]}"
 
     def check_opens(self):
-        """No file is opened for writing."""
+        """Expects that no file is opened for writing."""
         opened = []
         sys.addaudithook(lambda event, words: opened.append(words) if event == "open" else None)
         self.salvage.read_file(f"{self.folder}/here")
@@ -241,17 +245,17 @@ class Checks:
         tell("nothing is opened for writing", wrong or ["nothing is opened"] * (not opened))
 
     def folder_now(self):
-        """What the folder has: names, modes, times and bytes."""
+        """Returns the name, mode, times and bytes of each file in the folder."""
         return [(name, *self.stat_of(name)) for name in sorted(os.listdir(self.folder))]
 
     def stat_of(self, name):
-        """What a file of the folder is like."""
+        """Returns the mode, the times and the bytes of a file in the folder."""
         path = f"{self.folder}/{name}"
         found = os.lstat(path)
         return found.st_mode, found.st_mtime_ns, found.st_ctime_ns, read(path) if os.path.isfile(path) else b""
 
     def check_bounds(self):
-        """Of a file that is too long, only so much is looked at, in a bounded memory."""
+        """Expects of a file that is too long that only its first bytes are looked at, in bounded memory."""
         with open(f"{self.folder}/long", "wb") as file:
             file.write(self.desks["here"])
             file.truncate(1 << 32)

@@ -5,6 +5,7 @@ from ill.der import RESULTS
 
 REQUESTER, RESPONDER = 0, 1
 ROLES = ("requester", "responder")
+# The results of an ILL-Answer that end a loan.
 NO_SUPPLY = ("retry", "unfilled", "locations-provided", "estimate")
 
 # SHIPPED or later, but for the ends.
@@ -19,6 +20,7 @@ VERBS = {
     RESPONDER: {"IN-PROCESS": "answer ship expire", "CONDITIONAL": "expire", "CANCEL-PENDING": "cancel-reply",
                 "SHIPPED": "overdue recall", "RENEW/PENDING": "renew-answer overdue", "OVERDUE": "recall",
                 "RENEW/OVERDUE": "renew-answer", "RETURNED": "check-in"}}
+# The states in which a loan is over for both roles; a requester's is over in RETURNED, too, once it is checked in.
 OVER = ("CANCELLED", "NOT-SUPPLIED", "CHECKED-IN")
 # The states in which the other side acts next.
 THEIRS = {REQUESTER: ("PENDING", "CANCEL-PENDING", "RENEW/PENDING", "RENEW/OVERDUE", "RETURNED"),
@@ -33,67 +35,69 @@ FORMS = {
 
 
 class Fault(Exception):
-    """What the model does not do: a word of a refusal."""
+    """A refusal of the model, by its word."""
 
 
 class Side:
-    """A side of a loan."""
+    """A side of a loan: its record, and the messages that it has taken."""
 
     def __init__(self, role, txn):
+        """Begins an IDLE side of this role. `held`, `accepted`, `cancelled` and `renewed` are numbers of messages
+        taken, or None."""
         self.role, self.txn, self.state, self.issued, self.due = role, txn, "IDLE", [], None
         self.held = self.accepted = self.cancelled = self.renewed = self.request = None
         self.checked_in = self.received = False
         self.came = []  # the messages that were taken, in their order
 
     def twin(self):
-        """The same side once more; messages are never changed."""
+        """Returns a copy of the side. Both share their messages, which are never changed."""
         other = copy.copy(self)
         other.issued, other.came = list(self.issued), list(self.came)
         return other
 
     def asked(self):
-        """The request, or None."""
+        """Returns the request of the loan, or None."""
         return self.request if self.role == RESPONDER else self.issued[0] if self.issued else None
 
     def expiry(self):
-        """The last day of the request, or None."""
+        """Returns the expiry date of the request, or None."""
         return self.asked() and self.asked().get("date")
 
     def deadline(self):
-        """The due date, or else the last day of the request."""
+        """Returns the due date, or else the expiry date of the request, or None."""
         return self.due or self.expiry()
 
     def has(self, kind, **fields):
-        """Whether a message of this type and with these fields was issued."""
+        """Returns true if a message of this type with these fields was issued."""
         return any(apdu["apdu"] == kind and fields.items() <= apdu.items() for apdu in self.issued)
 
     def is_declined(self):
-        """Whether conditions were declined, and the answer is awaited."""
+        """Returns true if a requester has declined the conditions, and no answer has come."""
         return self.role == REQUESTER and self.state == "CONDITIONAL" and self.has("Conditional-Reply", reply=False)
 
     def is_received(self):
-        """Whether a Received was issued, or taken."""
+        """Returns true if a Received was issued by a requester, or taken by a responder."""
         return self.received if self.role == RESPONDER else self.has("Received")
 
     def marks(self):
-        """The marks that are set."""
+        """Returns the names of the marks that are set."""
         return [name for name, is_set in (("received", self.is_received()), ("checked-in", self.checked_in),
                                           ("declined", self.is_declined())) if is_set]
 
     def verbs(self):
-        """What may be done now."""
+        """Returns the verbs that the state and the marks allow now, whatever the day."""
         if self.role == REQUESTER and self.state == "RECALL":
             return ["return"] if self.is_received() else ["receive"]
         return [] if self.is_declined() else VERBS[self.role].get(self.state, "").split()
 
     def possible(self, today=None):
-        """Returns what may be done on a day, or on some day if none is given. An Overdue wants a due date that is past, and
-        an Expire an expiry date that is past."""
+        """Returns the verbs that are allowed on a day, or on some day if none is given. An Overdue wants a due date
+        that is past, and an Expire an expiry date that is past."""
         dates = {"overdue": self.due, "expire": self.expiry()}
         return [verb for verb in self.verbs() if verb not in dates or (dates[verb] or "99999999") < (today or "99991231")]
 
     def turn(self, today=None):
-        """Who acts next, on a day or on none."""
+        """Returns who acts next, `mine` or `theirs`, or `over`. A deadline that is past on the day makes it `mine`."""
         if today and self.deadline() and self.deadline() < today and self.verbs():
             return "mine"
         if self.state in OVER or self.role == REQUESTER and self.checked_in:
@@ -101,24 +105,24 @@ class Side:
         return "theirs" if self.state in THEIRS[self.role] or self.is_declined() else "mine"
 
     def issue(self, kind, **fields):
-        """Issues a message."""
+        """Issues a message of this type with the next number and these fields."""
         if len(self.issued) == 255:
             raise Fault("numbers-used")
         self.issued.append({"apdu": kind, "number": len(self.issued) + 1, **fields})
 
     def last(self, kind):
-        """The number of the last message of this type, or None."""
+        """Returns the number of the last message of this type that was issued, or None."""
         return next((apdu["number"] for apdu in reversed(self.issued) if apdu["apdu"] == kind), None)
 
     def act(self, words, today):
-        """Performs an action."""
+        """Performs an action by its words. Raises `Fault` if it is refused."""
         verb, *rest = words.split(" ")
         if verb not in self.verbs():
             raise Fault("not-now")
         (self.wish if self.role == REQUESTER else self.deed)(verb, rest, today)
 
     def wish(self, verb, rest, _):
-        """Performs a wish."""
+        """Performs an action of a requester by its verb and the rest of its words."""
         if verb == "request":
             expiry = {} if rest[0] == "none" else {"date": rest[0]}
             self.issue("ILL-Request", **expiry, item=" ".join(rest[1:]))
@@ -140,7 +144,7 @@ class Side:
             self.state = "RETURNED"
 
     def deed(self, verb, rest, today):
-        """Performs a deed, on a day."""
+        """Performs an action of a responder by its verb and the rest of its words, on a day."""
         late = self.state == "RENEW/OVERDUE"
         if verb == "answer":
             self.issue("ILL-Answer", result=rest[0])
@@ -171,29 +175,29 @@ class Side:
 
     @staticmethod
     def refuse(is_so, word):
-        """Refuses a deed for its day."""
+        """Raises `Fault` with this word if it is so."""
         if is_so:
             raise Fault(word)
 
     def take(self, apdu):
-        """Takes a message, and says what came of it."""
+        """Takes a message. Returns `taken`, `repeat`, `stale` or `conflict`."""
         outcome = (self.hear if self.role == REQUESTER else self.heed)(apdu)
         self.came += [apdu] if outcome == "taken" else []
         return outcome
 
     def to(self, state, **parts):
-        """The record goes on to a state, with these parts."""
+        """Sets the state and these parts of the record. Returns `taken`."""
         self.state = state
         vars(self).update(parts)
         return "taken"
 
     def yes(self):
-        """The number that the last Conditional-Reply yes answers, or 0."""
+        """Returns the number that the last Conditional-Reply yes answers, or 0."""
         return next((apdu["answers"] for apdu in reversed(self.issued)
                      if apdu["apdu"] == "Conditional-Reply" and apdu["reply"]), 0)
 
     def hear(self, apdu):
-        """A requester takes a message (PROTOCOL.md, 2.5)."""
+        """Takes a message at a requester (PROTOCOL.md, 2.5). Returns what came of it."""
         kind, state, renews = apdu["apdu"], self.state, ("RENEW/PENDING", "RENEW/OVERDUE")
         before = ("PENDING", "CONDITIONAL", "CANCEL-PENDING")
         if kind == "ILL-Answer" and apdu["result"] == "conditional":
@@ -231,11 +235,11 @@ class Side:
         return "repeat" if self.checked_in else self.to(state, checked_in=True)
 
     def is_own(self, number, kind):
-        """Whether the message with this number is of this type."""
+        """Returns true if the issued message with this number is of this type."""
         return any(apdu["number"] == number and apdu["apdu"] == kind for apdu in self.issued)
 
     def heed(self, apdu):
-        """A responder takes a message (PROTOCOL.md, 3.5)."""
+        """Takes a message at a responder (PROTOCOL.md, 3.5). Returns what came of it."""
         kind, state = apdu["apdu"], self.state
         if kind == "ILL-Request":
             return self.to("IN-PROCESS", request=apdu) if state == "IDLE" else "repeat"

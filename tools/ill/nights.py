@@ -38,33 +38,36 @@ TRIED = {"half": ("write",), "short": ("write", "read"), "EINTR": ("open", "read
 
 
 def is_tried(how, call):
-    """Returns true if a call may be stopped or fail so."""
+    """Returns true if a call may be stopped or fail in the way `how`."""
     return how not in TRIED or call.split(" ")[0] in TRIED[how]
 
 
 def is_new(name):
-    """Tells if a file of OUT is the new file of a mail, which a crash may leave."""
+    """Returns true if a file of OUT is the new file of a mail, which a crash may leave."""
     return name.startswith("out/.")
 
 
 def new_of(name):
-    """The new file of the mail of this name in OUT."""
+    """Returns the path of the new file of the mail of this name in OUT."""
     return "out/." + name.removeprefix("out/")
 
 
 def expect_reasons(files):
-    """Beside each mail that was put aside stands why."""
+    """Expects beside each mail that was put aside the file of its reason."""
     for path in files:
         if ".mail/aside/" in path and not path.endswith(".why") and len(os.path.basename(path)) == 64:
             expect(files.get(path + ".why"), f"{path} has no reason")
 
 
 class Night:
-    """A night: its words, the mails that come, what becomes of each, and what the desk was before."""
+    """A night at a desk: its words, its mails, and what becomes of each. A mail is `taken`, `done`, which repeats and
+    asks, or `left`; any other word is why it is put aside."""
 
     hows = (*KILLS, *LOSSES, *FAULTS)
 
     def __init__(self, program, shim, folder, words, mails, claimed=()):
+        """Makes the folder `template`, of which each run gets a copy. `claimed` names the mails that a killed run has
+        claimed."""
         self.program, self.shim, self.folder, self.words = program, shim, folder, words
         self.mails, self.claimed = mails, dict(claimed)
         self.template, self.at = (os.path.join(folder, name) for name in ("template", "at"))
@@ -74,14 +77,14 @@ class Night:
         self.disk = harness.Disk(os.path.join(folder, "disk"), self.at)
 
     def ill(self, *words, given=b"", cwd=None):
-        """The program, which has to do well."""
+        """Runs the program, which has to end with status 0, and returns its output."""
         done = subprocess.run([self.program, *words], cwd=cwd or self.template, input=given, capture_output=True)
         if done.returncode:
             sys.exit(f"ill {words} in the making: {done.stderr}")
         return done.stdout
 
     def write(self, name, contents):
-        """A file of the template."""
+        """Writes a file of the template, and makes the folders that it lies in."""
         path = os.path.join(self.template, name)
         os.makedirs(os.path.dirname(path), exist_ok=True)
         if ".mail/" in name:
@@ -89,7 +92,7 @@ class Night:
         write(path, contents)
 
     def settle_in(self, steps):
-        """Puts the mails where they are before the night, with what an earlier crash has left beside; and finds the
+        """Puts the mails where they are before the night, with what an earlier crash has left beside. Finds the
         records: that of now, and that after each of these steps."""
         self.records = [self.read(self.template, "loan")]
         for step in steps:
@@ -107,18 +110,19 @@ class Night:
 
     @staticmethod
     def read(folder, name):
-        """What a file has."""
+        """Returns the bytes of a file in a folder."""
         return read(os.path.join(folder, name))
 
     def begin(self):
-        """A fresh copy of the template, with all of it on the disk."""
+        """Makes a fresh copy of the template, all of it flushed."""
         shutil.rmtree(self.at, ignore_errors=True)
         shutil.copytree(self.template, self.at)
         self.disk.settle()
         harness.remove(self.log)
 
     def run(self, stop=None, how=None):
-        """The night, stopped at this call: its status, its output and its errors."""
+        """Performs the night, stopped at this call in this way if one is given. Returns its status, its output and its
+        errors."""
         known = dict(os.environ, LD_PRELOAD=self.shim, STOP_DISK=self.disk.folder, STOP_LOG=self.log)
         if stop:
             known |= dict(STOP=str(stop), STOP_HOW=how)
@@ -126,7 +130,7 @@ class Night:
         return done.status, done.output, done.errors
 
     def files(self):
-        """All files that are there, by their names."""
+        """Returns all files of the copy: path -> bytes."""
         return {os.path.relpath(os.path.join(path, name), self.at): self.read(path, name)
                 for path, _, names in os.walk(self.at) for name in names}
 
@@ -139,14 +143,14 @@ class Night:
                 self.write(new_of(name), b"ILL1")
 
     def run_whole(self):
-        """The whole night, and the calls of the system that it makes."""
+        """Performs the whole night, and keeps what it tells and its calls of the system."""
         self.leave_over()
         self.begin()
         self.whole = self.run()
         self.calls = read(self.log).decode().splitlines()
 
     def prepare(self):
-        """The whole night, and the records that another night may leave."""
+        """Performs the whole night, and keeps its end. Finds the records of nights in which mails are left out."""
         self.run_whole()
         self.end = self.files()
         self.judge_end()
@@ -155,7 +159,8 @@ class Night:
         self.parts = [record for record in self.find_parts() if record not in self.records]
 
     def find_parts(self):
-        """The records of a night in which a mail is left out, or several are, before what its day does and after it."""
+        """Yields the records of nights in which some of the mails that are taken are left out. Of each night there is
+        the record before what the day does, and that after it."""
         taken = [name for name, (_, fate) in self.mails.items() if fate == "taken"]
         for some in itertools.product((False, True), repeat=len(taken)):
             for words in (["inbox", "loan", "in"], self.words):
@@ -167,7 +172,8 @@ class Night:
                 yield self.read(self.at, "loan")
 
     def judge(self, how, output, is_part):
-        """What a stop has left. IS_PART tells that some mails may be left out: they could not be claimed or read."""
+        """Judges what a stop has left: the record, each mail, FILE.came, OUT, the copy, and what was told. If
+        `is_part`, some mails may be left out, which could not be claimed or read."""
         files = self.files()
         expect(files.get("loan") in self.records + (self.parts if is_part else []), "FILE has another record")
         at = 1 if files["loan"] in self.parts else self.records.index(files["loan"])
@@ -192,12 +198,12 @@ class Night:
         expect(at > 0 or len(self.records) == 1 or b"\ntaken " not in output, "it is told, and not saved")
 
     def fronts(self):
-        """The outputs of the whole night, up to each of its lines."""
+        """Returns the outputs of the whole night up to each of its lines."""
         lines = self.whole[1].splitlines(True)
         return [b"".join(lines[:count]) for count in range(len(lines) + 1)]
 
     def judge_end(self):
-        """What stands there when all is done."""
+        """Expects that all is done: nothing is left over, and each mail is where it belongs. Returns the files."""
         files = self.files()
         left = {path for path in files if path.endswith((".new", ".lck")) or is_new(path)}
         if len(self.records) == 1:
@@ -217,7 +223,8 @@ class Night:
         return files
 
     def judge_again(self):
-        """The night runs again, with the mails that ask brought again where they are done: all is as if nothing had been."""
+        """Performs the night again. Mails that ask come again too, if they are done. Expects the files of a night that
+        was never stopped."""
         status, output, errors = self.run()
         expect(status == self.whole[0] or status == 0 and self.whole[0] == 1, f"again: {status}, {errors}")
         asking = [(name, mail) for name, (mail, fate) in self.mails.items() if fate == "done"]
@@ -234,7 +241,7 @@ class Night:
         expect(files == end, f"again: another end: {sorted(name for name in files | end if files.get(name) != end.get(name))}")
 
     def stop(self, number, how):
-        """Stops the night at a call, judges what is left, and what comes then."""
+        """Stops the night at a call, and judges its status, what is left, and the night after it."""
         self.begin()
         status, output, errors = self.run(number, "after" if how in LOSSES else how)
         is_part = how in FAULTS and (how == "broken" or self.may_leave_out(self.calls[number - 1]))
@@ -252,11 +259,11 @@ class Night:
 
     @staticmethod
     def may_leave_out(call):
-        """Tells if a mail may be left out when this call fails."""
+        """Returns true if a mail may be left out when this call fails."""
         return "in/" in call
 
     def perform(self, name):
-        """Stops the night at each call, in each way. Prints what came of it, and tells if all went well."""
+        """Stops the night at each call, in each way. Prints what came of it. Returns true if all went well."""
         runs, bad = 0, []
         for how, number, call in harness.stops(self.calls, self.hows, is_tried):
             runs += 1
@@ -272,18 +279,20 @@ class Night:
 
 
 class ShelfNight(Night):
-    """A night of the shelf `s`. Its mails have their paths; with each stand its bytes, what becomes of it, and the name
-    of the desk that takes it."""
+    """A night of the shelf `s`. Its mails have their paths; with each stand its bytes, what becomes of it, and the desk
+    that takes it or puts it aside. A mail of a retired group is `gone` if it is answered, and `told` if not."""
 
     hows = (*KILLS, *LOSSES, "EIO", "EACCES", "short", "broken")
 
     def __init__(self, program, shim, folder, words, role, mails=()):
+        """Makes the template with a new shelf of this role. `again` has further statuses that the night may have when
+        it runs again."""
         super().__init__(program, shim, folder, words, dict(mails))
         self.role, self.own, self.again = role, "s/.shelf", ()
         self.ill("shelf", "new", "s", role)
 
     def record_with(self, name, mails):
-        """The record of a desk of the template, or of a new one, which takes these mails by `ill take`."""
+        """Returns the record that a desk of the template, or a new one, has after `ill take` of these mails."""
         scratch = os.path.join(self.folder, "scratch")
         if os.path.exists(os.path.join(self.template, name)):
             shutil.copy(os.path.join(self.template, name), scratch)
@@ -295,8 +304,8 @@ class ShelfNight(Night):
         return record
 
     def settle_in(self):
-        """Puts the mails where they are before the night, with what an earlier crash has left beside; and finds the
-        records of each desk: that of now, that after its mails, and those after some of them."""
+        """Puts the mails where they are before the night, with what an earlier crash has left beside. Finds the records
+        of each desk: that of now, that after its mails, and those after some of them."""
         self.desks, self.some = {self.own: [self.read(self.template, self.own)]}, {}
         for name in {desk for _, fate, desk in self.mails.values() if fate == "taken"}:
             taken = self.taken_at(name)
@@ -310,11 +319,11 @@ class ShelfNight(Night):
         self.write("s/A.%s.new" % self.role, b"ILL1")
 
     def taken_at(self, name):
-        """The mails that a desk takes, in their order."""
+        """Returns the mails that a desk takes, in their order."""
         return [mail for mail, fate, desk in self.mails.values() if fate == "taken" and desk == name]
 
     def prepare(self):
-        """The whole night, which leaves the last record of each desk."""
+        """Performs the whole night, which has to leave the last record of each desk."""
         self.run_whole()
         self.end = self.judge_end()
         for name, records in self.desks.items():
@@ -323,11 +332,12 @@ class ShelfNight(Night):
 
     @staticmethod
     def may_leave_out(call):
-        """Tells if a mail may be left out when this call fails: one that cannot be sorted is."""
+        """Returns true if a mail may be left out when this call fails: a mail that cannot be sorted is."""
         return not call.endswith(("output", "errors"))
 
     def judge(self, how, output, is_part):
-        """What a stop has left at each desk. IS_PART tells that some mails may be left out."""
+        """Judges what a stop has left at each desk, in IN, in OUT and in the copies. Judges what was told. If
+        `is_part`, some mails may be left out."""
         files = self.files()
         expect(files.get(self.own) == self.desks[self.own][0], "a loan begins at the shelf's own desk")
         saved = {}
@@ -360,7 +370,8 @@ class ShelfNight(Night):
                 expect(not is_told or saved[name], f"it is told, and not saved at {name}")
 
     def judge_marks(self, files, output):
-        """A retired group has its mark, and no desk after that. If none is marked, nothing of its desk is gone."""
+        """Expects that a retired group has its mark, and no desk after that. If none is marked, nothing of its desk is
+        gone."""
         for path, body in files.items():
             is_mark = body == b"retired\n" + of_group(path.split("/")[-1][:1].encode(), UNFILLED)
             expect(not path.endswith(".retired") or is_mark, f"{path} has another mark")
@@ -375,7 +386,7 @@ class ShelfNight(Night):
             expect(output != b"done PENDING - 1/1\n" or "s/N.requester" in files, "it is told, and not saved")
 
     def judge_end(self):
-        """What stands there when all is done."""
+        """Expects that all is done: nothing is left over, and each mail is where it belongs. Returns the files."""
         files = self.files()
         left = {path for path in files if path.endswith((".new", ".lck")) or is_new(path)}
         expect(left <= {"s/A.%s.new" % self.role}, f"left: {left}")
@@ -394,14 +405,14 @@ class ShelfNight(Night):
 
     @staticmethod
     def without_order(files):
-        """The files, with the messages of each .came in any order and once, and without what a crash leaves. A diary may
-        lack lines, if it has failed."""
+        """Returns the files, with the messages of each .came as a set. What a crash may leave is left out, and each
+        diary, which may lack lines."""
         return {name: set(messages_of(body)[0]) if name.endswith(".came") else body
                 for name, body in files.items() if not name.endswith((".new", ".diary"))}
 
     def judge_again(self):
-        """The night runs again, with the mails of retired groups brought again, as a partner does who asks: all is as if
-        nothing had been. Then what asks for a group that this night has retired begins nothing, and is answered."""
+        """Performs the night again, with the mails of retired groups that a partner brings again. Expects the files of
+        a night that was never stopped. Mail of a group that this night has retired begins nothing, and is answered."""
         for path, (mail, fate, _) in self.mails.items():
             if fate == "gone":
                 write(os.path.join(self.at, path), mail)
@@ -423,15 +434,15 @@ UNFILLED = encode(0x64, b"T1", 1, element(0x84, b"\3"))
 
 
 def of_group(group, message):
-    """A message of G1 as one of a group of one letter."""
+    """Returns a message of the group G1 as one of a group of one letter."""
     version, number = message[2:5], message[7 + message[6]:]
     transaction = message[7:7 + message[6]].removeprefix(element(0x81, b"G1"))
     return element(message[0], version + element(0xA1, element(0x81, group) + transaction) + number)
 
 
 def shelf_of_responder(program, shim, folder, *words):
-    """A shelf of two desks and a retired group. A killed run has claimed a mail, and sorted another. A group is new. One mail
-    alone begins a loan at each desk, so their order says nothing of the records."""
+    """Returns a night of a shelf of two desks and a retired group. A killed run has claimed a mail, and sorted another.
+    A group is new. One mail alone begins a loan at each desk, so their order says nothing of the records."""
     mails = {"s/.unsorted.mail/in/0000000001/a": (of_group(b"A", request(b"T2")), "taken", "s/A.responder"),
              "s/B.responder.mail/in/0000000001/b": (of_group(b"B", request(b"T2")), "taken", "s/B.responder"),
              "in/1": (of_group(b"A", encode(0x66, b"T1", 2)), "taken", "s/A.responder"),
@@ -449,7 +460,8 @@ def shelf_of_responder(program, shim, folder, *words):
 
 
 def shelf_of_requester(program, shim, folder, *words):
-    """A shelf of two desks, which sends. A killed run has claimed a mail, and one is of a group that it has not."""
+    """Returns a night of a shelf of two desks, which sends. A killed run has claimed a mail, and one mail is of a group
+    that the shelf lacks."""
     mails = {"s/.unsorted.mail/in/0000000001/a": (of_group(b"A", shipped(b"T1")), "taken", "s/A.requester"),
              "in/1": (of_group(b"B", shipped(b"T1")), "taken", "s/B.requester"),
              "in/2": (b"junk", "short at 4", "s/.shelf"),
@@ -463,7 +475,8 @@ def shelf_of_requester(program, shim, folder, *words):
 
 
 def shelf_that_retires(program, shim, folder, *words):
-    """A shelf of which one group is over; a mail has come to its desk, and one asks in its loan."""
+    """Returns a night of a shelf that retires a group whose loan is over. A mail was put aside at its desk, and one
+    asks in its loan."""
     night = ShelfNight(program, shim, folder, words, "responder")
     message = of_group(b"B", request(b"T1"))
     night.ill("shelf", "take", "--keep", "s", given=message)
@@ -475,7 +488,8 @@ def shelf_that_retires(program, shim, folder, *words):
 
 
 def shelf_that_answers(program, shim, folder, *words):
-    """A shelf of which two groups are retired, and a third is over. Mails have come that ask in loans of the two."""
+    """Returns a night of a shelf of which two groups are retired, and a third is over. Mails have come that ask in
+    loans of the two."""
     night = ShelfNight(program, shim, folder, words, "responder")
     for group in "BQR":
         night.ill("shelf", "take", "s", given=of_group(group.encode(), request(b"T1")))
@@ -489,7 +503,7 @@ def shelf_that_answers(program, shim, folder, *words):
 
 
 def shelf_that_begins(program, shim, folder, *words):
-    """A requester's shelf on which a group is begun. After that the action is refused."""
+    """Returns a night of a requester's shelf on which a group is begun. When it runs again, the action is refused."""
     night = ShelfNight(program, shim, folder, words, "requester")
     night.settle_in()
     scratch = os.path.join(night.folder, "scratch")
@@ -500,8 +514,8 @@ def shelf_that_begins(program, shim, folder, *words):
 
 
 def requester(program, shim, folder, *words):
-    """A night of a requester: three messages are taken, of which a killed run has claimed one, and two mails are put aside;
-    one is of a loan that the desk has not yet."""
+    """Returns a night of a requester. Three messages are taken, of which a killed run has claimed one. Two mails are
+    put aside, and one is of a loan that the desk lacks."""
     conditional = encode(0x64, b"T1", 1, element(0x84, b"\1"))
     mails = {"a": (shipped(b"T3"), "taken"), "1": (conditional, "taken"), "2": (shipped(b"T2"), "taken"),
              "3": (b"junk", "short at 4"), "4": (request(b"T1"), "wrong-role"), "5": (shipped(b"T9"), "left")}
@@ -514,7 +528,8 @@ def requester(program, shim, folder, *words):
 
 
 def responder(program, shim, folder, *words):
-    """A night of a responder: a message is taken, one asks in a loan that is over, one loan is overdue, and one expires."""
+    """Returns a night of a responder. A message is taken, one asks in a loan that is over, one loan is overdue, and one
+    expires."""
     mails = {"1": (request(b"T4"), "taken"), "2": (request(b"T2"), "done")}
     night = Night(program, shim, folder, words, mails)
     night.ill("new", "loan", "responder")
@@ -528,7 +543,7 @@ def responder(program, shim, folder, *words):
 
 
 def sender(program, shim, folder, *words):
-    """A responder's desk that sends, of which one asks in a loan that is over."""
+    """Returns a night of a responder's desk that sends, and is asked in a loan that is over."""
     night = responder(program, shim, folder, *words)
     night.mails, night.records = {}, night.records[:1]
     shutil.rmtree(os.path.join(night.template, "in"))
@@ -537,6 +552,7 @@ def sender(program, shim, folder, *words):
     return night
 
 
+# Each night: its name, the function that makes it, its words, its status, and the end of its output.
 NIGHTS = (
     ("inbox", requester, ["inbox", "loan", "in"], (3, b"taken 3, repeat 0, stale 0, conflict 0, unknown 0, aside 2, left 1, waiting 0\n")),
     ("outbox", sender, ["outbox", "loan", "out"], (0, b"sent 2\n")),

@@ -55,14 +55,14 @@ COURSES = {
 DAYS = {"here": [], "there": ["--today", "20250301", "--by", "J.\u202eP."], "late": ["--today", "20250310"]}
 
 PROGRAM = None  # as main has it
-faults = []
-compared = 0
+faults = []  # all that is wrong so far
+compared = 0  # objects so far
 
 
 # ---- the schema
 
 def fails(schema, value, path="$"):
-    """Why a value is none of a schema, or None."""
+    """Returns why a value does not fit a schema, with the path of what does not; or None if it fits."""
     if isinstance(schema, bool):
         return None if schema else f"{path}: may not be there"
     for keyword, wanted in schema.items():
@@ -73,36 +73,38 @@ def fails(schema, value, path="$"):
 
 
 def first(faults_of):
-    """The first fault of some, or None."""
+    """Returns the first fault of some, or None."""
     return next((fault for fault in faults_of if fault), None)
 
 
 def says(is_so, path, what):
-    """None, or the fault where it is not so."""
+    """Returns None if it is so, or else the fault `what` at this path."""
     return None if is_so else f"{path}: {what}"
 
 
 def referred(name):
-    """A definition of the schema."""
+    """Returns a definition of the schema."""
     return SCHEMA["$defs"][name.removeprefix("#/$defs/")]
 
 
 def is_type(name, value):
-    """Whether a value is of a type of JSON."""
+    """Returns true if a value is of this type of JSON."""
     kinds = {"object": dict, "array": list, "string": str, "null": type(None), "boolean": bool, "integer": int}
     return isinstance(value, kinds[name]) and (name == "boolean" or not isinstance(value, bool))
 
 
 def fitting(schemas, value, path):
-    """How many of some schemas a value fits."""
+    """Returns how many of these schemas a value fits."""
     return sum(fails(schema, value, path) is None for schema in schemas)
 
 
 def extra(schema, value):
-    """The fields of an object that its schema does not name."""
+    """Returns the fields of an object that its schema does not name."""
     return [name for name in value if name not in schema["properties"]]
 
 
+# What each keyword asks: a function of its words, a value, the path of the value, and the schema. It returns a fault, or
+# None.
 KEYWORDS = {
     "$schema": lambda *_: None, "$defs": lambda *_: None, "title": lambda *_: None, "description": lambda *_: None,
     "$ref": lambda name, value, path, _: fails(referred(name), value, path),
@@ -128,36 +130,36 @@ KEYWORDS = {
 # ---- an object as lines
 
 def day(text):
-    """A day as the lines have it."""
+    """Returns a day as the lines have it, or a dash for None."""
     return "-" if text is None else text.replace("-", "")
 
 
 def or_dash(value):
-    """A value, or a dash."""
+    """Returns a value as text, or a dash for None."""
     return "-" if value is None else str(value)
 
 
 def message_lines(apdu, item=str):
-    """The lines of a message."""
+    """Returns the lines of a message, one for each field. `item` makes its title fit a screen."""
     values = {"reply": lambda yes: "yes" if yes else "no", "leaves": lambda yes: "yes" if yes else "no", "date": day,
               "item": item}
     return [f"{label} {values.get(label, str)(value)}" for label, value in apdu.items()]
 
 
 def shown_lines(value):
-    """The lines of an object of `show`."""
+    """Returns the lines of `show` for its object."""
     return message_lines({label: value[label] for label in value if label != "kind"})
 
 
 def status_lines(loan):
-    """The seven lines of a loan."""
+    """Returns the seven lines of a loan for its object."""
     values = {**loan, "due": day(loan["due"]), "messages": f"{loan['released']}/{loan['issued']}",
               "marks": " ".join(loan["marks"]) or "-"}
     return [f"{label} {values[label]}" for label in "role group transaction state due messages marks".split()]
 
 
 def loan_lines(loan):
-    """All lines of a loan."""
+    """Returns all lines of `loan` for its object."""
     lines = status_lines(loan) + [f"next {loan['next']}", f"now {' '.join(loan['now']) or '-'}"]
     if loan["item"] is not None:
         lines += [f"item {shown(loan['item'])}", f"expiry {day(loan['expiry'])}"]
@@ -173,18 +175,20 @@ def loan_lines(loan):
 
 
 def history_line(told):
-    """The line of what the diary tells of a message."""
+    """Returns the line of what the diary tells of a message."""
     return f"history {day(told['day'])} {shown(or_dash(told['by']))} {told['what']} {told['number']}"
 
 
 def note_lines(label, loan):
-    """The line of a note, if there is one."""
+    """Returns the line of a loan's note after this label, or no line."""
     return [] if loan["note"] is None else [f"{label} {shown(loan['note'])}"]
 
 
 def list_lines(has_actions, has_notes=False, has_since=False):
-    """The lines of what is listed of desks, where the objects have the paths of the desks and where not."""
+    """Returns a function: the objects of `list` -> its lines, with the verbs, notes and days that these options show.
+    Objects of several desks have the paths of the desks."""
     def lines_of(objects):
+        """Returns the lines of these objects. The counts of a desk come after its loans."""
         lines, rows = [], []
         for value in objects:
             if value["kind"] == "loan":
@@ -203,7 +207,7 @@ def list_lines(has_actions, has_notes=False, has_since=False):
 
 
 def row_lines(rows, has_actions, has_notes, has_since):
-    """The lines of the loans of a desk, under a heading for each kind of work."""
+    """Returns the lines of the loans of a desk, with a heading for each kind of work."""
     cells = [[row["state"], day(row["due"]).ljust(8), row["group"], row["transaction"], *[",".join(row["now"])] * has_actions]
              for row in rows]
     widths = [max(map(len, texts)) for texts in zip(*cells)]
@@ -219,7 +223,7 @@ def row_lines(rows, has_actions, has_notes, has_since):
 
 
 def news_lines(rows):
-    """The lines of the messages that came to a desk, and of their counts."""
+    """Returns the lines of `news` for its objects."""
     cells = [[row["group"], row["transaction"], str(row["number"]).ljust(3), row["words"]] for row in rows]
     widths = [max(map(len, texts)) for texts in zip(*cells)]
     return [*("  " + "".join(f"{text:<{width}}  " for text, width in zip(texts, widths)) + shown(or_dash(row["item"]))
@@ -227,12 +231,12 @@ def news_lines(rows):
 
 
 def standing(value):
-    """How a loan stands after a message or a deed."""
+    """Returns how a loan stands after a message or an action: its state, its due date and its numbers."""
     return f"{value['state']} {day(value['due'])} {value['released']}/{value['issued']}"
 
 
 def night_lines(value):
-    """The lines of an object of a night."""
+    """Returns the lines of a night for one of its objects."""
     if value["kind"] == "message":
         named = [value[label] for label in ("group", "transaction", "apdu")]
         rest = {label: value[label] for label in ("answers", "result", "reply", "date", "item") if label in value}
@@ -248,23 +252,23 @@ def night_lines(value):
 
 
 def record_lines(record):
-    """The lines of a record."""
+    """Returns the lines of `verify` for its object."""
     return [f"{label} {record[label]}" for label in "version role loans messages room".split()]
 
 
 def each(lines_of):
-    """The lines of some objects, one after another."""
+    """Returns a function: objects -> their lines, one after another, by `lines_of`."""
     return lambda objects: [line for value in objects for line in lines_of(value)]
 
 
 # ---- the program
 
-# What `list --mine` tells on standard error where no day is given.
+# What `list --mine` tells on standard error if no day is given.
 LEFT_OUT = re.compile(rb"(?:ill: [^\n]* may want a hand by (?:its date|their dates): give --today DAY\n)?")
 
 
 def run(words, given=None):
-    """What a command writes, which has to go well."""
+    """Runs a command, which has to end with status 0, and returns its output."""
     done = PROGRAM.run(words, given)
     if done.status or not LEFT_OUT.fullmatch(done.errors):
         raise SystemExit(f"objects: ill {' '.join(words)}: {done.status} {done.errors.decode()}")
@@ -272,20 +276,21 @@ def run(words, given=None):
 
 
 def unique(pairs):
-    """An object, each of whose labels stands once."""
+    """Returns an object of these pairs, in which each label must stand once."""
     if len(dict(pairs)) != len(pairs):
         raise ValueError("a label stands twice")
     return dict(pairs)
 
 
 def compare(kind, words, lines_of, given=None):
-    """Compares a command with `--json` and without it."""
+    """Compares the output of a command with `--json` with its output without it."""
     told = run([*words, "--json"], given).decode("utf-8")
     compare_texts(kind, " ".join(words), lines_of, told, run(words, given).decode("utf-8"))
 
 
 def compare_texts(kind, place, lines_of, text, lines):
-    """Compares the text that a command writes with `--json` with the lines that it writes without it."""
+    """Compares the objects in `text` with the schema of this kind, and with the lines that the command writes without
+    `--json`."""
     global compared
     objects = []
     for line in text.split("\n")[:-1]:
@@ -302,7 +307,7 @@ def compare_texts(kind, place, lines_of, text, lines):
 
 
 def carry(source, target, txn, number):
-    """Gives a message of one desk to the other."""
+    """Carries a message of the desk `source` to the desk `target`."""
     run(["take", target], run(["send", source, *txn, number]))
 
 
@@ -317,7 +322,7 @@ def play(txn, course):
 
 
 def titled(name, title):
-    """Performs a request with a title, in a loan whose group has characters of JSON."""
+    """Performs a request with this title, in a loan whose group has characters of JSON. Returns the loan."""
     txn = ['"\\{}[],:', name]
     run(["act", "here", *txn, "request", "20250310", *title.split(" ")])
     carry("here", "there", txn, "1")
@@ -325,7 +330,7 @@ def titled(name, title):
 
 
 def keep(desk, txns):
-    """Keeps what the other desk has to send in each of these loans, as `take --keep` keeps it."""
+    """Appends to what came to `desk` all that the other desk has to send in these loans, as `take --keep` does."""
     for txn in txns:
         for number in map(str, range(1, 256)):
             sent = PROGRAM.run(["send", "there", *txn, number])
@@ -365,7 +370,7 @@ def compare_desks():
 
 
 def compare_nights():
-    """Performs a night at two copies of each desk, in objects at one of them."""
+    """Performs a night at two copies of each desk, at one of them with `--json`, and compares both."""
     txns = [["Group of this", name] for name in COURSES] + [['"\\{}[],:', name] for name in TITLES]
     for desk, other in ("here", "there"), ("there", "here"):
         texts = []

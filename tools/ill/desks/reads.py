@@ -72,38 +72,38 @@ NO_NAME = "ill: shelf/no\\xffdesk\\x1b: no UTF-8"
 # ---- what the commands write
 
 def yes_no(is_yes):
-    """Returns the word for it."""
+    """Returns `yes` or `no`."""
     return "yes" if is_yes else "no"
 
 
 def field_lines(apdu):
-    """Returns the lines of the further fields of a message."""
+    """Returns the lines of a message's further fields, those after its number."""
     values = {"reply": yes_no, "item": shown}
     return [f"{label} {values.get(label, str)(apdu[label])}" for label in ("answers", "result", "reply", "date", "item")
             if label in apdu]
 
 
 def message_lines(txn, apdu):
-    """Returns the lines of a message that has been saved."""
+    """Returns the lines of a message of a loan that its record has issued."""
     return ["", f"apdu {apdu['apdu']}", f"group {txn[0]}", f"transaction {txn[1]}", f"number {apdu['number']}",
             *field_lines(apdu), "leaves yes"]
 
 
 def status_lines(side):
-    """Returns the seven lines of a loan."""
+    """Returns the seven lines of `ill status` for a loan."""
     count = len(side.issued)
     return [f"role {ROLES[side.role]}", f"group {side.txn[0]}", f"transaction {side.txn[1]}", f"state {side.state}",
             f"due {side.due or '-'}", f"messages {count}/{count}", f"marks {' '.join(side.marks()) or '-'}"]
 
 
 def taken(side):
-    """Returns what a record tells of messages taken."""
+    """Returns the fields of a record that tell of messages taken, by their names in an object."""
     return {"held": side.held} if side.role == REQUESTER else {
         "accepted": side.accepted, "last_cancel": side.cancelled, "last_renew": side.renewed}
 
 
 def loan_lines(side, note=None):
-    """Returns all lines of a loan, with its note."""
+    """Returns all lines of `ill loan` for a loan, with its note if there is one."""
     return [*status_lines(side), f"next {side.turn()}", f"now {' '.join(side.possible()) or '-'}",
             f"item {shown(side.asked()['item'])}", f"expiry {side.expiry() or '-'}",
             *(f"{label.replace('_', '-')} {number or '-'}" for label, number in taken(side).items()), *([f"note {note}"] if note else []),
@@ -111,20 +111,20 @@ def loan_lines(side, note=None):
 
 
 def status_object(side):
-    """Returns the object of a loan."""
+    """Returns the object of `ill status --json` for a loan."""
     count = len(side.issued)
     return {"kind": "loan", "role": ROLES[side.role], "group": side.txn[0], "transaction": side.txn[1],
             "state": side.state, "due": iso(side.due), "released": count, "issued": count, "marks": side.marks()}
 
 
 def message_object(side, apdu):
-    """Returns the object of a message."""
+    """Returns the object of a message that a loan has issued."""
     fields = {label: iso(value) if label == "date" else value for label, value in apdu.items()}
     return {"apdu": fields.pop("apdu"), "group": side.txn[0], "transaction": side.txn[1], **fields, "leaves": True}
 
 
 def loan_object(side, note=None):
-    """Returns the object of all of a loan, with its note."""
+    """Returns the object of `ill loan --json` for a loan to which nothing came, with the note if there is one."""
     return {**status_object(side), "next": side.turn(), "now": side.possible(), "item": side.asked()["item"],
             "expiry": iso(side.expiry()), **taken(side), "messages": [message_object(side, it) for it in side.issued],
             "came": [], "note": note, "history": []}
@@ -137,12 +137,12 @@ def slip_parts(side):
 
 
 def drawn(text):
-    """Returns a text in a chart: what is not plain by its number, and a line feed as the end of a line."""
+    """Returns a text as a chart has it: a letter that is not plain by its number, and a line feed as `<br/>`."""
     return re.sub("[^\\w \n,.\\-\x80-\U0010ffff]|_", lambda found: f"#{ord(found[0])};", text).replace("\n", "<br/>")
 
 
 def picture_lines(side):
-    """Returns the lines of a chart: a responder's begins with the request that it has taken."""
+    """Returns the lines of `ill loan --picture`. Those of a responder begin with the request that it has taken."""
     apdus = side.issued if side.role == REQUESTER else [side.request, *side.issued]
     lines = ["sequenceDiagram", "  participant requester", "  participant responder"]
     for apdu in apdus:
@@ -152,16 +152,17 @@ def picture_lines(side):
 
 
 def padded(text, width):
-    """Returns a column, and what is before the next one."""
+    """Returns a text as a column of this width, with two spaces behind."""
     return text + " " * max(width - len(text), 0) + "  "
 
 
 def by_deadline(sides):
-    """Returns the most urgent first, and of the same deadline those that were begun first."""
+    """Returns the sides with the earliest deadline first. Those with one deadline stay in the order in which they were
+    begun."""
     return sorted(sides, key=lambda side: side.deadline() or "99999999")
 
 
-# The words of each kind of work, and those that want a hand.
+# The words of each kind of work -> whether it wants a hand; the words that do; and those of loans that are over.
 WORKS = works()
 HANDS = [words for words, wants in WORKS.items() if wants]
 OVER = [*WORKS][-1]
@@ -182,19 +183,19 @@ def listed(sides, flag, today=None, due_before=None, state=None, ahead=AHEAD, fi
 
 
 def left_out(sides, due_before=None, state=None):
-    """Returns how many loans `list --mine` leaves out where no day is given: on some day they are listed."""
+    """Returns how many loans `list --mine` leaves out if no day is given, which on some day are listed."""
     return sum(name not in HANDS and bool(side.deadline() and side.verbs())
                for name, side in listed(sides, "", None, due_before, state))
 
 
 def left_out_line(path, count):
-    """Returns the line on standard error that tells so."""
+    """Returns the line on standard error that tells how many loans were left out."""
     words = "loan may want a hand by its date" if count == 1 else "loans may want a hand by their dates"
     return f"ill: {path}: {count} more {words}: give --today DAY\n" if count else ""
 
 
 def counts(sides, today=None, ahead=AHEAD):
-    """Returns the counts of a desk."""
+    """Returns the counts of a desk: all loans, the open ones, those to do, and the room for more."""
     works = [work_with(side, today, ahead) for side in sides]
     return {"loans": len(sides), "open": len(sides) - works.count(OVER), "todo": sum(name in HANDS for name in works),
             "room": 1000 - len(sides)}
@@ -224,7 +225,8 @@ def list_lines(sides, flag, today=None, due_before=None, state=None, ahead=AHEAD
 
 
 def morning_lines(sides, today, news, notes=None, days=None):
-    """Returns the lines of `list --mine --since DAY`."""
+    """Returns the lines of `list --mine --since DAY`. `news` has what is told of each loan, and `days` since when it
+    stands so."""
     rows = list(listed(sides, "--mine", today, news=news))
     cells = [["  " + (side.due or "-") if name in HANDS else "news:", column(side.txn[0]), column(side.txn[1]),
               "; ".join(words for _, words in news[tuple(side.txn)]) or "-"] for name, side in rows]
@@ -243,7 +245,7 @@ def morning_lines(sides, today, news, notes=None, days=None):
 
 def list_objects(sides, flag, today=None, due_before=None, state=None, ahead=AHEAD, find=None, notes=None, news=None,
                  days=None):
-    """Returns the objects of `list`."""
+    """Returns the objects of `list --json`: one for each loan that is listed, and one with the counts."""
     return [{"kind": "loan", "work": name, "state": side.state, "due": iso(side.due), "group": side.txn[0],
              "transaction": side.txn[1], "now": side.possible(today), "item": side.asked()["item"],
              "note": (notes or {}).get(tuple(side.txn)), "since": iso((days or {}).get(tuple(side.txn))),
@@ -253,7 +255,7 @@ def list_objects(sides, flag, today=None, due_before=None, state=None, ahead=AHE
 
 
 def heard_objects(side, news):
-    """Returns what is told of a loan, as objects, if news are told."""
+    """Returns the news of a loan as objects. If no news are told, returns `news` itself."""
     return news and [{"number": number, "words": words} for number, words in news[tuple(side.txn)]]
 
 
@@ -265,14 +267,15 @@ def numbers_lines(path, sides):
 
 
 def page_loan(side, morning):
-    """Returns a loan and the row that a page has of it."""
+    """Returns a loan, and the row that the page of `ill report` has of it."""
     loan = Loan.of(side)
     date = f"due {iso(side.due)}" if side.due else f"expires {iso(side.expiry())}" if side.expiry() else ""
     return loan, ([shown(side.asked()["item"]), *side.txn, morning.state(loan), date], side.possible(TODAY), False)
 
 
 def read_page(text):
-    """Returns the counts of a page of one desk, and its tables: of each the words, whether it wants a hand, and its rows."""
+    """Returns the counts of a page of one desk, and its tables. A table has its words, whether it wants a hand, its
+    count and its rows."""
     found = []
     head = r'<h3( class="task")?>([^<]*): (\d+)</h3>\n<table>\n<thead>.*?</thead>\n<tbody>\n(.*?)</tbody>\n</table>\n'
     for task, words, count, body in re.findall(head, text, re.S):
@@ -318,7 +321,7 @@ def steps(course, place, item):
 
 
 def modelled(course, txn, place, item):
-    """Returns both sides of a loan after a course."""
+    """Returns both sides of a loan after a course, requester first, by the model."""
     sides = {"r": Side(REQUESTER, txn), "s": Side(RESPONDER, txn)}
     sides["l"] = sides["s"]
     for who, words, carried in steps(course, place, item):
@@ -331,13 +334,13 @@ def modelled(course, txn, place, item):
 
 
 def carry_answer(own, other, course):
-    """Carries the answer that a message has caused, in a course that says so."""
+    """Carries the message with which a responder answers the one it has taken, in a course that says so."""
     if "s2>" in course and other.role == RESPONDER and other.state == "NOT-SUPPLIED":
         own.take(other.issued[-1])
 
 
 def both(loans):
-    """Returns the sides of two desks in these loans: courses, ids and titles."""
+    """Returns the sides of two desks in these loans, by role. A loan is a course, an id and a title."""
     pairs = [modelled(course, txn, place, item) for place, (course, txn, item) in enumerate(loans)]
     return {REQUESTER: [here for here, _ in pairs], RESPONDER: [there for _, there in pairs if there.state != "IDLE"]}
 
@@ -354,13 +357,14 @@ def titled():
 
 
 def thousand():
-    """Returns a thousand loans."""
+    """Returns a thousand loans, whose courses take turns."""
     return [(COURSES[1 + place * 7 % (len(COURSES) - 1)], (f"G{place % 37}", f"{place:04}"), f"Volume {place}")
             for place in range(1000)]
 
 
 def longest(role):
-    """Returns a thousand loans whose messages are as long, and as many, as loans make them."""
+    """Returns the sides of this role in a thousand loans. Their messages are as long, and as many, as loans make
+    them."""
     sides = []
     for place in range(1000):
         txn = ("G" * 64, f"{place:04}" + "T" * 60)
@@ -372,7 +376,8 @@ def longest(role):
 
 
 def fill(here, there, role):
-    """Uses up all numbers: a requester's by Renews that are refused, and a responder's by Renews that are granted."""
+    """Uses up all numbers of one side. A requester sends Renews that are refused; a responder answers Renews with later
+    dates."""
     if role == REQUESTER:
         while len(here.issued) < 255:
             number = len(here.issued) + 1
@@ -388,21 +393,22 @@ def fill(here, there, role):
 # ---- the program
 
 class Judge:
-    """Runs the program, and counts what was compared."""
+    """Runs the program, compares what it writes, and counts the comparisons."""
 
     def __init__(self, program):
+        """Keeps the program, the faults of the part, and the count of comparisons."""
         self.program, self.faults, self.compared = harness.Program(program, limit=None), [], 0
 
     def run(self, words, given=None, **how):
-        """Returns a command."""
+        """Runs a command, and returns what it leaves."""
         return self.program.run(words, given, **how)
 
     def text(self, words, given=None):
-        """Returns what a command writes that has to go well."""
+        """Runs a command, which has to end with status 0, and returns its output as text."""
         return self.program.well(words, given).decode()
 
     def same(self, place, found, wanted):
-        """Compares two values."""
+        """Compares two values. Keeps a fault, with this place, if they differ."""
         self.compared += 1
         if found != wanted:
             self.faults.append(f"{place}: {first_difference(found, wanted)}")
@@ -420,13 +426,13 @@ class Judge:
                   [json.loads(json.dumps(value), object_pairs_hook=list) for value in wanted])
 
     def part(self, name):
-        """Says how a part went."""
+        """Tells of a part by its faults so far, and forgets them."""
         REPORT.tell(name, *self.faults[:5])
         self.faults = []
 
 
 def first_difference(found, wanted):
-    """Returns the first place at which two values differ."""
+    """Returns a text with the first place at which two values differ."""
     if isinstance(found, list) and isinstance(wanted, list):
         for place, (one, other) in enumerate(itertools.zip_longest(found, wanted)):
             if one != other:
@@ -440,7 +446,7 @@ def is_longest(sides):
 
 
 def check_list(judge, path, sides):
-    """Compares `list` with each combination of its options."""
+    """Compares `list` with combinations of its options, and what it says on standard error."""
     whiches = [([], "", False), (["--open"], "--open", False), (["--mine", "--actions"], "--mine", True),
                (["--open", "--mine"], "--mine", False)]
     states = [None, *sorted({side.state for side in sides})[:4], "CHECKED-IN"][:2 if len(sides) > 900 else None]
@@ -671,7 +677,7 @@ def last_line(errors):
 
 
 def check_streams(judge, path, sides):
-    """A full, a closed and a slow output."""
+    """Compares commands whose output is full, closed, or read byte by byte."""
     for words in reading(path, sides)[:1 if is_longest(sides) else None]:
         text = judge.text(words)
         wanted = (3, "ill: write") if text else (0, "")
@@ -685,14 +691,14 @@ def check_streams(judge, path, sides):
 # ---- the verbs and `act`
 
 def kind_of(side):
-    """Returns what `act` may tell apart: the state, the marks, and how the days lie."""
+    """Returns what `act` may tell apart of a loan: its role, state and marks, and how its days lie."""
     days = [side.due and (side.due < LATE), side.expiry() and (side.expiry() < LATE)]
     return (side.role, side.state, *side.marks(), bool(side.held), *map(str, days))
 
 
 def paths():
-    """Returns the shortest course to each kind of loan, as steps: words of a side, or the delivery of a message to
-    it."""
+    """Returns for each kind of loan the shortest course that leads to it, and its side. A step of a course is words of
+    a side, or the number of a message that comes to it."""
     events = {"r": [f for f in FORMS[REQUESTER] if f[:7] != "request"], "s": [
         *(f"answer {result}" for result in ("conditional", "will-supply", "unfilled")), "cancel-reply yes",
         "cancel-reply no", "ship 20250315", "ship 20250501", "renew-answer yes 20250520", "renew-answer no", "overdue",
@@ -718,12 +724,12 @@ def paths():
 
 
 def day_of(words):
-    """Returns the day of an action in a course."""
+    """Returns the day of an action with these words, in a course."""
     return SHIPS if words.startswith("ship") else LATE
 
 
 def followers(here, there, course, events):
-    """Yields the pairs of sides to which one more step leads that changes something."""
+    """Yields the pairs of sides, with their courses, to which one more step leads that changes something."""
     for who, words in [(who, words) for who in "rs" for words in events[who]]:
         pair = {"r": here.twin(), "s": there.twin()}
         try:
@@ -739,7 +745,7 @@ def followers(here, there, course, events):
 
 
 def play(judge, course, folder):
-    """Performs a course by commands, at two desks in a folder."""
+    """Performs a course by commands, at two desks in a folder. Returns the paths of the desks by `r` and `s`."""
     desks = {"r": f"{folder}/r", "s": f"{folder}/s"}
     for who, role in (("r", "requester"), ("s", "responder")):
         judge.text(["new", desks[who], role])
@@ -754,7 +760,8 @@ def play(judge, course, folder):
 
 
 def check_kind(judge, role, course, side):
-    """Compares the verbs that a loan lists with what `act` answers to each form of each verb, on a copy."""
+    """Compares the verbs that are listed for one kind of loan with what `act` answers. Each form of each verb is
+    tried."""
     folder = tempfile.mkdtemp(dir=".")
     try:
         desk = play(judge, course, folder)["rs"[role]]
@@ -801,7 +808,7 @@ def check_words(judge, desk, side, words, day):
 
 
 def check_played(judge):
-    """The desks of each kind of loan, made by the commands: the files have the bytes of the model."""
+    """Makes the desks of each kind of loan by commands. Their files must have the bytes of the model."""
     for name, loans in (("kinds", kinds()), ("titles", titled())):
         wanted = both(loans)
         for role in ROLES:
@@ -828,8 +835,8 @@ def play_course(judge, course, txn, place, item):
 
 
 def check_folder(judge, desks):
-    """Compares `list` of a folder of desks, with what stands beside them: also a damaged desk, a name that is no UTF-8,
-    and a shelf."""
+    """Compares `list` of a folder of desks and other files. Then the folder has a damaged desk, a name that is no
+    UTF-8, and a shelf."""
     os.mkdir("shelf")
     for name, (_, sides) in desks.items():
         if len(sides) < 100:
@@ -880,7 +887,7 @@ def check_news_of_folder(judge, names, desks):
 
 
 def check_desks(judge):
-    """All commands over the ten desks."""
+    """Performs all commands over the ten desks, and over a folder of them."""
     sets = {"empty": {REQUESTER: [], RESPONDER: []}, "kinds": both(kinds()), "titles": both(titled()),
             "thousand": both(thousand()), "longest": {role: longest(role) for role in (REQUESTER, RESPONDER)}}
     desks = {f"{name}-{ROLES[role]}": (role, sides) for name, of in sets.items() for role, sides in of.items()}
@@ -902,7 +909,7 @@ def check_desks(judge):
 
 
 def main(program):
-    """Performs all, in the folder in which it is called. Returns the exit status."""
+    """Performs all comparisons, in the folder in which it is called. Returns the exit status."""
     judge = Judge(program)
     check_played(judge)
     judge.part("the commands make the records of the model")

@@ -132,8 +132,7 @@ class Checks:
         tell("whole desks", wrong)
 
     def check_bits(self):
-        """Expects that a wrong bit changes what is shown of its own loan alone, and that no such desk is called
-        whole."""
+        """Expects that a wrong bit changes only what is shown of its own loan. No such desk is called whole."""
         wrong = []
         for name, data in self.desks.items():
             _, (_, *before, _) = self.shown(data)

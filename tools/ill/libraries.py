@@ -34,10 +34,12 @@ VERBS = """
 return [...new Set([...document.querySelectorAll("form:has(input[name=stamp])")].map(
   it => it.querySelector('input[type=hidden][name=word]').value))];
 """
+# The status of a page, and the milliseconds that it took.
 TIME = """
 const it = performance.getEntriesByType('navigation')[0];
 return [it.responseStatus, Math.max(it.duration, it.domComplete)];
 """
+# All that is known of a loan, or the figures, as a page shows them; and the screens of pictures.
 KNOWN = "return document.querySelector('pre').textContent"
 SCREENS = {"wide": (1200, "light", "screen"), "narrow": (320, "light", "screen"), "dark": (1200, "dark", "screen"),
            "print": (720, "light", "print")}
@@ -47,17 +49,19 @@ class Books:
     """What a desk must have, by the model: its loans, its diary and its notes."""
 
     def __init__(self, role):
+        """Begins the books of a desk without loans. `days` has the day of each line of the diary, and `last` the day of
+        each loan's last line. `news` has the words of what this day told of each loan."""
         self.role, self.sides, self.notes = role, {}, {}
         self.diary, self.days, self.last, self.news = b"", {}, {}, collections.defaultdict(list)
 
     def act(self, txn, words, day, user):
-        """Performs an action of a user."""
+        """Performs an action of a user in the model, and enters its line in the diary."""
         side = self.sides.setdefault(txn, Side(self.role, txn))
         side.act(words, day)
         self.enter(txn, words.partition(" ")[0], len(side.issued), day, user)
 
     def enter(self, txn, what, number, day, name="-"):
-        """Enters a line in the diary."""
+        """Enters a line in the diary: the message with this word and number came, or was issued, on this day."""
         self.diary += diary_line(day, name, txn, what, number)
         self.days[txn, what, number], self.last[txn] = day, day
 
@@ -86,7 +90,7 @@ class Books:
         return [words for words in left if words not in self.news[side.txn]] + self.news[side.txn]
 
     def keep_dates(self, day):
-        """Issues what a date makes due."""
+        """Issues what the day makes due: each Overdue, and each Expired."""
         for verb in ("overdue", "expire"):
             for side in [side for side in self.sides.values() if verb in side.possible(day)]:
                 side.act(verb, day)
@@ -94,11 +98,11 @@ class Books:
                 self.news[side.txn].append(words_of(side, side.issued[-1]))
 
     def record(self):
-        """Returns the record."""
+        """Returns the record that the desk must have."""
         return desk_record(self.role, list(self.sides.values()))
 
     def known(self):
-        """Returns each message that was issued, by its bytes."""
+        """Returns each message that was issued: its bytes -> the loan and the message."""
         return {encoded(side.txn, apdu): (side.txn, apdu) for side in self.sides.values() for apdu in side.issued}
 
     def lines(self, txn):
@@ -119,11 +123,12 @@ class Staff:
     """One who works at a library by its pages alone. It counts what that takes."""
 
     def __init__(self, browser, user):
+        """Begins to count for a user at a browser."""
         self.browser, self.user, self.count, self.slowest = browser, user, collections.Counter(), 0
         self.meant = []  # the statuses of which the console may tell
 
     def go(self, url):
-        """Loads a page that has a bookmark."""
+        """Loads a page that has a bookmark, and returns its status."""
         self.browser.go(url)
         return self.see()
 
@@ -162,6 +167,8 @@ class Library:
     """A library: its desk, its web server, who works there, and what the model says of its desk."""
 
     def __init__(self, programs, folder, name, role, browser, user):
+        """Makes the desk and the folders of mail, and begins the web server. `browser` is that of `user`, who works
+        there."""
         self.name, self.folder, self.ill = name, f"{folder}/{name}", harness.Program(programs[1])
         for part in ("in", "out"):
             os.makedirs(f"{self.folder}/{part}")
@@ -192,7 +199,7 @@ class Library:
         self.staff.browser.messages()
 
     def judge(self, what):
-        """Compares the desk and the diary with the model."""
+        """Expects that the desk and the diary are as the model has them. `what` says after which step."""
         path = f"{self.desk}.diary"
         diary = harness.read(path) if os.path.exists(path) else b""
         at = f"{self.name}, {self.day}, {what}"
@@ -211,7 +218,7 @@ class Library:
         self.done(txn, [verb, *words, *(["none"] if verb == "renew" and not day else [])], day)
 
     def done(self, txn, words, day=None):
-        """Performs in the model what was done by a form, and compares both."""
+        """Performs in the model what was done by a form, and expects the same desk and diary."""
         self.books.act(txn, " ".join([*words, *([day.replace("-", "")] if day else [])]), self.day, self.staff.user)
         self.staff.count["actions"] += 1
         self.judge(f"{words[0]} of {txn}")
@@ -229,7 +236,7 @@ class Library:
         return self.staff.browser.one(named[0] if named and self.staff.browser.all(named[0]) else f"{form} button")
 
     def row(self, txn, side, morning):
-        """Returns the row of a loan that the model wants on the page of the desks."""
+        """Returns the row that a loan must have on the page of the desks."""
         notes, news = [self.books.notes[txn]] if txn in self.books.notes else [], self.books.told(side)
         date = f"due {iso(side.due)}" if side.due else f"expires {iso(side.expiry())}" if side.expiry() else ""
         return {"title": shown(side.asked()["item"]), "loan": list(txn), "state": morning.state(Loan.of(side)), "date": date,
@@ -237,14 +244,14 @@ class Library:
                 "verbs": side.possible(self.day)}
 
     def desks(self):
-        """Returns the desk with its tables that the model wants on the page of the desks."""
+        """Returns the counts and tables that the desk must have on the page of the desks."""
         morning = Morning(self.day)
         pairs = [(Loan.of(side), self.row(txn, side, morning)) for txn, side in self.books.sides.items()]
         tables = [{"head": f"{words}: {len(rows)}", "wants": wants, "rows": rows} for words, wants, rows in morning.tables(pairs)]
         return [{"counts": morning.counts([loan for loan, _ in pairs]), "tables": tables}]
 
     def morning(self):
-        """Looks at the page of the desks, which must be as the model wants it. Returns the work and the loan of each row."""
+        """Looks at the page of the desks, and expects what the model has. Returns the work and the loan of each row."""
         self.staff.go(self.url())
         found = self.staff.browser.run(DESKS)
         harness.expect(found == self.desks(), f"{self.name}, {self.day}: the page has {first_other(found[0], self.desks()[0])}")
@@ -274,8 +281,8 @@ class Library:
         browser.devtools("Emulation.setEmulatedMedia", media="", features=[])
 
     def run(self, sender, has_dates):
-        """Has a run of the night: the letters that have come, then the dates, then a letter to the other library. A letter that
-        was cut wants a person, and nothing else does."""
+        """Performs a run of the night: the letters that have come, then the dates, then a letter to the other library.
+        A letter that was cut wants a person, and nothing else does."""
         words = ["--key", self.key, "--today", self.day, *(["--overdue", "--expire"] if has_dates else [])]
         copy, beat, come, go = (f"{self.folder}/{name}" for name in ("copy", "beat", "in", "out"))
         done = self.ill.run(["exchange", *words, "--copy", copy, "--beat", beat, self.desk, come, go])
@@ -306,10 +313,12 @@ class Mail:
     FATES = {"well": 60, "lost": 14, "late": 8, "twice": 10, "cut": 8}
 
     def __init__(self, chance):
+        """Begins a mail whose letters have their fates by chance. `waiting` has the letters that come a night later."""
         self.chance, self.count, self.waiting = chance, collections.Counter(), []
 
     def carry(self, sender, receiver, is_good):
-        """Carries the letters of a library."""
+        """Takes all letters of `sender` from its OUT. Brings each to `receiver`, by its fate. If `is_good`, none goes
+        wrong."""
         for name in sorted(os.listdir(f"{sender.folder}/out")):
             if name.startswith("."):
                 continue

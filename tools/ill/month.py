@@ -39,6 +39,7 @@ TITLES = [
 LENDS = {"agree to cancel, or refuse": ("cancel-reply", ["yes"], None), "renew, or refuse": ("renew-answer", ["yes"], 21),
          "check in when it is here": ("check-in", [], None), "send an overdue notice": ("overdue", [], None),
          "let the request expire": ("expire", [], None)}
+# By the number of a loan: the work in which he refuses, and the result that he answers at first.
 REFUSES = {27: "agree to cancel, or refuse", 1: "renew, or refuse", 3: "renew, or refuse"}
 ANSWERS = {8: "will-supply", 9: "conditional", 10: "conditional", 12: "unfilled", 17: "hold-placed", 18: "retry"}
 NEVER, SHORT = [6], [1, 2, 3, 4, 7]  # the loans that he leaves, and those that he lends for ten days
@@ -48,6 +49,7 @@ RECALLED = 4  # the loan that he recalls, though it is not overdue, on a day
 BORROWS = {"unpack when it is here": (1, "receive"), "look for it: it is wanted back": (1, "receive"),
            "send back at once": (0.6, "return"), "send back, or agree on more time": (0.4, "return"),
            "send back or renew": (0.5, "return"), "leave it with the reader": (0.12, "return")}
+# The loans that she renews once: at which kind of work, and for how many days from today, or without a day.
 RENEWS = {1: ("send back, or agree on more time", None), 2: ("send back or renew", 30), 3: ("send back or renew", None)}
 KEEPS = {1, 2, 3, 4, 7}  # the loans that she keeps until they are due
 CANCELS = {14: 14, 20: 21, 26: 27}  # by the day: of one loan the item was shipped on this day, and two were asked for
@@ -58,6 +60,8 @@ class Month:
     """The play: its two libraries, the mail between them, and the loans by their numbers."""
 
     def __init__(self, programs, folder, browser):
+        """Makes both libraries with one key. `place` is the number of the day, from 0 on, and `once` what was asked for
+        already."""
         self.chance = random.Random(7)
         self.here = Library(programs, folder, "borrow", REQUESTER, browser, "anna")
         self.there = Library(programs, folder, "lend", RESPONDER, browser, "bert")
@@ -70,7 +74,7 @@ class Month:
         return self.here, self.there
 
     def day(self, later=0):
-        """Returns the day, or one later, as a browser has it."""
+        """Returns the day, or one so many days later, as a browser has it."""
         return (FIRST + datetime.timedelta(self.place + later)).isoformat()
 
     def is_first(self, what):
@@ -110,7 +114,8 @@ class Month:
         harness.expect(f"note {shown(words)}" in staff.browser.text("pre"), f"the note {words!r} is not there")
 
     def lends(self, work, number):
-        """Returns what Bert does in a loan, if anything: a verb, its words, and the days from today."""
+        """Returns what Bert does in a loan with this kind of work: a verb, its words, and the days from today; or
+        None."""
         if work == "answer, or ship":
             if number in ANSWERS and self.is_first(("answer", number)):
                 return "answer", [ANSWERS[number]], None
@@ -124,7 +129,7 @@ class Month:
         return LENDS.get(work)
 
     def borrows(self, work, number):
-        """Returns what Anna does in a loan, if anything."""
+        """Returns what Anna does in a loan with this kind of work, likewise; or None."""
         if work == "accept the conditions, or decline":
             return "reply", ["no" if number == DECLINED else "yes"], None
         wished, days = RENEWS.get(number, (None, None))
@@ -136,7 +141,7 @@ class Month:
         return (verb, [], None) if is_done else None
 
     def works(self, library, decide, rows):
-        """Works down the list of a morning."""
+        """Works down the list of a morning: does in each loan what `decide` says."""
         for work, txn in rows:
             deed = decide(work, self.numbers[txn])
             if not deed:
@@ -150,7 +155,7 @@ class Month:
                 self.slip(txn)
 
     def errs(self, library):
-        """Types a due date of the year before. Nothing is done, and the page is shown as it is."""
+        """Types a due date of the year before. Expects that nothing is done, and that the page says so."""
         staff, before = library.staff, harness.read(library.desk)
         status = staff.click(library.filled("ship", [], f"{FIRST.year - 1}{self.day()[4:]}"))
         library.draw("wrong-date", once="wrong date")
@@ -159,7 +164,7 @@ class Month:
                     None if harness.read(library.desk) == before else "the desk has changed")
 
     def slip(self, txn):
-        """Anna looks at the slip of a loan, and goes back."""
+        """Anna looks at the slip of a loan, which must have its title and its fields, and goes back."""
         staff = self.here.staff
         staff.click(staff.browser.one(".now p a"))
         self.here.draw("slip", once="slip")
@@ -189,7 +194,8 @@ class Month:
     # ---- Days and nights
 
     def night(self, is_good):
-        """Has a night: the run of the requester, that of the responder, and the requester's again."""
+        """Performs a night: the run of the requester, that of the responder, and the requester's again. After a good
+        night, which loses nothing, expects that both are in step."""
         if not is_good:
             self.mail.bring_late()
         for own, other in ((self.here, self.there), (self.there, self.here), (self.here, self.there)):
@@ -199,7 +205,7 @@ class Month:
             self.expect_in_step()
 
     def expect_in_step(self):
-        """After a good night both sides of each loan are in step, or it is over for both."""
+        """Expects that both sides of each loan are in step, or that it is over for both."""
         here, there = ({txn: {"state": side.state, "due": side.due or "-", "marks": " ".join(side.marks())}
                         for txn, side in library.books.sides.items()} for library in self.libraries())
         for txn in here.keys() | there.keys():
@@ -212,7 +218,8 @@ class Month:
             side.turn() == "over" and there[txn].state == self.exchange.ENDS.get(side.state) for txn, side in here.items())
 
     def begin_day(self):
-        """Begins a day: its pages, and what the night before it has brought."""
+        """Begins a day: its pages, and the night before it, unless it is the first. Every seventh night is good, and so
+        is each after the month."""
         for library in self.libraries():
             library.begin_day(self.day().replace("-", ""))
             library.books.news.clear()
@@ -245,7 +252,7 @@ class Month:
         self.tell()
 
     def complaints(self):
-        """Returns what the console says of no status that was meant, and each status of which it says nothing."""
+        """Returns the messages of the console that no status explains, and each status that was meant and has none."""
         told = self.here.staff.browser.messages()
         for status in self.here.staff.meant + self.there.staff.meant:
             found = next((it for it in told if f"status of {status}" in it), None)
@@ -256,7 +263,7 @@ class Month:
     # ---- What came of it
 
     def tell(self):
-        """Tells what came of the month."""
+        """Tells how many loans are over, what became of letters, what staff did, the figures and the pages of loans."""
         REPORT.tell(f"a month in a browser: {len(TITLES)} loans over in {self.place} days, and both desks as the model has them")
         REPORT.tell("letters: " + ", ".join(f"{count} {fate}" for fate, count in self.mail.count.items()),
                     *(f"none {fate}" for fate in Mail.FATES if not self.mail.count[fate]))
@@ -269,7 +276,7 @@ class Month:
             self.tell_loans(library)
 
     def tell_figures(self, library):
-        """Looks at the figures of all days."""
+        """Compares the figures of all days, as their page shows them, with the model."""
         staff, books, last = library.staff, library.books, self.day(-1)
         staff.go(library.url())
         staff.fill("input[name=from]", FIRST.isoformat())
@@ -282,7 +289,7 @@ class Month:
 
     @staticmethod
     def tell_loans(library):
-        """Looks at the page of each loan, which has all that is known of it."""
+        """Compares the page of each loan, which has all that is known of it, with the model."""
         staff, books, faults = library.staff, library.books, []
         for txn in books.sides:
             staff.go(library.url() + library.query(txn))

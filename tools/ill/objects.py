@@ -289,8 +289,8 @@ def compare(kind, words, lines_of, given=None):
 
 
 def compare_texts(kind, place, lines_of, text, lines):
-    """Compares the objects in `text` with the schema of this kind, and with the lines that the command writes without
-    `--json`."""
+    """Compares the objects in `text` with the schema of this kind. Then compares them with the lines that the command
+    writes without `--json`."""
     global compared
     objects = []
     for line in text.split("\n")[:-1]:
@@ -330,7 +330,7 @@ def titled(name, title):
 
 
 def keep(desk, txns):
-    """Appends to what came to `desk` all that the other desk has to send in these loans, as `take --keep` does."""
+    """Appends to what came to `desk` all that the other desk has to send in these loans. So does `take --keep`."""
     for txn in txns:
         for number in map(str, range(1, 256)):
             sent = PROGRAM.run(["send", "there", *txn, number])

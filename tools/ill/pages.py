@@ -59,6 +59,7 @@ EXPIRIES = ["none", "20250301", "20250318", "20250401"]
 GROUP = "<b>&\"'"
 NOTE = "</small></th> & \u202Efor <i>Noether</i>"
 
+# What a page may have: elements, those of them that are not closed, and attributes. HEAD is the head of a table.
 ELEMENTS = set("html head meta title style body h1 h2 h3 p strong section table thead tbody tr th td bdi small time code".split())
 EMPTY = {"meta"}
 ATTRIBUTES = set("lang charset name content http-equiv dir scope class".split())
@@ -71,10 +72,12 @@ def tell(name, faults):
 
 
 def ill(*words, given=b""):
+    """Runs the program, and returns the completed process."""
     return subprocess.run([PROGRAM, *words], input=given, capture_output=True)
 
 
 def lines(*words):
+    """Runs the program, which has to end with status 0, and returns the lines of its output."""
     done = ill(*words)
     if done.returncode:
         raise SystemExit(f"ill {' '.join(words)}: {done.stdout.decode()}{done.stderr.decode()}")
@@ -88,6 +91,8 @@ class Page(html.parser.HTMLParser):
     cells: that of the loan is a pair."""
 
     def __init__(self, text):
+        """Reads the text of a page. `file` is the desk whose part is read, and `cells` are those of the row that is
+        read."""
         super().__init__(convert_charrefs=True)
         self.faults, self.open, self.style, self.file, self.cells, self.row = [], [], "", None, None, None
         self.counts, self.unread, self.tables = {}, {}, {}
@@ -96,6 +101,7 @@ class Page(html.parser.HTMLParser):
         self.faults += [f"<{name}> is not closed" for name in self.open]
 
     def handle_starttag(self, name, attributes):
+        """Keeps an element as open, with its faults, and begins a desk, a table, a row or a cell."""
         self.faults += [f"<{name}>"] * (name not in ELEMENTS)
         self.faults += [f"attribute {key}" for key, _ in attributes if key not in ATTRIBUTES]
         if name not in EMPTY:
@@ -110,9 +116,11 @@ class Page(html.parser.HTMLParser):
             self.cells.append([name, ""])
 
     def handle_startendtag(self, name, attributes):
+        """Keeps a fault: no element closes itself."""
         self.faults.append(f"<{name}/>")
 
     def handle_endtag(self, name):
+        """Closes an element, and with it a heading or a row."""
         if not self.open or self.open.pop() != name:
             self.faults.append(f"</{name}> closes another element")
         if name == "h3":
@@ -136,6 +144,7 @@ class Page(html.parser.HTMLParser):
         self.tables[self.file][-1][3].append([texts[0], notes, *texts[2:6], verbs])
 
     def handle_data(self, data):
+        """Adds a text to the part of the page in which it stands."""
         within = self.open[-1] if self.open else None
         if within == "style":
             self.style += data
@@ -153,19 +162,22 @@ class Page(html.parser.HTMLParser):
             self.faults.append(f"{data!r} in <{within}>")
 
     def handle_comment(self, data):
+        """Keeps a fault: no comment may be there."""
         self.faults.append("a comment")
 
     def handle_pi(self, data):
+        """Keeps a fault: no processing instruction may be there."""
         self.faults.append("a processing instruction")
 
     def handle_decl(self, data):
+        """Keeps a fault, unless it is the declaration of HTML."""
         if data != "DOCTYPE html":
             self.faults.append(f"<!{data}>")
 
 
 def begin():
-    """Two desks with a loan in each state: the titles, by the transaction, and the days of the last actions, by the desk and
-    the transaction. In the first desk, each third loan has a note."""
+    """Makes two desks with a loan in each state. Returns the titles by the transaction, and the days of the last
+    actions by the desk and the transaction. In the first desk each third loan has a note."""
     lines("new", "here", "requester")
     lines("new", "there", "responder")
     titles, acted = {}, {}
@@ -189,15 +201,18 @@ def begin():
 
 
 def day_or_none(word):
+    """Returns a day of a line, or None for a dash."""
     return None if word == "-" else word
 
 
 def iso(day):
+    """Returns a day as ISO 8601 has it."""
     return f"{day[:4]}-{day[4:6]}-{day[6:]}"
 
 
 def loans_of(desk, begun, morning):
-    """The loans of a desk in the order in which they were begun, each with the row that a page has of it."""
+    """Yields the loans of a desk in the order in which they were begun. Each has with it the row that a page must
+    have."""
     titles, acted = begun
     txns = [line.partition(" ")[2] for line in lines("status", desk) if line.startswith("transaction ")]
     for txn in txns:
@@ -227,7 +242,8 @@ def check_desk(page, desk, begun, today):
 
 
 def check_unread():
-    """A page of three desks, of which the second is damaged and the third is not there."""
+    """Looks at a page of desks, of which the second is damaged and the third is not there. It must have their faults,
+    and the other desks."""
     with open("here", "rb") as whole, open("<i>", "wb") as damaged:
         damaged.write(whole.read()[:-1])
     done = ill("report", "here", "<i>", "none", "there", "--today", DAY)
@@ -242,6 +258,7 @@ def check_unread():
 
 
 def brightness(colour):
+    """Returns the relative luminance of a colour, as WCAG 2.2 defines it."""
     digits = colour.lstrip("#")
     digits = "".join(digit * 2 for digit in digits) if len(digits) == 3 else digits
     parts = [int(digits[place:place + 2], 16) / 255 for place in (0, 2, 4)]
@@ -250,12 +267,14 @@ def brightness(colour):
 
 
 def contrast(one, other):
+    """Returns the contrast of two colours, from 1 to 21, as WCAG 2.2 defines it."""
     light, dark = sorted((brightness(one), brightness(other)), reverse=True)
     return (light + 0.05) / (dark + 0.05)
 
 
 def schemes(style):
-    """The schemes of colours of a page: by the medium, the colours by their names. Each begins with those of any medium."""
+    """Returns the schemes of colours of a page: medium -> name -> colour. Each begins with the colours of any
+    medium."""
     found = {}
     for part in style.split("@media "):
         own = {name: colour for block in re.findall(r":root {([^}]*)}", part)
@@ -266,6 +285,7 @@ def schemes(style):
 
 
 def check_style(style):
+    """Looks at the style of a page: its schemes, the contrast of each text, and that all its colours have names."""
     found = schemes(style)
     faults = [] if list(found) == ["any", "(prefers-color-scheme: dark)", "print"] else [f"schemes of colours: {list(found)}"]
     least = 21
@@ -283,6 +303,7 @@ def check_style(style):
 
 
 def check_text(text):
+    """Looks for what a page must not have, as scripts and references, and for what its head must have."""
     faults = [f"{word} in the page" for word in ("<script", "<img", "<link", "<iframe", " href", " src=") if word in text]
     head = text[:1024]
     policy = "<meta http-equiv=\"Content-Security-Policy\" content=\"default-src 'none'; style-src 'unsafe-inline'\">"
@@ -291,17 +312,20 @@ def check_text(text):
 
 
 def chromium():
+    """Returns the path of Chromium, or None if it is not installed."""
     names = [os.environ.get("CHROMIUM"), "chromium", "chromium-browser", "google-chrome"]
     return next((found for found in map(shutil.which, filter(None, names)) if found), None)
 
 
 def browse(browser, folder, *words):
+    """Runs Chromium without a window, with a profile in this folder. Returns what it writes."""
     own = f"--user-data-dir={folder}/profile"
     return subprocess.run([browser, "--headless", "--no-sandbox", "--disable-gpu", "--hide-scrollbars", own, *words],
                           capture_output=True, timeout=120).stdout.decode()
 
 
 def check_browser(text, titles):
+    """Lets Chromium read a page, if it is installed: it must find these titles, and show nothing beyond the edge."""
     browser = chromium()
     if browser is None:
         print("ok: no Chromium is installed, so the page was not rendered")
@@ -320,7 +344,8 @@ def check_browser(text, titles):
 
 
 def check_width(browser, folder, text, width):
-    """The page in a frame of this width: a script beside it says how wide it is, and whether it has been changed."""
+    """Renders the page in a frame of this width. A script beside it says how wide it is, and how many scripts, pictures
+    and links it has."""
     frame = f"<!DOCTYPE html><title>-</title><body style='margin:0'><iframe style='border:0;width:{width}px;height:6000px' " \
             f"srcdoc=\"{html.escape(text)}\"></iframe><script>onload = () => {{ const page = " \
             "document.querySelector('iframe').contentDocument.documentElement; " \

@@ -22,6 +22,7 @@ from ill.pages import TITLES, browse, chromium
 from ill.screen import shown
 
 REPORT = harness.Report()
+# The bars of names: the group and the transaction -> the dump of `zint`.
 CODES = {
     "G1 T1": "D21A22736CCDC539BB163AC",
     "North-2026 17": "D2171A3D49E9E930A6E6729D99CB3A6CC9CDDBBD163AC",
@@ -43,6 +44,7 @@ class Slip(html.parser.HTMLParser):
     """What a slip has: faults, the texts of its elements, its fields, and the bars with the width of their view."""
 
     def __init__(self, text):
+        """Reads the text of a slip."""
         super().__init__(convert_charrefs=True)
         self.faults, self.open, self.texts, self.bars, self.view = [], [], {}, None, None
         self.feed(text)
@@ -51,6 +53,7 @@ class Slip(html.parser.HTMLParser):
         self.fields = dict(zip(self.texts.get("dt", []), self.texts.get("dd", [])))
 
     def handle_starttag(self, name, attributes):
+        """Keeps an element as open, with its faults, and the bars or their view."""
         self.faults += [f"<{name}> is in the slip"] if name not in ELEMENTS else []
         self.faults += [f"{name} has {key}" for key, _ in attributes if key in ("href", "src", "id") or key.startswith("on")]
         self.open += [name] if name not in EMPTY else []
@@ -59,13 +62,16 @@ class Slip(html.parser.HTMLParser):
         self.view = (given["width"], given["viewbox"]) if name == "svg" else self.view
 
     def handle_startendtag(self, name, attributes):
+        """Keeps an element as `handle_starttag` does."""
         self.handle_starttag(name, attributes)
 
     def handle_endtag(self, name):
+        """Closes an element."""
         if not self.open or self.open.pop() != name:
             self.faults.append(f"</{name}> closes another element")
 
     def handle_data(self, data):
+        """Adds a text to those of its element."""
         if self.open and data.strip():
             self.texts.setdefault(self.open[-1], []).append(data)
 
@@ -89,36 +95,37 @@ def drawn_by_zint(words):
 
 
 class Case:
-    """A desk of each role, with the program that writes their slips."""
+    """The desks `here` of a requester and `there` of a responder, with the program that writes their slips."""
 
     def __init__(self, program):
+        """Makes both desks."""
         self.program = program
         for desk, role in (("here", "requester"), ("there", "responder")):
             self.well("new", desk, role)
 
     def run(self, *words, given=b""):
-        """Returns what a command did."""
+        """Runs the program, and returns what it leaves."""
         return harness.run([self.program, *words], given)
 
     def well(self, *words, given=b""):
-        """Returns the output of a command that must go well."""
+        """Runs the program, which has to end with status 0, and returns its output."""
         done = self.run(*words, given=given)
         if done.status:
             raise SystemExit(f"ill {' '.join(words)}: {done.output.decode()}{done.errors.decode()}")
         return done.output
 
     def ask(self, names, title):
-        """Asks for an item in a loan."""
+        """Begins a loan at the requester's desk, with this title."""
         self.well("act", "here", *names, "request", "none", *title.split(" "))
 
     def ship(self, names, due):
-        """Lets the responder have the request of a loan and ship its item, and the requester have that."""
+        """Lets the responder take the request of a loan and ship its item, and the requester take the Shipped."""
         self.well("take", "there", given=self.well("send", "here", *names, "1"))
         self.well("act", "there", *names, "--today", "20250301", "ship", due)
         self.well("take", "here", given=self.well("send", "there", *names, "1"))
 
     def look(self, desk, names, title, due, code):
-        """Compares a slip with what it has to have. Returns its text."""
+        """Compares a slip with the title, the names, the due date and the bars that it must have. Returns its text."""
         text = self.well("slip", desk, *names).decode()
         slip = Slip(text)
         fields = {"Group": names[0], "Transaction": names[1], **({"Due": due} if due else {})}
@@ -132,7 +139,7 @@ class Case:
 
 
 def check_head(text):
-    """Returns what the head of a slip lacks, and the references that the slip has."""
+    """Returns the faults of a slip's head, and the references that the slip has."""
     policy = "<meta http-equiv=\"Content-Security-Policy\" content=\"default-src 'none'; style-src 'unsafe-inline'\">"
     head = text.partition("</head>")[0]
     return [f"no {word}" for word in (policy, "<meta charset=\"utf-8\">", "@page { size: 105mm 148mm") if word not in head] \
@@ -141,7 +148,7 @@ def check_head(text):
 
 
 def check_bars(slip, code):
-    """Returns what is wrong with the bars of a slip, which must be `code`, or none."""
+    """Returns the faults of the bars of a slip, which must be `code`. None is for no bars, and ANY for any."""
     if code is ANY:
         return []
     if slip.bars is None or code is None:
@@ -152,7 +159,7 @@ def check_bars(slip, code):
 
 
 def known(case):
-    """The slips of names whose bars are known, at both desks, before and after the item is shipped."""
+    """Looks at slips of names whose bars are known, at both desks, before and after the item is shipped."""
     for words, dump in CODES.items():
         names = words.split(" ")
         case.ask(names, TITLE)
@@ -163,7 +170,7 @@ def known(case):
 
 
 def odd(case):
-    """The slips of items that are no good HTML, and of names that a shell takes for more."""
+    """Looks at slips of titles that are no good HTML, and of names that a shell takes for more."""
     for place, title in enumerate(TITLES):
         names = ["Odd", f"T{place}"]
         case.ask(names, title)
@@ -175,19 +182,19 @@ def odd(case):
 
 
 def missing(case):
-    """What is told if there is no such loan or no such desk."""
+    """Looks at what is told if there is no such loan, or no such desk."""
     for desk, fault in (("here", "ill: no-such-transaction"), ("nowhere", "ill: no-record")):
         REPORT.run(f"no slip at {desk}", case.run("slip", desk, "G1", "T9"), 1, b"", fault)
 
 
 def full(case):
-    """What is told if the output is full. CODES has the loan."""
+    """Looks at what is told if the output is full. CODES has the loan."""
     done = harness.run([case.program, "slip", "here", "G1", "T1"], output=harness.FULL)
     REPORT.run("a slip that cannot be written", done, 3, b"", "ill: write")
 
 
 def on_shelf(case):
-    """The slip of a loan on a shelf, which is that of its desk."""
+    """Compares the slip of a loan on a shelf with that of its desk."""
     case.well("shelf", "new", "shelf", "requester")
     case.well("shelf", "act", "shelf", "G1", "T1", "--new-group", "request", "none", *TITLE.split(" "))
     REPORT.same("a slip on a shelf", case.well("shelf", "slip", "shelf", "G1", "T1"),
@@ -195,7 +202,7 @@ def on_shelf(case):
 
 
 def lengths(case):
-    """The bars of names of many lengths, as `zint` draws them, which takes 60 characters."""
+    """Compares the bars of names of many lengths with those that `zint` draws. It takes 60 characters at most."""
     if shutil.which("zint") is None:
         REPORT.skip("bars of further names", "no zint is installed")
         return
@@ -213,7 +220,7 @@ def scanned(picture):
 
 
 def rendered(case):
-    """The slips of known names in print, and of short ones on a screen, as a scanner reads them."""
+    """Lets a scanner read the slips of known names in print, and of short ones on a screen."""
     browser = chromium()
     lacking = [name for name, path in (("Chromium", browser), ("zbarimg", shutil.which("zbarimg")),
                                        ("pdftoppm", shutil.which("pdftoppm"))) if path is None]
@@ -227,7 +234,8 @@ def rendered(case):
 
 
 def show(browser, folder, words, kept):
-    """Renders and prints the slip in a folder, and lets the scanner read both. Keeps the pictures, if it has a name."""
+    """Renders and prints the slip in a folder, and lets the scanner read both. Keeps the pictures under `kept`, if that
+    is given."""
     page = f"file://{folder}/slip.html"
     browse(browser, folder, "--force-device-scale-factor=3", "--window-size=500,700", f"--screenshot={folder}/screen.png", page)
     browse(browser, folder, "--no-pdf-header-footer", f"--print-to-pdf={folder}/slip.pdf", page)

@@ -124,7 +124,7 @@ def message_object(side, apdu):
 
 
 def loan_object(side, note=None):
-    """Returns the object of `ill loan --json` for a loan to which nothing came, with the note if there is one."""
+    """Returns the object of `ill loan --json` for a loan to which nothing came. It has the note if there is one."""
     return {**status_object(side), "next": side.turn(), "now": side.possible(), "item": side.asked()["item"],
             "expiry": iso(side.expiry()), **taken(side), "messages": [message_object(side, it) for it in side.issued],
             "came": [], "note": note, "history": []}

@@ -33,6 +33,7 @@ class House:
     """Two libraries, and the mail between them."""
 
     def __init__(self, program, folder):
+        """Makes the desks and the folders of mail of both libraries."""
         self.ill, self.folder = harness.Program(program), folder
         for desk, role in (("borrow", "requester"), ("lend", "responder")):
             os.makedirs(f"{folder}/{desk}/in")
@@ -44,7 +45,7 @@ class House:
         return f"{self.folder}/{name}/desk"
 
     def night(self):
-        """Has a night: the run of the requester, that of the responder, and the requester's again."""
+        """Performs a night: the run of the requester, that of the responder, and the requester's again."""
         for here, there in (("borrow", "lend"), ("lend", "borrow"), ("borrow", "lend")):
             own = f"{self.folder}/{here}"
             done = self.ill.run(["exchange", "--today", DAY, f"{own}/desk", f"{own}/in", f"{own}/out"])
@@ -53,7 +54,7 @@ class House:
                 os.rename(f"{own}/out/{name}", f"{self.folder}/{there}/in/{name}")
 
     def told(self, desk, txn, what):
-        """Returns a line of a loan, as `ill loan` has it."""
+        """Returns the value of a line of `ill loan`, by its first word."""
         lines = self.ill.well(["loan", self.desk(desk), "G1", txn]).decode().splitlines()
         return dict(line.partition(" ")[::2] for line in reversed(lines))[what]
 
@@ -76,6 +77,7 @@ class Site:
     """The pages of two libraries at an origin."""
 
     def __init__(self, servers, house, origin, folder="ill"):
+        """Writes the scripts of both pages, whose origin is `origin`. `folder` is that of scripts at the server."""
         self.house, self.origin, self.folder = house, origin, folder
         for name in ("borrow", "lend"):
             servers.script(name, "--origin", origin, "--today", DAY, house.desk(name))
@@ -87,7 +89,7 @@ class Site:
         return f"{scheme}://{login}{place}/{self.folder}/{name}{query}"
 
     def loan(self, name, txn):
-        """Returns the address of a loan."""
+        """Returns the address of the page of a loan."""
         return self.url(name, "?" + urllib.parse.urlencode({"desk": self.house.desk(name), "group": "G1", "transaction": txn}))
 
 
@@ -95,6 +97,7 @@ class Clerk:
     """A browser in which a user has logged in at a site."""
 
     def __init__(self, browser, site, user="anna"):
+        """Logs in at the page of the requester's library, and forgets the messages of the console."""
         self.browser, self.site = browser, site
         browser.go(site.url("borrow", user=user))
         browser.messages()
@@ -151,7 +154,7 @@ class Clerk:
         return self.browser.text("[role=alert]")
 
     def console(self, *meant):
-        """Returns a fault if the console has other messages than those of these statuses."""
+        """Returns a fault if the console has other messages than those of the statuses `meant`."""
         told = self.browser.messages()
         found = [next((status for status in ("401", "403", "409", "500", "503") if f"status of {status}" in it), it) for it in told]
         return harness.differs("console", found, list(meant))
@@ -212,7 +215,8 @@ def refused(clerk):
 # ---- What goes wrong
 
 def changed_between(clerk):
-    """Another is faster: the page is shown as it is now. A reload of it sends the form again, and nothing is done."""
+    """Sends a form when another clerk was faster. The page is shown as it is now. A reload sends the form again, and
+    nothing is done."""
     house = clerk.site.house
     clerk.asks("Web-1")
     house.ill.well(["act", house.desk("borrow"), "G1", "Web-1", "cancel"])
@@ -272,6 +276,7 @@ def posts(site, fields, user="anna", **headers):
     class Stays(urllib.request.HTTPRedirectHandler):
         """Follows no redirection."""
         def redirect_request(self, *_):
+            """Returns None, so no redirection is followed."""
             return None
 
     try:
@@ -361,7 +366,7 @@ def full_disk(clerk, servers, program):
 
 
 def two_clerks(clerk, other):
-    """Two clerks look at a loan, and both act: the second is told. The diary has the name of the first."""
+    """Lets two clerks look at a loan and act: the second is told. The diary has the name of the first."""
     house = clerk.site.house
     clerk.asks("Web-6")
     other.at("borrow", "Web-6")
@@ -374,7 +379,7 @@ def two_clerks(clerk, other):
 
 
 def same_number(clerk, other):
-    """Two clerks begin a loan with one number at once: the second is told that it was taken."""
+    """Lets two clerks begin a loan with one number: the second is told that it was taken."""
     button = other.fills_request("Web-9", "Rivers")
     first = clerk.asks("Web-9", "Maps")
     other.browser.leave(lambda: other.browser.press(button))
@@ -403,7 +408,7 @@ def page_of_others(clerk):
 
 
 def strangers(clerk, servers):
-    """Nobody comes in without a login, and no foreign page sends a form."""
+    """Expects that nobody comes in without a login, and that no foreign page sends a form."""
     try:
         found = urllib.request.urlopen(clerk.site.url("borrow"), timeout=60).status
     except urllib.error.HTTPError as error:
@@ -419,6 +424,7 @@ def strangers(clerk, servers):
 
 # ---- What is seen
 
+# What a page looks like: the colours of each text, the levels of headings, fields without a label, language and width.
 LOOK = """
 const own = [...document.querySelectorAll('body *')].filter(it => it.offsetParent !== null);
 const ground = it => { for (; it; it = it.parentElement) { const c = getComputedStyle(it).backgroundColor;
@@ -430,6 +436,7 @@ return { colours: texts.map(it => [it.tagName, getComputedStyle(it).color, groun
   bare: [...document.querySelectorAll('input:not([type=hidden]), select')].filter(it => !it.labels.length).map(it => it.outerHTML),
   lang: document.documentElement.lang, width: document.documentElement.scrollWidth, room: innerWidth };
 """
+# Which element has the focus, how its outline looks, and where it stands.
 FOCUS = """
 const it = document.activeElement, style = getComputedStyle(it);
 return [it.tagName, it.name || '', style.outlineStyle, style.outlineWidth, it.getBoundingClientRect().top + scrollY];
@@ -437,7 +444,7 @@ return [it.tagName, it.name || '', style.outlineStyle, style.outlineWidth, it.ge
 
 
 def brightest(colour):
-    """Returns a colour of a computed style as `#rrggbb`."""
+    """Returns a colour of a computed style as `#rrggbb`, without its opacity."""
     return "#" + "".join(f"{int(number):02x}" for number in re.findall(r"\d+", colour)[:3])
 
 
@@ -553,7 +560,7 @@ def other_origin(clerk, servers):
 
 
 def attempt(part, *words):
-    """Performs a part. What stops it is a failure, and the next part goes on."""
+    """Performs a part. What stops it is told as a failure, and the next part goes on."""
     try:
         part(*words)
     except (harness.Wrong, OSError) as fault:
@@ -564,6 +571,7 @@ class Stage:
     """What all parts share: the driver, the servers, and the two libraries."""
 
     def __init__(self, programs, folder):
+        """Makes the folder of pages, the desks of both libraries, and the driver."""
         self.programs = programs
         os.makedirs(f"{folder}/desks")
         self.servers, self.house = Servers(f"{folder}/site", programs[0]), House(programs[1], f"{folder}/desks")

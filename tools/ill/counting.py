@@ -14,6 +14,7 @@ VERBS = {"ILL-Request": "request", "ILL-Answer": "answer", "Conditional-Reply": 
          "Cancel-Reply": "cancel-reply", "Shipped": "ship", "Received": "receive", "Recall": "recall",
          "Returned": "return", "Checked-In": "check-in", "Overdue": "overdue", "Renew": "renew",
          "Renew-Answer": "renew-answer", "Expired": "expire"}
+# The reasons of a refusal; and of each wait, between which steps of a loan its days are.
 REASONS = ("unfilled", "retry", "estimate", "locations-provided", "expired", "unknown")
 WAITS = {"days to answer": ("asked", "answered"), "days to arrive": ("asked", "arrived"), "days out": ("shipped", "back")}
 # The types of message that take a step of a loan.
@@ -25,8 +26,8 @@ FIELDS = ["desk", "from", "to", "asked", "filled", "open", "cancelled", "refused
 
 
 def messages(side, is_kept):
-    """Returns the messages of a loan, each with the word by which a diary names it. Without the file of what came these are
-    those of the record."""
+    """Returns the messages of a loan, each with the word by which a diary names it. Without the file of what came
+    (`is_kept` is false) they are those of the record."""
     request = [side.request] if side.role == RESPONDER and side.request else []
     came = [apdu for apdu in side.came if is_kept and apdu not in request]
     return ([(apdu, VERBS[apdu["apdu"]]) for apdu in side.issued] + [(apdu, apdu["apdu"]) for apdu in request + came])
@@ -38,10 +39,11 @@ def diary_line(day, name, txn, what, number):
 
 
 class Counted:
-    """The figures of one loan."""
+    """The figures of one loan: the day on which it was asked, how it ended, and the days of each wait."""
 
     def __init__(self, side, days, is_kept):
-        """`days` has the day of each message that a diary names, by its loan, its word and its number."""
+        """Counts a side. `days` has the day of each message that a diary names, by its loan, its word and its
+        number."""
         told = [(apdu, days.get((tuple(side.txn), what, apdu["number"]))) for apdu, what in messages(side, is_kept)]
         first = {step: next((day for apdu, day in told if apdu["apdu"] in types), None) for step, types in STEPS.items()}
         self.asked = first["asked"]
@@ -75,13 +77,14 @@ class Figures:
     """The figures of a desk over a span of days."""
 
     def __init__(self, sides, days, span, is_kept=True):
+        """Counts the loans that were asked in the span. `undated` are those of which no day is known."""
         loans = [Counted(side, days, is_kept) for side in sides]
         self.span = span
         self.undated = sum(loan.asked is None for loan in loans)
         self.loans = [loan for loan in loans if loan.asked and span[0] <= loan.asked <= span[1]]
 
     def count(self, *ends):
-        """Returns how many of the loans ended so."""
+        """Returns how many of the loans ended in one of these ways."""
         return sum(loan.end in ends for loan in self.loans)
 
     def counts(self):
@@ -90,7 +93,7 @@ class Figures:
                 "refused": self.count(*REASONS), **{f"  {reason}": self.count(reason) for reason in REASONS}}
 
     def means(self):
-        """Returns of each wait the number of loans and the mean."""
+        """Returns for each wait the number of loans that have one, and the mean of their days."""
         known = {wait: [loan.waits[wait] for loan in self.loans if loan.waits[wait] is not None] for wait in WAITS}
         return {wait: (len(days), mean(days)) for wait, days in known.items()}
 

@@ -32,7 +32,7 @@ def integer(tag, number):
 
 
 def encode(tag, transaction, number, *fields, group=b"G1"):
-    """Returns a message of a loan, with these further fields."""
+    """Returns a message of a loan, with this tag and number, and with these further fields."""
     identity = element(0xA1, element(0x81, group) + element(0x82, transaction))
     return element(tag, element(0x80, b"\1") + identity + integer(0x82, number) + b"".join(fields))
 
@@ -46,7 +46,7 @@ REQUESTER, RESPONDER = 0, 1  # the senders of letters
 
 
 def sealed(key, sender, text):
-    """Returns the letter in which a sender has sealed messages."""
+    """Returns the letter in which a sender has sealed messages with a key."""
     body = b"ILLS" + bytes([sender]) + text
     return body + hmac.new(key, body, hashlib.sha256).digest()
 
@@ -62,7 +62,7 @@ def shipped(transaction, number=1):
 
 
 def encoded(txn, apdu):
-    """Returns the bytes of a message of the model."""
+    """Returns the bytes of a message of the model, in a loan."""
     fields = []
     if "answers" in apdu:
         fields.append(integer(0x83, apdu["answers"]))

@@ -31,6 +31,7 @@ class Driver:
     """A running chromedriver, which begins browsers."""
 
     def __init__(self, folder, port):
+        """Starts chromedriver, which listens at the port. The profiles of its browsers lie in the folder."""
         self.folder, self.port, self.begun, self.browsers = folder, port, 0, []
         self.log = open(os.path.join(folder, "driver.log"), "wb")
         self.process = subprocess.Popen(["chromedriver", f"--port={port}"], stdout=self.log, stderr=self.log)
@@ -48,6 +49,7 @@ class Driver:
         harness.expect(patiently(self._is_ready), "chromedriver does not answer")
 
     def _is_ready(self):
+        """Returns true if the driver answers that it is ready."""
         with contextlib.suppress(OSError):
             return self.call("GET", "/status")["ready"]
         return False
@@ -76,7 +78,7 @@ class Driver:
 
 
 def patiently(is_so, seconds=PATIENCE):
-    """Waits until it is so. Returns false if it is not within these seconds."""
+    """Waits until `is_so` returns true. Returns false if it does not within these seconds."""
     end = time.monotonic() + seconds
     while not is_so():
         if time.monotonic() > end:
@@ -89,6 +91,7 @@ class Browser:
     """A browser with one window."""
 
     def __init__(self, driver, session):
+        """Keeps the driver and the path of the session."""
         self.driver, self.path, self.told = driver, f"/session/{session}", []
 
     def call(self, method, path, body=None):
@@ -112,7 +115,7 @@ class Browser:
         return self.call("GET", "/url")
 
     def run(self, script, *words):
-        """Runs a script in the page. It needs no leave of the page."""
+        """Runs a script in the page, and returns its value. The policy of the page does not forbid it."""
         return self.call("POST", "/execute/sync", {"script": script, "args": list(words)})
 
     def all(self, selector):
@@ -156,13 +159,14 @@ class Browser:
         harness.expect(found == day, f"{day} was typed, and the field has {found}")
 
     def leave(self, act):
-        """Performs what loads another page, and waits until it is there."""
+        """Performs `act`, which loads another page, and waits until that is there."""
         old = self.one("html")
         act()
         harness.expect(patiently(lambda: self._is_gone(old)), "no other page came")
         harness.expect(patiently(lambda: self.run("return document.readyState") == "complete"), "a page is not complete")
 
     def _is_gone(self, old):
+        """Returns true if an element is no more on the page."""
         try:
             self.call("GET", f"/element/{old}/name")
         except urllib.error.HTTPError:

@@ -105,6 +105,7 @@ class Server:
     """The mail server of a domain. `as_user` are the words of `subprocess.run` for its user."""
 
     def __init__(self, folder, domain, port, as_user):
+        """Keeps the folder, the domain and the port. `exim` and `sendmail` are its commands."""
         self.folder, self.domain, self.port, self.as_user = folder, domain, port, as_user
         self.exim = [found(("exim4", "exim")), "-C", os.path.join(folder, "exim.conf")]
         self.sendmail = os.path.join(folder, "sendmail")
@@ -147,7 +148,7 @@ class Server:
         return os.path.isdir(queue) and bool(os.listdir(queue))
 
     def deliver(self):
-        """Delivers what waits in the queue, also what was put off."""
+        """Delivers what waits in the queue, what was put off too."""
         subprocess.run([*self.exim, "-qf"], check=False, capture_output=True, timeout=LONGEST, **self.as_user)
 
     def log(self):
@@ -156,7 +157,7 @@ class Server:
 
 
 def settle(servers):
-    """Waits until no mail is on its way. A mail may go from each server to each, so both queues are looked at twice."""
+    """Waits until no mail is on its way. A mail may go from each server to each, so each queue is looked at twice."""
     end = time.monotonic() + LONGEST
     while any([server.waiting() for _ in range(2) for server in servers]):
         if time.monotonic() > end:

@@ -3,7 +3,7 @@ from ill.screen import shown
 
 
 def key(text):
-    """Returns a qualifier in a line: a space ends it, so a space in it is an escape."""
+    """Returns a qualifier as a line has it. A space would end it, so a space in it is an escape."""
     return text.replace("\\", "\\u{5c}").replace(" ", "\\u{20}")
 
 
@@ -18,11 +18,11 @@ def notes_of(notes):
 
 
 def kept(notes):
-    """Returns the note of each loan that has one, after all of `notes`."""
+    """Returns the last note of each loan that has one."""
     return {txn: words for txn, words in dict(notes).items() if words}
 
 
 def is_found(find, side, notes):
-    """Returns True if a text of the loan has the words that are sought, in capitals or not."""
+    """Returns True if a text of the loan has the words `find`, in capitals or not. Without words each loan is found."""
     texts = [" ".join(side.txn), side.asked()["item"], *filter(None, [notes.get(tuple(side.txn))])]
     return find is None or any(find.casefold() in text.casefold() for text in texts)

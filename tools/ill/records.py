@@ -30,12 +30,12 @@ def with_digest(parts):
 
 
 def repaired(data):
-    """Returns a record with the digest that fits."""
+    """Returns a record of a desk with the digest that fits in place of its own."""
     return with_digest(data[:-DIGEST])
 
 
 def desk_of(role, records):
-    """Returns the record of a desk, of version 2, of the records of its sides."""
+    """Returns the record of a desk, of version 2, from the records of its sides."""
     parts = [b"ILL2", bytes([role]), len(records).to_bytes(2, "big")]
     for each in records:
         parts += [len(each).to_bytes(2, "big"), each]
@@ -43,5 +43,5 @@ def desk_of(role, records):
 
 
 def desk_record(role, sides):
-    """Returns the record of a desk, of version 2."""
+    """Returns the record of a desk, of version 2, from the sides of the model."""
     return desk_of(role, [record(side) for side in sides])

@@ -12,6 +12,7 @@ import subprocess
 from ill import harness
 from ill.driving import patiently
 
+# The users with their passwords, and then the configurations of the servers.
 USERS = {"anna": "secret", "bert": "hidden"}
 LIGHTTPD = """\
 server.modules = ("mod_auth", "mod_authn_file", "mod_cgi"{modules})
@@ -111,6 +112,8 @@ class Servers:
     """Web servers over one folder. A script in `www/ill` is a page."""
 
     def __init__(self, folder, web):
+        """Makes the folder of pages. `web` is the path of `ill-web`; if `reads_rest` is set, scripts read the rest of a
+        form."""
         self.folder, self.web, self.running, self.reads_rest = folder, web, [], False
         os.makedirs(f"{folder}/www/ill")
 
@@ -193,7 +196,7 @@ class Servers:
         harness.write(f"{self.folder}/users", "".join(lines))
 
     def _listen(self, port, words):
-        """Begins a server, waits until it answers at a port, and returns that."""
+        """Begins a server, waits until it answers at a port, and returns the port."""
         self._begin(words, lambda: answers(port))
         return port
 

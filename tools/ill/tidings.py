@@ -67,10 +67,11 @@ class Since:
     and its number. `again` has what came once more after all else, and `notes` the notes of loans."""
 
     def __init__(self, day, days, again=(), notes=None):
+        """Keeps the day, the days of lines, what came again, and the notes."""
         self.day, self.days, self.again, self.notes = day, days, list(again), notes or {}
 
     def days_of(self, side, apdu):
-        """Returns the days of the lines that name a message."""
+        """Returns the days of the lines of the diary that name a message."""
         what = DUE[apdu["apdu"]] if is_own(side, apdu) else apdu["apdu"]
         return self.days.get((tuple(side.txn), what, apdu["number"]), [])
 
@@ -83,8 +84,8 @@ class Since:
         return min(self.days_of(*message), default=self.day) >= self.day
 
     def of(self, sides, messages):
-        """Returns open answers, what is new after the last message that is older, and then what dates have made due. Each message is
-        there once."""
+        """Returns the news of these messages: open answers, then what is new after the last message that is older, then
+        what dates have made due. Each message is there once."""
         came = messages + self.again
         older = [place for place, message in enumerate(came) if self.is_older(message)]
         news = by_name(filter(self.is_new, came[older[-1] + 1:] if older else came))
@@ -95,19 +96,20 @@ class Since:
 
 
 def by_name(messages):
-    """Returns each of these messages once, by its transaction and its number."""
+    """Returns each of these messages once, by its loan and its number."""
     return {(tuple(side.txn), apdu["number"]): (side, apdu) for side, apdu in messages}
 
 
 def told(sides, last=None, since=None):
-    """Returns what is told: of each message its side and itself, and how many there are in all."""
+    """Returns the messages that are told, each with its side, and how many there are in all. `last` is the most that
+    are told."""
     all_of = [(side, apdu) for side in sides for apdu in side.came]
     all_of = since.of(sides, all_of) if since else all_of
     return all_of[-last:] if last else all_of, len(all_of)
 
 
 def heard(sides, since):
-    """Returns what is told since a day in each loan: the number and the words of each message."""
+    """Returns what is told since a day in each loan: the number and the words of each message, by the loan."""
     loans = {tuple(side.txn): [] for side in sides}
     for side, apdu in told(sides, since=since)[0]:
         loans[tuple(side.txn)].append((apdu["number"], words_of(side, apdu)))

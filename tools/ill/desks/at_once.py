@@ -32,6 +32,7 @@ class Desks:
     """A folder of desks, and the program that keeps them."""
 
     def __init__(self, program, folder, seed):
+        """Keeps the program and the folder. The seed decides the moments of kills."""
         self.program, self.folder, self.random = program, folder, random.Random(seed)
 
     def path(self, name):
@@ -48,14 +49,14 @@ class Desks:
         return process
 
     def run(self, words, given=b""):
-        """Runs the program to its end, which has to be good, and gives its output."""
+        """Runs the program, which has to end with status 0, and returns its output."""
         done = harness.run([self.program, *words], piped=given, cwd=self.folder)
         if done.status:
             raise Failed(f"ill {' '.join(words)}: status {done.status}, {done.errors.decode().strip()}")
         return done.output
 
     def together(self, commands, killed=None):
-        """Starts commands together, kills one of them if that is wanted, and gives what each has told."""
+        """Starts commands together, and kills the one at the place `killed`, if any. Returns what each has told."""
         started = [self.start(*command) for command in commands]
         if killed is not None:
             time.sleep(self.random.random() * 0.02)
@@ -65,7 +66,7 @@ class Desks:
                 for at, (process, (output, errors)) in enumerate(zip(started, ended))]
 
     def fresh(self, name):
-        """Lets the desk be a copy of another one, with nothing beside it and no copy of an earlier round."""
+        """Makes the desk a copy of the desk `name`, or removes it for None. Nothing of an earlier round is left."""
         names = ("desk", "desk.new", "desk.lck", "desk.came", "desk.diary", "desk.mail", "copy", "copy.new", "in", "out")
         harness.remove(*map(self.path, names))
         if name:
@@ -83,13 +84,13 @@ class Desks:
         return {(loan["group"], loan["transaction"]): loan for loan in each}
 
     def message(self, number):
-        """Returns the lines that show a message of the loan."""
+        """Returns the lines by which `show` shows a message of the loan."""
         sent = self.run(["send", "desk", *LOAN, str(number)])
         return self.run(["show"], sent).decode().splitlines()
 
 
 def fine(told):
-    """Refuses a command that has ended badly, though nobody has killed it."""
+    """Raises `Failed` if a command has ended badly that nobody has killed."""
     for one in told:
         if not one.was_killed and (one.status or one.errors):
             raise Failed(f"status {one.status}: {one.errors or one.lines}")
@@ -212,7 +213,8 @@ KINDS = (new_loans, answers, a_take_beside, new_desks, a_killed_answer, nights, 
 
 
 def prepare(desks):
-    """A requester's desk of three loans, a responder's of the first of them, and the mail that ships them all."""
+    """Makes a requester's desk of three loans and a responder's desk of the first. Makes the mail that ships all three
+    items."""
     desks.run(["new", "requester", "requester"])
     desks.run(["new", "shipping", "responder"])
     for loan in ("T1", "T2", "T3"):
@@ -225,7 +227,7 @@ def prepare(desks):
 
 
 def play(desks, kind, rounds):
-    """Plays rounds of a kind, and tells what came of them."""
+    """Plays rounds of a kind, and tells what came of them, in the words of its docstring."""
     for at in range(rounds):
         try:
             kind(desks)

@@ -677,7 +677,8 @@ def last_line(errors):
 
 
 def check_streams(judge, path, sides):
-    """Compares commands whose output is full, closed, or read byte by byte."""
+    """A full, a closed and a slow output: on the first two a command that writes fails with `ill: write`. The slow one
+    is read byte by byte, and gets all."""
     for words in reading(path, sides)[:1 if is_longest(sides) else None]:
         text = judge.text(words)
         wanted = (3, "ill: write") if text else (0, "")

@@ -18,6 +18,7 @@ import random
 from ill import harness
 
 SIDES = ("requester", "responder")
+# The actions that a script draws; one that stands more often is drawn more often. Scripts that are not drawn follow.
 WISHES = ("cancel", "reply yes", "reply no", "receive", "receive", "receive", "renew none", "renew none", "return")
 DEEDS = ("answer conditional", "answer will-supply", "answer unfilled", "cancel-reply yes", "cancel-reply no", "ship",
          "ship", "renew-answer yes", "renew-answer yes", "renew-answer no", "overdue", "overdue", "recall", "check-in",
@@ -45,14 +46,15 @@ WORKED = {
 
 
 class Script:
-    """The lines of a script that is drawn, with how many messages each side may have issued in each loan."""
+    """The lines of a script, with how many messages each side may have issued in each loan."""
 
     def __init__(self, draw, loans):
+        """Begins a script of so many loans, without a line. `draw` decides all that is random."""
         self.draw, self.loans, self.lines = draw, loans, []
         self.counts = collections.Counter()
 
     def add(self, line, loan=None):
-        """Adds a line, in a loan of two desks."""
+        """Adds a line. In a script of two desks a line before it names the loan."""
         if self.loans > 1:
             self.lines.append(f"use G{loan} T{loan}")
         self.lines.append(line)
@@ -72,14 +74,14 @@ class Script:
         self.add(f"responder {day} {deed}", loan)
 
     def passes(self, side, numbers, loan):
-        """Adds that messages of a side are sent and delivered."""
+        """Adds lines by which these messages of a side are sent and delivered."""
         other = SIDES[side == "requester"]
         for number in numbers:
             self.add(f"send {side} {number}", loan)
             self.add(f"deliver {other} {number}", loan)
 
     def event(self, loan):
-        """Adds an event, or some: of a library, of the mail, of a store, or a crash."""
+        """Adds lines for a random event: of a library, of the mail, of a store, or a crash."""
         side, kind = self.draw.choice(SIDES), self.draw.random()
         if kind < 0.2:
             self.wish(self.draw.choice(WISHES), loan)
@@ -99,7 +101,7 @@ class Script:
             self.add(f"restart {side}", loan)
 
     def round(self):
-        """Adds a round of each loan, and a line of each that shows it."""
+        """Adds the lines of a round of each loan, and a line for each loan that shows its states."""
         for side in SIDES:
             self.add(f"save {side}", 1)
             for loan in range(1, self.loans + 1):
@@ -121,7 +123,7 @@ def drawn(seed, loans):
 
 
 def worked(lines):
-    """Returns the script of these lines."""
+    """Returns the script of these lines, with a round after them."""
     script = Script(random.Random(0), 1)
     script.lines = list(lines)
     script.counts["requester", 1] = script.counts["responder", 1] = len(lines)
@@ -130,7 +132,7 @@ def worked(lines):
 
 
 def judge(program, script, pairs):
-    """Returns the pairs in which the loans of a script are, and what is wrong."""
+    """Performs a script. Returns the pairs of states that its loans end in, and what is wrong."""
     words = ["simulate", "G1", "T1"] if script.loans == 1 else ["simulate-desks"]
     text = "".join(f"{line}\n" for line in script.lines)
     ran = program.run(words, piped=text.encode())

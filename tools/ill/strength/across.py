@@ -64,7 +64,8 @@ def refused(crate, said):
 
 
 def releases_unsaved(copy):
-    """Tries a crate of others that releases a message. Returns what is told of its refusal."""
+    """Tries a crate of others that releases a message. Returns an empty text if it is refused; else raises
+    `BadEdit`."""
     crates = read(f"{copy}/crates.txt")
     write(f"{copy}/crates.txt", f"{crates}others: ill_values ill_saved\n")
     write(f"{copy}/crates/others/src/lib.rt", OTHERS)
@@ -78,7 +79,8 @@ def releases_unsaved(copy):
 
 
 def gives_unsaved(copy):
-    """Tries a desk that gives messages which are not saved. Returns what is told of its refusal."""
+    """Tries a desk that gives messages which are not saved. Returns where ill_world refuses it; else raises
+    `BadEdit`."""
     change(copy, GIVES_UNSAVED)
     is_proved, said = check(copy, "ill_saved")
     if not is_proved:

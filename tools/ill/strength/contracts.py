@@ -61,7 +61,11 @@ WRONG = {AT_GOAL: "refused at a goal", BY_ANSWERS: "refused by an answer of the 
 RIGHT = {AT_GOAL: "REFUSED AT A GOAL", FOR_WANT: "open for want of a proof alone",
          PROVED: "proved", UNTRIED: "NOT TRIED"}
 
+# A function of a crate: its path, whether it is a method of a trait, its source, and where it begins and its body begins
+# and ends.
 Function = collections.namedtuple("Function", "path of_trait file start begin end")
+# An edit: its pairs, the functions that must be refused, those that it changes, the one whose body it is, if any,
+# whether it changes bodies alone, and whether it is a control.
 Edit = collections.namedtuple("Edit", "name pairs refuses changes body_of is_of_bodies is_right")
 
 
@@ -101,8 +105,9 @@ def functions_in(text, file, types):
 
 
 def block_of(text, types):
-    """Returns what the last block of methods that begins in this text is called, and whether its methods are a type's
-    own, those of an instance of a type, of another name of it or of a trait for a type, or declared by a trait."""
+    """Returns the name of the last block of methods that begins in this text, in a list, and its kind. The kind is
+    `own` for a type's own methods, and `trait` for those of a trait for a type. It is `instance` for those of an
+    instance, and `declared` for those of a trait."""
     head = [*re.finditer(r"(?m)^(?:pub(?:\(\w+\))? )?(impl|trait)\b(?:<.*?>(?= ))? ?(.*(?:\n    for .*)?)", text)][-1]
     instance = re.match(r"impl(?:<(.*?)>(?= ))? (\w+)<([\w, ]+)> \{", head[0])
     if instance:
@@ -153,8 +158,7 @@ def names_in(folder):
 
 
 def edit_of(name, text, crate, functions, is_right):
-    """Returns an edit: its pairs, the functions that must be refused, those that it changes, whose body it is, if
-    any's, and whether it changes bodies alone."""
+    """Returns the edit of a text: its pairs, the functions that must be refused, and what it changes."""
     pairs, refuses, file, old = [], [], None, None
     for line in text.splitlines():
         word, _, rest = line.partition(": ")
@@ -205,8 +209,8 @@ def rounds_of(edits):
 
 
 def are_apart(takes, taken):
-    """Returns true if no two of these places are the same. A place is a source with the path of a function, or with
-    none, if it is all of the source."""
+    """Returns true if no place of `takes` is one of `taken`. A place is a source with the path of a function, or all of
+    a source with None."""
     return not any(file == other and (path == it or None in (path, it)) for file, path in takes for other, it in taken)
 
 
@@ -263,6 +267,8 @@ class Trial:
     """The copies of a crate in which its edits are tried."""
 
     def __init__(self, crate, edits, functions, room, is_gate):
+        """Makes the copies of the crate. `beside` are edits of one body by the paths of their functions, and `in_place`
+        all others."""
         self.crate, self.functions, self.room, self.source = crate, functions, room, full("crates", crate)
         self.is_gate = is_gate
         self.words = [f"{kit()}/bin/rattle", "check", *words_of(crate), "--allow-holes", "--jobs", "1"]
@@ -296,8 +302,7 @@ class Trial:
         write(f"{proof}/Proof.antt", AXIOM.format(crate=self.crate, path=path, name=path.rpartition(".")[2]))
 
     def wrong(self, folder, path, edit):
-        """Returns the text of a wrong body, as a function of this path, whose proof it copies from that of the right
-        one."""
+        """Returns the text of a wrong body as a function of this path. Its proof is a copy of that of the right one."""
         it = edit.body_of
         right = f"{self.source}/{proof_of(it.path)}"
         files = [f"{proof_of(it.path)}/{file}" for file in os.listdir(right)] if os.path.isdir(right) else []
@@ -312,8 +317,8 @@ class Trial:
         return re.sub(r"(?m)^( *(?:pub(?:\([\w ]+\))? )?(?:const )?fn )\w+", name, texts[it.file], count=1)
 
     def check(self, folder, paths, kept="kept"):
-        """Checks these functions in a copy: what is said of each, and all that is printed. It begins with what the last
-        check with these `kept` has proved."""
+        """Checks these functions in a copy. Returns what is said of each, and all that is printed. It begins with what
+        the last check with these `kept` has proved."""
         how = {"cwd": folder, "stdin": subprocess.DEVNULL, "stdout": subprocess.PIPE, "stderr": subprocess.STDOUT}
         words = [*self.words, "--incremental", f"{self.room}/{kept}"]
         words += [word for path in paths for word in ("--only", path)]
@@ -328,8 +333,8 @@ class Trial:
         return said, printed
 
     def judge(self):
-        """Yields what became of each edit: the edit, or the name of a right function that is not proved; and what was
-        said."""
+        """Yields what became of each edit: the edit, or None for a right function that is not proved; the verdict; and
+        what was said."""
         folder = f"{self.room}/{'beside' if self.beside else 'whole'}"
         right = [] if self.is_gate else self.right
         paths = [*right, *self.beside]
@@ -352,7 +357,8 @@ class Trial:
                 yield from found
 
     def is_left(self, said, printed, path, right):
-        """Returns true if a function that stands for a right one is to be checked without its answers."""
+        """Returns true if the function `path`, which stands for the function `right`, is to be checked without its
+        answers."""
         is_refused = self.is_gate and refusal(said, printed, path)[0]
         return right in self.answered and not is_proved(said, path) and not is_refused
 
@@ -367,8 +373,8 @@ class Trial:
             return self.check(bare, paths, kept)[0]
 
     def how(self, said, printed, path, right, bare, right_bare):
-        """Returns how a function was refused that stands for a right one, by what is said of both without their answers
-        too."""
+        """Returns how the function `path`, which stands for `right`, was refused, and what was said. Goals that are
+        open of both without their answers refuse nothing."""
         well, what = refusal(said, printed, path)
         if is_proved(said, path):
             return PROVED, what
@@ -416,7 +422,7 @@ def answers_of(path):
 
 
 def worst(found):
-    """Returns what became of an edit of which this became at each function that must be refused."""
+    """Returns the least of these verdicts on the functions of an edit, which is that of the edit."""
     order = [UNTRIED, PROVED, FOR_WANT, BY_ANSWERS, AT_GOAL]
     return min((verdict for verdict, _ in found), key=order.index, default=UNTRIED)
 
@@ -440,7 +446,7 @@ def open_goals(said, path):
 
 
 def kind_of(goal):
-    """Returns what kind a goal is of: its first word, what it asks for, and its clause, whatever way leads to it."""
+    """Returns the kind of a goal: its first word, what it asks for, and its clause, whatever way leads to it."""
     way, _, clause = goal.partition("-clause-")
     words = way.split("-")
     last = [it for it in words[-1:] if it in ("requires", "preserved", "init")]
@@ -464,8 +470,8 @@ def refusal(said, printed, path):
 
 
 def try_crate(crate, names, is_gate):
-    """Tries the edits of a crate, or those of these names: how many came to what, of the wrong bodies and of the right
-    ones."""
+    """Tries the edits of a crate, or those of these names. Returns how many came to each verdict, of the wrong bodies
+    and of the right ones."""
     functions = functions_of(full("crates", crate))
     edits = edits_of(folders_of(crate, is_gate), crate, functions)
     edits = [edit for edit in edits if not names or edit.name in names]
@@ -480,7 +486,7 @@ def try_crate(crate, names, is_gate):
 
 
 def tell(counts):
-    """Tells what became of all edits, and answers whether it is well."""
+    """Prints what became of all edits. Returns true if each wrong body was refused, and no right one at a goal."""
     wrong, right = (sum(numbers, collections.Counter()) for numbers in zip(*counts))
     refused = wrong[AT_GOAL] + wrong[BY_ANSWERS] + wrong[FOR_WANT]
     by_answers = f"{wrong[BY_ANSWERS]} by answers, " if wrong[BY_ANSWERS] else ""

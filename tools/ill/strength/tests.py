@@ -47,7 +47,7 @@ def pairs_of(lines):
 
 
 def judge(crate, name):
-    """Returns what becomes of an edit."""
+    """Tries an edit. Returns `refused`, `NOT REFUSED`, or why it cannot be tried."""
     first, *others = read(f"strength/tests/{crate}/{name}.edit").splitlines()
     cases, arguments = cases_of(*first.split(": ", 1), crate)
     with tempfile.TemporaryDirectory() as copy:

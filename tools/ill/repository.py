@@ -10,12 +10,12 @@ from ill import harness
 TOP = harness.TOP  # tools/texts may set another folder, which is laid out alike
 
 
-# These crates of tests call rooms by their own names, and not by those that a library passes on.
+# Crates of tests that call rooms by the rooms' own names, and not by those that a library passes on.
 TESTS_OF_ROOMS = {"ill_desk_tests", "ill_mail_disk_kit", "ill_post_tests"}
 
 
 class Unread(Exception):
-    """What cannot be read, and where it stands."""
+    """A text that cannot be read, and where it stands."""
 
 
 # ---- Files
@@ -79,21 +79,23 @@ class Comparison:
     """Counts what was compared, by kinds, and keeps the faults."""
 
     def __init__(self):
+        """Begins without faults, and with each count at 0."""
         self.faults, self.counts = [], collections.Counter()
 
     def expect(self, kind, is_so, fault):
-        """Counts one more of a kind. Keeps the fault if it is not so."""
+        """Counts one more comparison of a kind. Keeps the fault if `is_so` is false."""
         self.counts[kind] += 1
         if not is_so:
             self.faults.append(fault)
 
     def told(self):
-        """Returns how many of each kind were compared."""
+        """Returns a text that says how many of each kind were compared."""
         return ", ".join(f"{count} {kind}" for kind, count in sorted(self.counts.items()))
 
 
 def differences(path, wanted):
-    """Yields the lines in which a file differs, each with what has to stand there."""
+    """Yields a text for each place in which a file differs from `wanted`: its line, what it has, and what has to stand
+    there."""
     there = read(path) if os.path.exists(full(path)) else ""
     old, new = there.splitlines(True), wanted.splitlines(True)
     for kind, begin, end, first, last in difflib.SequenceMatcher(None, old, new, False).get_opcodes():

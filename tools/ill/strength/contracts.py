@@ -61,8 +61,8 @@ WRONG = {AT_GOAL: "refused at a goal", BY_ANSWERS: "refused by an answer of the 
 RIGHT = {AT_GOAL: "REFUSED AT A GOAL", FOR_WANT: "open for want of a proof alone",
          PROVED: "proved", UNTRIED: "NOT TRIED"}
 
-# A function of a crate: its path, whether it is a method of a trait, its source, and where it begins and its body begins
-# and ends.
+# A function of a crate: its path, whether it is a method of a trait, its source, where it begins, and where its body
+# begins and ends.
 Function = collections.namedtuple("Function", "path of_trait file start begin end")
 # An edit: its pairs, the functions that must be refused, those that it changes, the one whose body it is, if any,
 # whether it changes bodies alone, and whether it is a control.
@@ -373,8 +373,8 @@ class Trial:
             return self.check(bare, paths, kept)[0]
 
     def how(self, said, printed, path, right, bare, right_bare):
-        """Returns how the function `path`, which stands for `right`, was refused, and what was said. Goals that are
-        open of both without their answers refuse nothing."""
+        """Returns how the function `path`, which stands for `right`, was refused, and what was said. A goal that both
+        leave open without their answers is open for want of a proof alone."""
         well, what = refusal(said, printed, path)
         if is_proved(said, path):
             return PROVED, what

@@ -33,12 +33,15 @@ from ill import repository
 from ill.repository import read, stand_on
 from ill.strength import across
 
+# Folders of what is made, which are passed over; and folders of a crate or of examples/, with which a path may begin.
 MADE = {".git", "out", "dist", "__pycache__"}
 PARTS = {"src", "specs", "proofs", "messages", "scripts"}
+# Words for numbers, each at the place of its number; and the pattern of a number in words or figures.
 NUMBERS = ("none one two three four five six seven eight nine ten eleven twelve thirteen fourteen fifteen "
            "sixteen seventeen eighteen nineteen twenty").split()
 NUMBER = r"\b(\d+|" + "|".join(NUMBERS) + r")\b"
 KIT = {"assert_eq", "serde_json"}  # names of the kit that no source of the repository has
+# The patterns of the edits that leave a body right, and of those that the gate tries.
 CONTROLS = "strength/controls/*.edit"
 GATE = "strength/gate/*.edit"
 
@@ -46,7 +49,7 @@ COMPARED = repository.Comparison()
 
 
 def expect(kind, is_there, place, what):
-    """Counts what was looked up. Keeps the fault if it is not so."""
+    """Counts one more thing of this kind that was looked up. Keeps a fault of the place if it is not there."""
     COMPARED.expect(kind, is_there, f"{place}: {what}")
 
 
@@ -59,7 +62,7 @@ def paths():
 
 
 def lines(document):
-    """Yields the lines of a document: number, whether it is one of a block, and text."""
+    """Yields the lines of a document, each with its number and whether it is one of a block."""
     fenced = False
     for number, line in enumerate(read(document).splitlines(), 1):
         fence = line.startswith("```")
@@ -68,7 +71,7 @@ def lines(document):
 
 
 def headings(document):
-    """Yields the anchors of a document's headings, as a forge makes them."""
+    """Yields the anchors of a document's headings, as the site that shows it makes them."""
     seen = collections.Counter()
     for _, in_block, line in lines(document):
         title = re.match(r"#+ +(.*)", line)
@@ -79,7 +82,7 @@ def headings(document):
 
 
 def check_links(document, place, line):
-    """Each link of a line leads to a file, and to a heading of it."""
+    """Expects that each link of a line leads to a file. If the link names a heading, the file has it."""
     for target in re.findall(r"\]\(([^)\s]+)\)", re.sub(r"`[^`]*`", "", line)):
         if re.match(r"[a-z]+:", target):
             continue
@@ -106,7 +109,8 @@ def matches(path, patterns):
 
 
 def check_paths(words, crates, everything, place):
-    """Each word that looks like a path is one; a source is in one of the crates, if there are any."""
+    """Expects that each word that looks like a path is one. A source has to be in one of these crates, if there are
+    any."""
     for word in filter(looks_like_path, words):
         path = re.sub(r"\b(NAME|TYPE)\b", "*", word.rstrip("/"))
         fronts = ["", "*/"]
@@ -124,7 +128,7 @@ def names(everything):
 
 
 def check_names(span, known, place):
-    """Each word of several parts in a span of code is a known name."""
+    """Expects that each word of several parts in a span of code is a known name."""
     for word in re.findall(r"(?<![\w./-])[A-Za-z]\w*(?:::\w+)*(?![\w/.-])", span):
         name = word.split("::")[-1]
         if re.fullmatch(r"[a-z]+(_[a-z0-9]+)+|[A-Z][a-z0-9]+([A-Z][a-z0-9]*)+", name):
@@ -132,13 +136,13 @@ def check_names(span, known, place):
 
 
 def check_targets(code, targets, place):
-    """Each target that code gives to make stands in the Makefile."""
+    """Expects in the Makefile each target that code gives to make."""
     for target in re.findall(r"(?:^|\$ |&& )make +([a-z][a-z-]*)", code):
         expect("targets", target in targets, place, f"make has no target {target}")
 
 
 def check_tools(text, place):
-    """Each tool that a text names is there."""
+    """Expects that each file of tools/ is there that a text names."""
     for name in re.findall(r"(?<![\w/])tools/((?:\w+/)*[\w-]+(?:\.(?:c|py|jsonl))?)", text):
         is_there = os.path.exists(repository.full("tools", name))
         expect("tools", is_there, place, f"there is no tools/{name}")
@@ -164,7 +168,7 @@ def value(word):
 
 
 def check_counts(document, text, counted):
-    """Each number of wrong bodies is that of those that are there."""
+    """Expects that each number of wrong bodies in a text is that of those that are there."""
     gate, beside, least, most = counted
     for number, more in re.findall(NUMBER + r" wrong bodies( more)?(?! in the gate)", text):
         wanted = beside if more else gate
@@ -188,7 +192,7 @@ def places_of_wrong_bodies(everything):
 
 
 def check_places(everything):
-    """docs/TESTS.md says once of each place of wrong bodies how many stand there."""
+    """Expects that docs/TESTS.md says once of each place of wrong bodies how many stand there."""
     text = " ".join(read("docs/TESTS.md").split())
     for sentence, wanted in places_of_wrong_bodies(everything).items():
         said = re.findall(re.sub(r"\bN\b", lambda _: NUMBER, sentence), text)
@@ -198,7 +202,8 @@ def check_places(everything):
 
 
 def check_table_of_places(everything):
-    """The table of docs/TESTS.md has each crate with wrong bodies in one row, and each row the number that is there."""
+    """Expects that the table of docs/TESTS.md has each crate with wrong bodies in one row. Each row must have the
+    number that is there."""
     edits = [path for path in everything if matches(path, ["strength/*.edit"])
              and not matches(path, [CONTROLS, "strength/tests/*"])]
     crates = collections.Counter(path.split("/")[-2] for path in edits)
@@ -236,7 +241,7 @@ def check_document(document, everything, targets, known):
 
 
 def check_runs(document):
-    """What a run of a crate is said to print is what the gate compares it with; lines of crates.txt are its lines."""
+    """Expects that what a crate is said to print is its stdout, and that lines of crates.txt stand there."""
     for block in re.findall(r"(?ms)^```\n(.*?)^```", read(document)):
         run = re.match(r"\$ cd crates/(\w+) && rt try(?: -- .*)?\n", block)
         if run:
@@ -252,7 +257,7 @@ def unindented(text):
 
 
 def check_code(document, sources):
-    """The lines of each block of Rust stand in a source, one after another."""
+    """Expects the lines of each block of Rust in a source, one after another."""
     for block in re.findall(r"(?ms)^```rust\n(.*?)^```", read(document)):
         is_there = any("\n" + unindented(block) in "\n" + source for source in sources)
         expect("blocks of Rust", is_there, document, f"no source has the lines after {block.splitlines()[0].strip()}")
@@ -271,8 +276,8 @@ def named_at(path):
 
 
 def check_maps(everything):
-    """The maps of the code and of the tests name each crate, each file of tools/ is named in its place, and the README
-    names each document."""
+    """Expects that the maps of the code and of the tests name each crate. Each file of tools/ has to be named in its
+    place, and each document in the README."""
     maps, readme = read("docs/ARCHITECTURE.md") + read("docs/TESTS.md"), read("README.md")
     for crate in stand_on():
         expect("crates", f"`{crate}`" in maps, "docs/ARCHITECTURE.md", f"no map names the crate {crate}")
@@ -288,7 +293,7 @@ def check_maps(everything):
 
 
 def all_below():
-    """Returns the crates, each with all on which it stands, at once or through others."""
+    """Returns the crates, each with all on which it stands, directly or through others."""
     found = {}
     for crate, below in stand_on().items():
         found[crate] = set(below).union(*(found[other] for other in below))
@@ -296,7 +301,8 @@ def all_below():
 
 
 def check_arrows():
-    """The arrows of the map lead from each crate to those below it on which no other of them stands."""
+    """Expects that the arrows of the map lead from each crate to the nearest crates below it. A crate is nearest if no
+    other of them stands on it."""
     page = "docs/ARCHITECTURE.md"
     picture = re.search(r"(?ms)^```mermaid\n(.*?)^```", read(page))[1]
     crates = re.findall(r'(?m)^ +(\w+)\["\1: ', picture)
@@ -319,7 +325,7 @@ def stands_in(name, files):
 
 
 def check_promises(everything):
-    """Each name that docs/PROMISES.md cites stands where the promise says."""
+    """Expects that each name that docs/PROMISES.md cites stands where the promise says."""
     page = "docs/PROMISES.md"
     for part in re.split(r"(?m)^## ", read(page))[1:]:
         heading, _, text = part.partition("\n")
@@ -336,7 +342,7 @@ def check_promises(everything):
 
 
 def check_decisions():
-    """Each entry of docs/DECISIONS.md has a day at the end of its first sentence."""
+    """Expects a day at the end of the first sentence of each entry of docs/DECISIONS.md."""
     page = "docs/DECISIONS.md"
     for entry in re.findall(r"(?m)^- (.*(?:\n  .*)*)", read(page)):
         first = re.split(r"\.(?:\s|$)", " ".join(entry.split()))[0]
@@ -345,7 +351,7 @@ def check_decisions():
 
 
 def check_night():
-    """The picture of a night has the steps of the table below it, for each library and in their order."""
+    """Expects that the picture of a night has the steps of the table below it. Each library has them in their order."""
     page = "docs/EXCHANGE.md"
     _, picture, rest = re.split(r"(?m)^```\n", read(page).partition("\n## 2. ")[2], maxsplit=2)
     steps = re.findall(r"(?m)^\| ([a-z]+) \|", rest.partition("\n## ")[0])
@@ -355,8 +361,8 @@ def check_night():
 
 
 def check_lines(everything):
-    """The words of each line that docs/EXCHANGE.md explains are words of the sources, but for what stands in for others:
-    `..`, a word in capitals, and a number."""
+    """Expects in the sources the words of each line that docs/EXCHANGE.md explains. What stands for other words is left
+    out: `..`, a word in capitals, and a number."""
     page = "docs/EXCHANGE.md"
     sources = " ".join("\n".join(read(path) for path in everything if matches(path, ["crates/ill_*/src/*.rt"])).split())
     for line in re.findall(r"`(\.\. [^`]+)`", read(page)):
@@ -367,7 +373,8 @@ def check_lines(everything):
 
 
 def check_ways(everything):
-    """Each definition, law, function and command in the picture of docs/THEOREM.md is one of the sources."""
+    """Expects that each definition, law, function and command in the picture of docs/THEOREM.md is one of the
+    sources."""
     page = "docs/THEOREM.md"
     picture, = [block for block in re.findall(r"(?ms)^```\n(.*?)^```", read(page)) if block.startswith("definition ")]
     forms = {"definition": ("crates/*/specs/*.antt", r"(?m)^[a-z ]+ pub {} :|^pub (?:record|data) {}\b"),

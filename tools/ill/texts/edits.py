@@ -28,7 +28,7 @@ def text_of(edit, pair, crate):
 
 
 def fault_of(edit, crate):
-    """Returns what is wrong with an edit, or nothing."""
+    """Returns what is wrong with an edit, or None."""
     texts = {}
     try:
         for pair in edit.pairs:

@@ -351,7 +351,7 @@ def joined(text):
 
 
 def table(text, after):
-    """Returns the heads of a table of a text, each with what is said of it."""
+    """Returns the lines of a table of a text, below the line that has the words `after`."""
     lines = text.partition(after)[2].split("\n\n")[0].splitlines()[1:]
     return [line.strip() for line in lines if re.match(r"  \S", line)]
 
@@ -383,7 +383,8 @@ def expanded(line, known):
 # The comparison.
 
 def compare_numbers(named_texts, numbers):
-    """Each number of a text stands in a phrase, and is that of the sources."""
+    """Expects that each number of a text stands in a phrase, and is that of the sources. Each phrase has to stand in a
+    text."""
     phrases = [phrase.strip() for line in PHRASES.strip().splitlines() for phrase in line.split("; ")]
     seen = set()
     for name, text in named_texts.items():
@@ -412,7 +413,7 @@ def pattern_of(phrase):
 
 
 def compare_number(key, said, numbers, place):
-    """A number of a phrase is that of the sources; a day is one of the calendar."""
+    """Expects that a number of a phrase is that of the sources, or a day of the calendar."""
     value = FIGURES.index(said.lower()) + 1 if said.lower() in FIGURES else int(said.replace(",", ""))
     if key == "day":
         year, month, day = value // 10000, value // 100 % 100, value % 100
@@ -423,8 +424,8 @@ def compare_number(key, said, numbers, place):
 
 
 def compare_faults(text):
-    """The list of `ill --help` has each fault that a command tells, with its status. The program knows each fault of the
-    sources."""
+    """Expects in the list of `ill --help` each fault that a command tells, with its status. The program has to know
+    each fault of the sources."""
     expect_same("lists", sorted(command_line.faults()), sorted(told for told, _ in told_faults()), "ill help --json: the faults")
     wanted = {(status_of(told), told) for told in command_line.faults()}
     wanted |= {(status_of(cause), "-") for cause in ("ok", "refused", "arguments")}
@@ -436,8 +437,8 @@ def compare_faults(text):
 
 
 def compare_status(name, text, wanted):
-    """The sentences on the exit status of a command, if there are any, name each thing that may become of it, with its
-    status, but for success and what `ill --help` tells. It answers the text without them."""
+    """Expects that the sentences on the exit status of a command name each thing of `wanted`, with its status. Returns
+    the text without them."""
     said = re.search(r"The exit status is (.*?\.)(?= (?!It is)|$)", joined(text))
     found = set()
     parts = re.split(r"(?:^|,? (?:and )?|\. It is )([0-9]) (?=if |after |with |for )", said[1] if said else "")
@@ -484,7 +485,7 @@ def causes_in(part, name):
 
 
 def compare_lists(text, arguments):
-    """The lists of words are those of the sources. It answers the words that they have."""
+    """Expects that the lists of words are those of the sources. Returns the words that they have."""
     lists, words = lists_of(arguments)
     for name, pattern, wanted in lists:
         expect_same("lists", listed(text[name], pattern, name), wanted, f"{name}: \"{pattern}\"")
@@ -539,7 +540,7 @@ def lists_of(arguments):
 
 
 def compare_explanations():
-    """The verbs of each role, the results and the reserved names of `--explain` are those of the sources."""
+    """Expects that the verbs, the results and the reserved names of `--explain` are those of the sources."""
     names = named("Verb", read("crates/ill_core/src/verb.rt"))
     rows = re.findall(r"\(Verb::(\w+), Role::(\w+), Parts::\w+\)", read(f"{EXPLAIN}/verbs.rt"))
     for role, forms in actions().items():
@@ -552,7 +553,7 @@ def compare_explanations():
 
 
 def compare_options():
-    """The options that no word of an action may be are those of all commands."""
+    """Expects that the options which no word of an action may be are those of all commands."""
     parts = [*of_page.options(), *of_page.general()]
     wanted = {word for part in parts for word in (part.option, part.letter) if word}
     expect_same("lists", sorted(command_line.program()["options"]), sorted(wanted), "ill help --json: all options")
@@ -572,13 +573,13 @@ def use_line():
 
 
 def compare_forms(place, lines, forms):
-    """The lines of a list stand for these forms, each once."""
+    """Expects that the lines of a list stand for these forms, each once."""
     found = [form for line in lines for form in expanded(line, forms)]
     expect_same("lists", sorted(found), sorted(forms), place)
 
 
 def compare_words(named_texts, words, arguments):
-    """Each word in backquotes, in capitals or with the name of a message is one that there is."""
+    """Expects that each word in backquotes, in capitals or with the name of a message is one that there is."""
     states = set(command_line.words_of("state"))
     messages = set(named("ApduType", read("crates/ill_values/src/apdu_type.rt")).values())
     verbs_known = {form.split()[0] for forms in actions().values() for form in forms}

@@ -1,8 +1,8 @@
 """Writes crates/NAME/LAWS.md of each crate that has laws: its laws, their sentences, and what their contracts name.
 
 A law is a `pub fn` without a result. Its contract has `ensures`, and its body is empty or cites other laws. Any store,
-desk or outlet of which it speaks is its parameter. The list has the modules of a crate, `laws.rt` first, and the laws of a module in the order of the source. A
-law has
+desk or outlet of which it speaks is its parameter. The list has the modules of a crate, `laws.rt` first, and the laws
+of a module in the order of the source. A law has
 
 - its name, with a link to its file;
 - its sentences, from its `///` comment, which it must have;
@@ -45,14 +45,14 @@ def laws_of(path):
 
 
 def subject(path):
-    """Returns what a source says of itself in its first sentence, without the stop."""
+    """Returns the first sentence that a source says of itself, without the stop."""
     said = " ".join(re.match(r"(?://! ?.*\n)*", read(path))[0].replace("//!", "").split())
     return re.split(r"\. |\.$", said)[0]
 
 
 def names_in(path):
-    """Returns what a source takes from `specs/` of the crates here: single names by the word that it has for them, and
-    whole files by theirs."""
+    """Returns what a source takes from `specs/` of the crates here, by the word that it has for it: single names, and
+    whole files."""
     single, whole = {}, {}
     for crate, module, names, word in re.findall(
             r"(?m)^(?:ghost |pub )?use Rattle\.(\w+)\.specs\.(\w+)(?:\.\{([^}]*)\}| as (\w+));?$", read(path)):
@@ -65,7 +65,7 @@ def names_in(path):
 
 
 def defined(named, place):
-    """Returns the name, in the file that defines it: the one that it is taken from, or one that passes it on."""
+    """Returns the name in the file that defines it: the one that it is taken from, or one that passes it on."""
     path = f"crates/{named.crate}/specs/{named.module}.antt"
     name = re.escape(named.name)
     if re.search(rf"(?m)^(?:\w+ )?pub (?:(?:record|data|mod) )?{name}(?!\w)|^  {name} :", read(path)):
@@ -107,7 +107,7 @@ def wrapped(text, first):
 
 
 def page(crate):
-    """Returns the page of a crate; nothing if it has no law."""
+    """Returns the page of a crate, or an empty text if the crate has no law."""
     text = ""
     sources = found("crates", crate, "src", "**", "*.rt")
     for path in sorted(sources, key=lambda path: (os.path.basename(path) != "laws.rt", path)):

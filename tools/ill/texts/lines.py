@@ -10,8 +10,11 @@ import subprocess
 from ill import repository
 
 WIDTH = 130
+# Brackets; and a line of `use` with its names.
 OPEN, CLOSE = "([{⟨", ")]}⟩"
 USE = re.compile(r"(\s*(?:pub )?use [^{]*\{)(.*)\}")
+# A line is broken best behind one of BEHIND, then before one of BEFORE, whose first group is the best. No place is
+# worse than WORST.
 BEHIND = (" in", " =", ",", ".", " then", " else")
 BEFORE = (("→", "×"), ("≡", "∙"), ("+", "∷", "++", "&&", "||", "∸"))
 WORST = len(BEFORE) + 2
@@ -68,7 +71,7 @@ def several(head, names):
 
 
 def lines_of(line):
-    """Returns the lines that a line of a file becomes."""
+    """Returns the lines that a line of a file becomes: itself, if it is not too long."""
     used = USE.fullmatch(line)
     if used and len(line) > WIDTH:
         return several(used[1], used[2].split(", "))

@@ -1,8 +1,8 @@
 """Compares the help with the definitions of ill_beside: both have the same words of what came.
 
 It compares the lists of `ill news --help` with `specs/NewsWords.antt`: the words of each type of APDU, with each of
-its answers, and with and without its date, and those of what a date makes due. A record without a due date has no line for a renewal that was refused: no
-requester's record that shows one is without it.
+its answers, and with and without its date, and those of what a date makes due. A record without a due date has no line
+for a renewal that was refused: no requester's record that shows one is without it.
 """
 import re
 
@@ -33,7 +33,7 @@ def lines_of(name):
 
 
 def what_came(kind, rest, types):
-    """Returns what the help says of a type, by the other words of the pattern."""
+    """Returns what the help says of a message of this type, by the other words of the pattern."""
     if kind == "RenewAnswer":
         return f"{types[kind]} yes"
     answer = "".join(ANSWERS.get(word, "") for word in rest.split())
@@ -59,7 +59,7 @@ def defined():
 
 
 def table():
-    """Returns what is told, with its words, as the lists of the help have them."""
+    """Returns each message that is told, with its words, as the lists of the help have them."""
     text = text_of("NEWS")
     lists = re.findall(r"(?m)^The words of what a \w+ (?:hears|has sent):\n((?:  .*\n)+)", text)
     return [(line[35:], line[2:35].rstrip()) for of in lists for line in of.splitlines()]

@@ -182,6 +182,8 @@ def form(part):
 def usage(command, before=""):
     """Returns the usage of a command: options that must be there, arguments, other options, and words up to the end."""
     def place(part):
+        """Returns the place of a part in a usage: options that must be there, arguments, other options, and words up to
+        the end."""
         return 3 if part.last else 2 * (not part.required) if part.option else 1
     said = " ".join([bold([before + command.word]), *map(form, sorted(command.parts, key=place))])
     return re.sub(r"(?<=[A-Z])\\fP \\fI(?=[A-Z])", " ", said)
@@ -285,7 +287,7 @@ def all_texts():
 
 
 def stands_in_help(word):
-    """Tells if the help has a word, which is no part of a longer one."""
+    """Returns a match if the help has a word that is no part of a longer one, or None."""
     before, after = (r"(?<![\w-])" if word[0].isalnum() else "", r"(?![\w-])" if word[-1].isalnum() else "")
     return re.search(before + re.escape(word) + after, " ".join(" ".join(all_texts()).split()))
 
@@ -329,8 +331,8 @@ def row_of(word, command):
 
 
 def kind_of(part, word, of_desk, on_shelf):
-    """Returns the kind of an argument of a command: a loan only if there is a desk or a shelf that has it, and the words
-    of actions only for `act`."""
+    """Returns the kind of an argument of a command. It is a loan only if there is a desk or a shelf. It is the words of
+    an action only for `act`."""
     if part.name not in KINDS:
         raise Unread(f"{command_line.FILE}: no completion knows the argument {part.name}")
     kind = KINDS[part.name]
@@ -340,7 +342,7 @@ def kind_of(part, word, of_desk, on_shelf):
 
 
 def value_of(option):
-    """Returns the kind of the value of an option, or nothing if it has none."""
+    """Returns the kind of the value of an option, or an empty text if it has none."""
     if option.label and option.label not in VALUES:
         raise Unread(f"{command_line.FILE}: no completion knows the value {option.label} of {option.option}")
     return VALUES.get(option.label, "")
@@ -357,12 +359,12 @@ def lowered(text):
 
 
 def described(option):
-    """Returns an option and its letter with what it does, as zsh reads it."""
+    """Returns an option, and its letter if it has one, each with what it does, as zsh reads it."""
     return [quoted(f"{word}:{lowered(option.about)}") for word in (option.letter, option.option) if word]
 
 
 def offered(on_shelf=False):
-    """Returns the commands that a shell offers, each with what it does."""
+    """Returns the commands that a shell offers for one desk or on a shelf: command -> what it does."""
     desk, shelf = commands()
     found = {command.word: command.about for command in (shelf if on_shelf else desk)}
     return found | ({} if on_shelf else {"shelf": about("shelf")}) | HELP_COMMAND
@@ -375,7 +377,7 @@ def wrapped(words, indent):
 
 
 def cases(between, indent, line):
-    """Returns a line for each kind of value that an option may have."""
+    """Returns a line for each kind of value that an option may have, with the options that have it."""
     kinds = {}
     for option in options():
         kinds.setdefault(value_of(option), []).append(f"any-{option.option}")
@@ -384,13 +386,13 @@ def cases(between, indent, line):
 
 
 def common():
-    """Returns what all completions name."""
+    """Returns the words that all completions have: verbs, roles and `--explain`, by their names."""
     return {"requester": " ".join(verbs("requester")), "responder": " ".join(verbs("responder")),
             "roles": " ".join(command_line.words_of("ROLE")), "explain": explained().option}
 
 
 def of_bash():
-    """Returns the words of the completion of bash."""
+    """Returns the words of the completion of bash, by their names."""
     lines = [f"    {row.word or quoted('')}) parts=({' '.join(row.kinds)})"
              f" options={quoted(' '.join(option.option for option in row.options))} ;;" for row in rows()]
     return common() | {
@@ -400,7 +402,7 @@ def of_bash():
 
 
 def of_zsh():
-    """Returns the words of the completion of zsh."""
+    """Returns the words of the completion of zsh, by their names."""
     lines = []
     for row in rows():
         said = [word for option in row.options for word in described(option)]
@@ -415,7 +417,7 @@ def of_zsh():
 
 
 def rule(condition, rest):
-    """Returns a line of the completion of fish: what it offers on a condition."""
+    """Returns a line of the completion of fish, which offers `rest` on a condition."""
     return f"complete -c ill -n {in_fish(condition)} {rest}"
 
 
@@ -425,7 +427,7 @@ def in_fish(text):
 
 
 def of_fish():
-    """Returns the words of the completion of fish."""
+    """Returns the words of the completion of fish, by their names."""
     known = [row._replace(word=row.word.removesuffix("-") or "''") for row in rows()]
     lines = []
     for on_shelf, at, of_help in ((False, "''", "help"), (True, "shelf", "shelf-help")):

@@ -38,7 +38,7 @@ def tables(heading=HEADING):
 
 
 def told(rows, names):
-    """Returns what a table says: for each state, the lines of marks, what holds on the day, and the work."""
+    """Returns what a table says of each state: for each of its lines the mark, what holds on the day, and the work."""
     lines, states, mark = {}, [], None
     for place, (first, day, work) in rows:
         if first:
@@ -52,7 +52,7 @@ def told(rows, names):
 
 
 def work_told(lines, facts):
-    """Returns the work that the lines of a state say, if these facts hold."""
+    """Returns the work of the first line of a state whose mark and day fit these facts, or None."""
     return next((work for mark, asked, work in lines
                  if (mark is None or facts[mark[0]] == mark[1]) and (asked is None or facts[asked])), None)
 

@@ -14,13 +14,17 @@
 #include <stdlib.h>
 #include <unistd.h>
 
+/* The sizes that are marks. */
 enum { BEGIN = 54321, BEGIN_QUIET = 54323, END = 54327, END_OF_MEMORY = 54329, END_OR_WITHOUT = 54331 };
 
+/* If the variables were read, REFUSE_MARKED is set, allocations may be refused now, all of them are, and REFUSE_REST is
+   set; the file REFUSE_SEEN; the number of the one to refuse; and the counts since the last mark. */
 static int is_ready, is_marked, is_open, is_quiet, goes_on;
 static int seen = -1;
 static long nth; /* 0 is none */
 static long count, refusals;
 
+/* Reads the variables. */
 static void get_ready(void) {
   const char *text = getenv("REFUSE");
   is_marked = getenv("REFUSE_MARKED") != NULL;
@@ -30,6 +34,7 @@ static void get_ready(void) {
   is_ready = 1;
 }
 
+/* Appends a letter to the file REFUSE_SEEN, if there is one. */
 static void tell(const char *what) {
   const char *path = getenv("REFUSE_SEEN");
   if (path && seen == -1)
@@ -38,7 +43,7 @@ static void tell(const char *what) {
     abort();
 }
 
-/* Begins to refuse. */
+/* Begins to count, and to refuse. Returns false, since this mark is never refused. */
 static int begin(int quiet) {
   is_open = 1;
   is_quiet = quiet;
@@ -46,7 +51,8 @@ static int begin(int quiet) {
   return 0;
 }
 
-/* Ends it, and tells if the answer is wrong. Returns true if the call has to be made again. */
+/* Ends what a mark has begun, and tells if the answer of the call is wrong. Returns true if the mark is refused, so
+   that the call is made again. */
 static int end(size_t mark) {
   is_open = 0;
   if (mark == END_OF_MEMORY ? !refusals : mark == END && refusals)
@@ -56,7 +62,7 @@ static int end(size_t mark) {
   return mark != END && refusals;
 }
 
-/* Counts an allocation, and tells if it is refused. */
+/* Counts an allocation. Returns true if it is refused. */
 static int refuses(void) {
   count++;
   if (!is_quiet && count != nth && !(goes_on && nth > 0 && count > nth))
@@ -66,6 +72,7 @@ static int refuses(void) {
   return 1;
 }
 
+/* Returns true if an allocation of this size is refused, which may be a mark. */
 static int is_refused(size_t size) {
   if (is_marked && (size == BEGIN || size == BEGIN_QUIET))
     return begin(size == BEGIN_QUIET);
@@ -74,6 +81,7 @@ static int is_refused(size_t size) {
   return is_open && refuses();
 }
 
+/* Returns true if an allocation of this size is refused, and sets errno. */
 static int refused(size_t size) {
   if (!is_ready)
     get_ready();

@@ -37,27 +37,32 @@
 
 #define REAL(call) ((__typeof__(&call))dlsym(RTLD_NEXT, #call))
 
+/* The most open files whose names are known, the longest name, and what stands for a slash in a name that is kept. */
 enum { FILES = 64, NAME = 512, SLASH = 1 };
 
+/* The name of each open file by its descriptor, and how many calls were made. */
 static char names[FILES][NAME] = {"input", "output", "errors"};
 static long count;
 
+/* The words of STOP_HOW that stand for an errno. */
 static const struct { const char *name; int error; } faults[] = {
   {"EIO", EIO}, {"ENOSPC", ENOSPC}, {"EDQUOT", EDQUOT}, {"ENOMEM", ENOMEM}, {"EINTR", EINTR}, {"EPERM", EPERM},
   {"EACCES", EACCES}, {"EINVAL", EINVAL}, {"ENOTSUP", ENOTSUP}, {"ENOSYS", ENOSYS}, {"ENFILE", ENFILE},
   {"EMFILE", EMFILE}, {"broken", EIO},
 };
 
+/* Returns the name of an open file, or an empty text if it is not known. */
 static const char *name_of(int file) {
   return file < 0 || file >= FILES ? "" : names[file];
 }
 
+/* Returns true if STOP_HOW is this word. */
 static int is_how(const char *text) {
   const char *how = getenv("STOP_HOW");
   return how && !strcmp(how, text);
 }
 
-/* The errno that the call is to fail with, or 0. */
+/* Returns the errno with which the call is to fail, or 0. */
 static int fault(void) {
   size_t at = 0;
   while (at < sizeof faults / sizeof *faults && !is_how(faults[at].name))
@@ -65,11 +70,12 @@ static int fault(void) {
   return at < sizeof faults / sizeof *faults ? faults[at].error : 0;
 }
 
+/* Kills this process. */
 static void die(void) {
   kill(getpid(), SIGKILL);
 }
 
-/* Writes a line of the log. */
+/* Writes the line of a call into the log, if there is one. */
 static void tell(const char *call, const char *name) {
   const char *path = getenv("STOP_LOG");
   char line[2 * NAME];
@@ -81,17 +87,18 @@ static void tell(const char *call, const char *name) {
     abort();
 }
 
+/* Returns true if a name is that of a standard stream. */
 static int is_stream(const char *name) {
   return !strcmp(name, "input") || !strcmp(name, "output") || !strcmp(name, "errors");
 }
 
-/* Whether a text is the line of a call. */
+/* Returns true if a text is the line of a call in the log. */
 static int is_line(const char *text, const char *call, const char *name) {
   size_t size = strlen(call);
   return !strncmp(text, call, size) && text[size] == ' ' && !strcmp(text + size + 1, name);
 }
 
-/* Counts a call, and tells whether it is one to stop at. */
+/* Counts a call. Returns true if it is one to stop at. */
 static int is_here(const char *call, const char *name) {
   const char *text = getenv("STOP");
   count++;
@@ -102,8 +109,9 @@ static int is_here(const char *call, const char *name) {
   return count == atol(text) || is_line(text, call, name);
 }
 
-/* What comes before a call: whether it is one to stop at, where the process was not stopped already. Its first three
-   openings are of /dev/null, so that no file gets the descriptor of a closed stream. They and their ends do not count. */
+/* Logs and counts a call before it is made, and kills the process or lets it wait there. Returns true if the call is
+   one to stop at. The first three openings of a process are of /dev/null, so that no file gets the descriptor of a closed
+   stream. They and their ends do not count. */
 static int is_reached(const char *call, const char *name) {
   if (!strcmp(name, "/dev/null") && (!strcmp(call, "open") || !strcmp(call, "close")))
     return 0;
@@ -117,7 +125,7 @@ static int is_reached(const char *call, const char *name) {
   return 1;
 }
 
-/* Whether the call that was reached fails. */
+/* Returns true if the call fails, and sets errno. `reached` says if it is one to stop at. */
 static int fails(int reached) {
   if (!reached || !fault())
     return 0;
@@ -125,7 +133,7 @@ static int fails(int reached) {
   return 1;
 }
 
-/* Tells if a call that wants space was reached and finds none. */
+/* Returns true if a call that wants space finds none, and sets errno. */
 static int finds_no_space(int reached) {
   if (!reached || !is_how("full"))
     return 0;
@@ -133,19 +141,19 @@ static int finds_no_space(int reached) {
   return 1;
 }
 
-/* What a call answers after which the process may be killed. */
+/* Returns the answer of a call, or kills the process after it. */
 static long answered(int reached, long answer) {
   if (reached && is_how("after"))
     die();
   return answer;
 }
 
-/* How many of these bytes are moved. */
+/* Returns how many of these bytes a read or a write moves. */
 static size_t moved(int reached, size_t size) {
   return reached && (is_how("half") || is_how("short")) ? (size + 1) / 2 : size;
 }
 
-/* Sets a path to that of a thing in the folder of the disk, and tells whether there is such a folder. */
+/* Sets `path` to that of a thing of this kind and name in STOP_DISK. Returns true if there is such a folder. */
 static int is_kept(char *path, const char *kind, const char *name) {
   const char *folder = getenv("STOP_DISK");
   int front;
@@ -159,7 +167,7 @@ static int is_kept(char *path, const char *kind, const char *name) {
   return 1;
 }
 
-/* Keeps what a name stands for that is to change, if it has not changed since its folder was flushed. */
+/* Keeps what a name stands for before it changes, unless it has changed since its folder was flushed. */
 static void keep_name(const char *name) {
   char kept[2 * NAME], none[2 * NAME];
   int error = errno;
@@ -173,7 +181,8 @@ static void keep_name(const char *name) {
   errno = error;
 }
 
-/* Sets a path to that of a thing of this kind which says something of a file, and tells whether there is a folder. */
+/* Sets `path` to that of a thing of this kind in STOP_DISK, named by the inode of a file. Returns true if there is such
+   a folder. */
 static int is_kept_file(char *path, const char *kind, int file) {
   char inode[32];
   struct stat is;
@@ -210,7 +219,7 @@ static void keep_bytes(int file) {
   errno = error;
 }
 
-/* Whether a name that was kept is one of the folder at this path. */
+/* Returns true if a name that was kept is one of the folder at this path. */
 static int is_of(const char *kept, const char *path) {
   const char *last = strrchr(kept, SLASH);
   size_t size = strlen(path);
@@ -236,7 +245,7 @@ static void forget_names(const char *path) {
     closedir(disk);
 }
 
-/* What a flush of this file has on the disk: its bytes or, where it is a folder, its names. */
+/* Forgets what was kept of a file that is flushed now: its bytes, or its names if it is a folder. Returns `answer`. */
 static int flushed(int file, int answer) {
   char kept[2 * NAME];
   struct stat is;
@@ -252,12 +261,13 @@ static int flushed(int file, int answer) {
   return answer;
 }
 
-/* Keeps what an opening is to change. */
+/* Keeps the name that an opening may create. */
 static void keep_opened(const char *path, int flags) {
   if (flags & O_CREAT)
     keep_name(path);
 }
 
+/* Keeps the name of a file that was opened, and returns its descriptor. */
 static int opened(int reached, int file, const char *path) {
   if (file >= 0 && file < FILES)
     snprintf(names[file], NAME, "%s", path);

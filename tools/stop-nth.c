@@ -110,8 +110,8 @@ static int is_here(const char *call, const char *name) {
 }
 
 /* Logs and counts a call before it is made, and kills the process or lets it wait there. Returns true if the call is
-   one to stop at. The first three openings of a process are of /dev/null, so that no file gets the descriptor of a closed
-   stream. They and their ends do not count. */
+   one to stop at. The first three openings of a process are of /dev/null, so that no file gets the descriptor of a
+   closed stream. They and their ends do not count. */
 static int is_reached(const char *call, const char *name) {
   if (!strcmp(name, "/dev/null") && (!strcmp(call, "open") || !strcmp(call, "close")))
     return 0;

@@ -568,7 +568,7 @@ def attempt(part, *words):
 
 
 class Stage:
-    """What all parts share: the driver, the servers, and the two libraries."""
+    """The driver, the servers, and the two libraries, which all parts of tools/browser share."""
 
     def __init__(self, programs, folder):
         """Makes the folder of pages, the desks of both libraries, and the driver."""

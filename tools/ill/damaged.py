@@ -77,7 +77,7 @@ def tell(name, wrong):
 
 
 class Checks:
-    """What is checked, with the program and a folder to work in."""
+    """The checks of tools/salvage, with the program and a folder to work in."""
 
     def __init__(self, program, folder):
         """Makes the desks of both roles with their loans, in a folder to work in."""

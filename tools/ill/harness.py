@@ -276,6 +276,7 @@ class Program:
     """A program that is tested, at its path. A run of it may take `limit` seconds."""
 
     def __init__(self, path, limit=SECONDS):
+        """Keeps the whole path of the program, and the limit of seconds of a run."""
         self.path, self.limit = os.path.realpath(path), limit
 
     def command(self, words):
@@ -339,6 +340,7 @@ class Report:
     """Tells what came of each case, and remembers if one has failed."""
 
     def __init__(self):
+        """Begins without a failure."""
         self.failed = False
 
     def tell(self, name, *faults):
@@ -385,6 +387,7 @@ class Task:
     say of it."""
 
     def __init__(self, name, function, *words):
+        """Keeps the name, the function and its words. `is_second` is set once a signal has ended the process."""
         self.name, self.function, self.words = name, function, words
         self.is_second = False
 
@@ -455,6 +458,7 @@ class Disk:
     """The folder of what is not flushed, as tools/stop-nth.c says. Names are those of files in the folder `at`."""
 
     def __init__(self, folder, at):
+        """Makes the folder of what is not flushed, if it is not there."""
         self.folder, self.at = folder, at
         os.makedirs(folder, exist_ok=True)
 

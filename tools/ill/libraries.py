@@ -46,7 +46,7 @@ SCREENS = {"wide": (1200, "light", "screen"), "narrow": (320, "light", "screen")
 
 
 class Books:
-    """What a desk must have, by the model: its loans, its diary and its notes."""
+    """The books of a desk, by the model: its loans, its diary and its notes, as they must be."""
 
     def __init__(self, role):
         """Begins the books of a desk without loans. `days` has the day of each line of the diary, and `last` the day of

@@ -57,9 +57,10 @@ NEVER = r"(?!)"  # fits no line
 
 
 class Help:
-    """The help of the program, by commands."""
+    """The help of the program: the text of each command by its name, after `shelf ` for one on a shelf."""
 
     def __init__(self, ill):
+        """Asks the program for the help of each command."""
         self.texts = {"ill": ill.well("--help").decode()}
         self.commands = self.commands_of("ill")
         for command in self.commands:
@@ -80,7 +81,7 @@ class Help:
         return [match[1] for match in found(r"^  ([a-z-]*) ", between("^Commands:", "^$", self.lines(name)))]
 
     def options_of(self, name):
-        """Returns the options of a command, as pairs of a name and a value, which is None if there is none."""
+        """Returns the options of a command, each as its name and its value, which is None if there is none."""
         # The help of a command on a shelf has no examples of its own.
         end = NEVER if name.startswith("shelf ") else "^Example"
         matches = found(r"^ *(--[a-z-]*)(?: <(.*)>)?$", between("^Options:", end, self.lines(name)))
@@ -120,7 +121,7 @@ def tell_only(who, lines):
 # ---- The command line, as the program tells it
 
 def compare_told(ill):
-    """Compares tools/ill/help.jsonl with what the program prints. With a further word that is no command."""
+    """Compares tools/ill/help.jsonl with what the program prints. A further word there is refused as no command."""
     REPORT.run("ill help --json", ill.run("help --json"), 0, read(TOLD), b"")
     for words in ("help --json act", "help act --json", "--explain help --json"):
         REPORT.run(f"ill {words}", ill.run(words), 2, b"", "error: unrecognized subcommand '--json'\n")
@@ -132,6 +133,7 @@ class Page:
     """The man page without its macros and fonts."""
 
     def __init__(self):
+        """Reads the man page."""
         self.lines = [self.plain(line) for line in text_of(MAN).splitlines()]
 
     @staticmethod
@@ -142,7 +144,7 @@ class Page:
         return re.sub(r"^\.[A-Z]* ", "", line).replace('"', "") if is_font else line
 
     def section(self, name):
-        """Gives the lines of a section."""
+        """Yields the lines of a section."""
         is_within = False
         for line in self.lines:
             if line.startswith(".SH "):
@@ -168,7 +170,8 @@ class Page:
 
 
 def usages(lines):
-    """Gives the facts of lines as `act FILE [--today DAY] WORDS...` or `list PATH... [--open] [--mine]`."""
+    """Yields the facts of lines such as `act FILE [--today DAY] WORDS...`: its command, its arguments, and each of its
+    options."""
     for usage in lines:
         if not re.match("[a-z]", usage):
             continue
@@ -211,6 +214,7 @@ def prepare_desks(ill):
     os.mkdir("shelf")
 
     def well(words, given=None):
+        """Runs the program in the folder of the desks, and returns its output."""
         return ill.well(words, given, cwd="shelf")
 
     well("new one requester")
@@ -227,9 +231,10 @@ def prepare_desks(ill):
 
 
 class Offers:
-    """Lines, with the words that a shell has to offer at the end of each."""
+    """Lines of a shell, each with the words that it has to offer at the end of the line."""
 
     def __init__(self, known):
+        """Adds all lines. `known` is the help, from which the words come."""
         self.known, self.rows = known, []
         self.requester, self.responder = (known.words[role] for role in ROLES)
         self.folders = ["folder", "row"]
@@ -358,7 +363,8 @@ class Offers:
         self.offers(f"ill act {day}{file} -- G1 T1 --")
 
     def compare(self, shell, told):
-        """Compares what a shell has offered with what it has to. `told` has the lines with words, in their order."""
+        """Compares what a shell has offered with what it has to. `told` has the lines in their order, each with its
+        words."""
         wanted, others = lines_of_offers(self.rows), lines_of_offers(told)
         tell_only("the help", wanted - others)
         tell_only(shell, others - wanted)
@@ -366,7 +372,7 @@ class Offers:
 
 
 def beginning(front, words):
-    """Returns the words that begin so."""
+    """Returns those of the words that begin with `front`."""
     return [word for word in words if word.startswith(front)]
 
 
@@ -386,7 +392,7 @@ def plain(word):
 
 
 def blocks(text):
-    """Returns the lines of a text that begin with `> `, each with the lines after it."""
+    """Returns the lines of a text that begin with `> `. Each has with it the lines up to the next of them."""
     rows = []
     for line in text.splitlines():
         if line.startswith("> "):
@@ -519,7 +525,7 @@ def check_width(name, text):
 
 
 def examples_of(text):
-    """Returns the examples of a help, as a document."""
+    """Returns the examples of a help, as a document that tools/run-document performs."""
     lines, is_within, is_empty = ["```"], False, False
     for line in text.splitlines():
         if not line:
@@ -536,7 +542,7 @@ def examples_of(text):
 
 
 def perform(name, lines, program):
-    """Performs a document of examples."""
+    """Performs a document of examples by tools/run-document."""
     write("example.md", "".join(f"{line}\n" for line in lines))
     done = harness.run([os.path.join(harness.TOOLS, "run-document"), program, "example.md"], errors=subprocess.STDOUT,
                        limit=None)

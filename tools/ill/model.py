@@ -20,7 +20,7 @@ VERBS = {
     RESPONDER: {"IN-PROCESS": "answer ship expire", "CONDITIONAL": "expire", "CANCEL-PENDING": "cancel-reply",
                 "SHIPPED": "overdue recall", "RENEW/PENDING": "renew-answer overdue", "OVERDUE": "recall",
                 "RENEW/OVERDUE": "renew-answer", "RETURNED": "check-in"}}
-# The states in which a loan is over for both roles; a requester's is over in RETURNED, too, once it is checked in.
+# The states in which a loan is over. A requester's is over, too, once it is checked in.
 OVER = ("CANCELLED", "NOT-SUPPLIED", "CHECKED-IN")
 # The states in which the other side acts next.
 THEIRS = {REQUESTER: ("PENDING", "CANCEL-PENDING", "RENEW/PENDING", "RENEW/OVERDUE", "RETURNED"),
@@ -42,8 +42,8 @@ class Side:
     """A side of a loan: its record, and the messages that it has taken."""
 
     def __init__(self, role, txn):
-        """Begins an IDLE side of this role. `held`, `accepted`, `cancelled` and `renewed` are numbers of messages
-        taken, or None."""
+        """Begins an IDLE side of this role. `held`, `accepted`, `cancelled` and `renewed` are numbers of messages, or
+        None."""
         self.role, self.txn, self.state, self.issued, self.due = role, txn, "IDLE", [], None
         self.held = self.accepted = self.cancelled = self.renewed = self.request = None
         self.checked_in = self.received = False

@@ -32,7 +32,7 @@ class Loan:
 
 
 class Morning:
-    """What the tables say of loans on a day. Without a day no date is past, and none is soon."""
+    """The tables of docs/PROTOCOL.md on a day. Without a day no date is past, and none is soon."""
 
     def __init__(self, today=None, ahead=AHEAD):
         """Reads the tables for a day. A due date is soon if it is at most `ahead` days away."""

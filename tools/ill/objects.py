@@ -103,8 +103,8 @@ def extra(schema, value):
     return [name for name in value if name not in schema["properties"]]
 
 
-# What each keyword asks: a function of its words, a value, the path of the value, and the schema. It returns a fault, or
-# None.
+# What each keyword asks: a function of its words, a value, the path of the value, and the schema. It returns a fault,
+# or None.
 KEYWORDS = {
     "$schema": lambda *_: None, "$defs": lambda *_: None, "title": lambda *_: None, "description": lambda *_: None,
     "$ref": lambda name, value, path, _: fails(referred(name), value, path),

@@ -41,7 +41,8 @@ WHOLE = 25  # of names of so many characters each module is a whole pixel wide o
 
 
 class Slip(html.parser.HTMLParser):
-    """What a slip has: faults, the texts of its elements, its fields, and the bars with the width of their view."""
+    """A slip as a parser sees it: faults, the texts of its elements, its fields, and the bars with the width of their
+    view."""
 
     def __init__(self, text):
         """Reads the text of a slip."""

@@ -1,3 +1,4 @@
 pub mod DesksLemmas
+pub mod FoldersLemmas
 pub mod OpenLemmas
 pub mod ShelfNamesLemmas

@@ -1,3 +1,4 @@
+pub mod Folders
 pub mod Opening
 pub mod Paths
 pub mod ShelfNames

@@ -1,10 +1,11 @@
 //! The desks at paths: a path is that of a desk's file, or of a folder of desks.
 
-ghost use Rattle.std.specs.Prelude.{◌≡◌, ◌==◌, length};
+ghost use Rattle.std.specs.Prelude.{◌≡◌, ◌⊎◌, ◌==◌, [], ◌∷◌, ◌++◌, length, map, string_bytes, IfOk, OnOk};
 ghost use Rattle.std.specs.List.{ends_with};
+ghost use Rattle.ill_files.specs.Folders.{AreFoundAt, GetsFiles, IsEntryOf, IsFoundAt, IsWithoutSlashes};
 ghost use Rattle.ill_files.specs.Opening.{names_answer};
 
-use crate::paths::{BESIDE, raw_names};
+use crate::paths::{BESIDE, joined, raw_names};
 use crate::shelf::{is_named_on_shelf, is_shelf};
 use ill_text::fault::{STORE_FAILED, ToolFault};
 use ill_text::warning::warn;
@@ -29,7 +30,10 @@ pub struct Found {
 ///
 /// The desks of a folder are its regular files, without the files beside a desk. Names that begin with a dot are left
 /// out too. If there is a shelf in the folder, only the names of its desks are those of desks.
-pub fn desk_paths<T: Files>(rt: &T, alloc: Global, paths: &[&str]) -> Result<Found, OutOfMemory> {
+pub fn desk_paths<T: Files>(rt: &T, alloc: Global, paths: &[&str]) -> Result<Found, OutOfMemory>
+    ensures { IfOk result (λ found. AreFoundAt (map (λ path. path.now) paths.now)
+        (map (λ file. string_bytes file) found.files.items)) }
+{
     let mut found = Found {
         files: Vec::new(alloc),
         unnamed: Vec::new(alloc),
@@ -41,10 +45,13 @@ pub fn desk_paths<T: Files>(rt: &T, alloc: Global, paths: &[&str]) -> Result<Fou
 }
 
 /// Appends to `found` the file at `path`, or the desks in a folder at `path`.
-fn push_path<T: Files>(rt: &T, found: &mut Found, path: &str) -> Result<(), OutOfMemory> {
+fn push_path<T: Files>(rt: &T, found: &mut Found, path: &str) -> Result<(), OutOfMemory>
+    ensures { OnOk result (GetsFiles (IsFoundAt path.now) (map (λ file. string_bytes file) found.old.files.items)
+        (map (λ file. string_bytes file) found.new.files.items)) }
+{
     let alloc = *found.files.allocator();
     match names_at(rt, alloc, path) {
-        Ok(names) => push_names(rt, found, path.trim_end_matches('/'), &names),
+        Ok(names) => push_names(rt, found, without_slashes(path), &names),
         Err(error) if error.kind() == ErrorKind::OutOfMemory => Err(OutOfMemory),
         Err(_) => {
             found.files.push(String::from_str(alloc, path)?)?;
@@ -53,12 +60,19 @@ fn push_path<T: Files>(rt: &T, found: &mut Found, path: &str) -> Result<(), OutO
     }
 }
 
+/// Returns `path` without the slashes at its end.
+fn without_slashes(path: &str) -> &str
+    ensures { IsWithoutSlashes path.now result.now }
+{
+    path.trim_end_matches('/')
+}
+
 /// Returns the names in the folder at `path` that may be those of desks, in their order.
 fn names_at<T: Files>(rt: &T, alloc: Global, path: &str) -> io::Result<Vec<Vec<u8>>> {
     if !fs::metadata(rt, path)?.is_dir() {
         return Err(ErrorKind::NotADirectory.into());
     }
-    let folder = path.trim_end_matches('/');
+    let folder = without_slashes(path);
     let is_shelf = is_shelf(rt, alloc, folder)?;
     let mut names = Vec::new(alloc);
     for name in raw_names(rt, alloc, folder)? {
@@ -92,22 +106,41 @@ fn push_names<T: Files>(
     found: &mut Found,
     folder: &str,
     names: &[Vec<u8>],
-) -> Result<(), OutOfMemory> {
-    let alloc = *found.files.allocator();
+) -> Result<(), OutOfMemory>
+    ensures { OnOk result (GetsFiles (IsEntryOf folder.now) (map (λ file. string_bytes file) found.old.files.items)
+        (map (λ file. string_bytes file) found.new.files.items)) }
+{
     for name in names {
-        match str::from_utf8(name) {
-            Ok(name) => push_file(rt, &mut found.files, format!(in alloc; "{folder}/{name}")?)?,
-            Err(_) => {
-                let shown = format!(in alloc; "{folder}/{}", name.escape_ascii())?;
-                found.unnamed.push(shown)?;
-            }
-        }
+        push_name(rt, found, folder, name)?;
     }
     Ok(())
 }
 
+/// Appends to `found` the desk `name` of `folder`, or the text for a name that is none.
+fn push_name<T: Files>(
+    rt: &T,
+    found: &mut Found,
+    folder: &str,
+    name: &[u8],
+) -> Result<(), OutOfMemory>
+    ensures { OnOk result (GetsFiles (IsEntryOf folder.now) (map (λ file. string_bytes file) found.old.files.items)
+        (map (λ file. string_bytes file) found.new.files.items)) }
+{
+    let alloc = *found.files.allocator();
+    match str::from_utf8(name) {
+        Ok(name) => push_file(rt, &mut found.files, joined(alloc, folder, name)?),
+        Err(_) => {
+            let shown = format!(in alloc; "{folder}/{}", name.escape_ascii())?;
+            found.unnamed.push(shown)?;
+            Ok(())
+        }
+    }
+}
+
 /// Appends `path` to `files`, unless something else than a regular file is there.
-fn push_file<T: Files>(rt: &T, files: &mut Vec<String>, path: String) -> Result<(), OutOfMemory> {
+fn push_file<T: Files>(rt: &T, files: &mut Vec<String>, path: String) -> Result<(), OutOfMemory>
+    ensures { OnOk result ((files.new.items ≡ files.old.items) ⊎ (files.new.items ≡ files.old.items ++ path ∷ [])) }
+{
     match fs::symlink_metadata(rt, path.as_str()) {
         Ok(found) if !found.is_file() => {}
         _ => files.push(path)?,

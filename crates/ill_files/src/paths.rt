@@ -1,6 +1,6 @@
 //! The paths of files, and the files that stand beside a desk.
 
-ghost use Rattle.std.specs.Prelude.{◌≡◌, ◌==◌, nat_eq};
+ghost use Rattle.std.specs.Prelude.{◌≡◌, ◌==◌, ◌++◌, codes, nat_eq, string_bytes, IfOk};
 ghost use Rattle.std.specs.List.{ends_with, list_any};
 ghost use Rattle.ill_files.specs.Paths.{is_beside};
 
@@ -81,7 +81,9 @@ pub fn path_of(alloc: Global, folder: &str, name: &[u8]) -> io::Result<Option<St
 }
 
 /// Returns the path of `name` in `folder`, with one allocation.
-pub fn joined(alloc: Global, folder: &str, name: &str) -> Result<String, OutOfMemory> {
+pub fn joined(alloc: Global, folder: &str, name: &str) -> Result<String, OutOfMemory>
+    ensures { IfOk result (λ path. string_bytes path ≡ folder.now ++ (codes "/" ++ name.now)) }
+{
     let size = folder.len().saturating_add(name.len()).saturating_add(1);
     let mut path = String::with_capacity(alloc, size)?;
     path.push_str(folder)?;

@@ -8,7 +8,7 @@ ghost use Rattle.ill_record.specs.declared.role.Role.{Role};
 ghost use Rattle.ill_text.specs.Fault.{IsOpenFault};
 
 use crate::open::open;
-use crate::paths::{RETIRED, is_there, raw_names};
+use crate::paths::{RETIRED, is_there, joined, raw_names};
 use ill_der::{ApduView, BodyView};
 use ill_saved::{DeskFault, Role};
 use ill_text::fault::{STORE_FAILED, ToolFault};
@@ -79,7 +79,7 @@ impl<'a> Shelf<'a> {
         ensures { IfOk result (λ path. string_bytes path ≡ desk_path self.now.folder.now self.now.role group.now) }
     {
         let name = desk_name(alloc, self.role, group)?;
-        on_shelf(alloc, self.folder, name.as_str())
+        joined(alloc, self.folder, name.as_str())
     }
 
     /// Returns the path of the shelf's own desk.
@@ -107,17 +107,7 @@ impl<'a> Shelf<'a> {
 pub fn own_path(alloc: Global, folder: &str) -> Result<String, OutOfMemory>
     ensures { IfOk result (λ path. string_bytes path ≡ own_path folder.now) }
 {
-    on_shelf(alloc, folder, OWN)
-}
-
-/// Returns the path of the file `name` in `folder`.
-fn on_shelf(alloc: Global, folder: &str, name: &str) -> Result<String, OutOfMemory>
-    ensures { IfOk result (λ path. string_bytes path ≡ folder.now ++ (codes "/" ++ name.now)) }
-{
-    let mut path = String::from_str(alloc, folder)?;
-    path.push_str("/")?;
-    path.push_str(name)?;
-    Ok(path)
+    joined(alloc, folder, OWN)
 }
 
 /// Returns true if there is a shelf in `folder`.
@@ -151,7 +141,7 @@ fn push_unless_retired<T: Files>(
         → AreOnShelf folder.now (map (λ path. string_bytes path) desks.new.items)) }
 {
     let alloc = *desks.allocator();
-    let path = on_shelf(alloc, folder, name)?;
+    let path = joined(alloc, folder, name)?;
     if is_retired(rt, alloc, path.as_str())? {
         return Ok(());
     }

@@ -18,8 +18,7 @@ use Rattle.ill_tool.specs.ExitStatus.{IsFlushed, TellsKind, exit_status, status_
 use Rattle.ill_tool.specs.Help.{TellsHelp}
 use Rattle.ill_commands.specs.AtFile.{ActsAtFile, LoanAtFile, NewAtFile, ShowsFile, SlipAtFile}
 use Rattle.ill_commands.specs.AtFile.{TakesAtFile, VerifiesFile, message_of}
-use Rattle.ill_visits.specs.Visits.{ListsPaths}
-use Rattle.ill_visits.specs.Visits.{CountsPaths, TellsPaths}
+use Rattle.ill_visits.specs.Visits.{CountsPaths, ListsDesk, ReportsPaths, TellsDesk, VisitsPaths}
 use Rattle.ill_commands.specs.Letters.{SendsWith, TakesWith}
 use Rattle.ill_commands.specs.Note.{NotesAtFile}
 use Rattle.ill_commands.specs.Streams.{Streams, streams_of}
@@ -27,7 +26,6 @@ use Rattle.ill_key.specs.KeyCommand.{RunsKey}
 use Rattle.ill_files.specs.Opening.{GoesWell}
 use Rattle.ill_place.specs.Place.{file_state, place_of, shelf_of}
 use Rattle.ill_beside.specs.Notes.{note_text}
-use Rattle.ill_visits.specs.Visits.{ReportsPaths}
 use Rattle.ill_mail.specs.Keyed.{WithKey}
 use Rattle.ill_mail.specs.Nights.{InboxAtFile, OutboxAtFile, ExchangesAtFile}
 use Rattle.ill_line.specs.Guard.{IsGuarded}
@@ -67,9 +65,11 @@ Runs state (asks.Exchange file incoming outgoing form dates stamp copy beat key)
 Runs state (asks.Key file deed) old result new = RunsKey deed old.unread new.unread old.written new.written result
 Runs state (asks.Send file txn number key) old result new =
     ReadsNothing (SendsWith (place_of state file) key (message_of txn number)) old result new
-Runs state (asks.Listing paths wanted find form) old result new = ReadsNothing (ListsPaths form wanted find) old result new
-Runs state (asks.News paths last since form) old result new = ReadsNothing (TellsPaths form last since) old result new
-Runs state (asks.Figures paths view) old result new = ReadsNothing (CountsPaths view) old result new
+Runs state (asks.Listing paths wanted find form) old result new =
+    ReadsNothing (VisitsPaths (ListsDesk form wanted find) paths) old result new
+Runs state (asks.News paths last since form) old result new =
+    ReadsNothing (VisitsPaths (TellsDesk form last since) paths) old result new
+Runs state (asks.Figures paths view) old result new = ReadsNothing (CountsPaths view paths) old result new
 Runs state (asks.Status file form) old result new =
     ReadsNothing (ShowsFile (place_of state file) form) old result new
 Runs state (asks.Loan file txn form) old result new =
@@ -77,7 +77,8 @@ Runs state (asks.Loan file txn form) old result new =
 Runs state (asks.Note file txn words) old result new =
     ReadsNothing (NotesAtFile (place_of state file) txn (note_text words)) old result new
 Runs state (asks.Slip file txn) old result new = ReadsNothing (SlipAtFile (place_of state file) txn) old result new
-Runs state (asks.Report paths today since) old result new = ReadsNothing (ReportsPaths today since) old result new
+Runs state (asks.Report paths today since) old result new =
+    ReadsNothing (ReportsPaths today since paths) old result new
 Runs state (asks.Verify file form) old result new =
     ReadsNothing (VerifiesFile (place_of state file) form) old result new
 Runs state (asks.Retire file group) old result new = IsRefused old result new

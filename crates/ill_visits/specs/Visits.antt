@@ -1,10 +1,11 @@
 -- The effect of each command that visits desks. A desk here was loaded from a file, so nothing is known of its content.
-use Rattle.std.specs.Prelude.{◌≡◌, ◌⊎◌, ℕ, Bool, nat_lt, List, ◌++◌, length, Option, option_map, Result, Ok}
+use Rattle.std.specs.Prelude.{◌≡◌, ◌⊎◌, ℕ, Bool, nat_lt, List, ◌++◌, length, map, Option, option_map, Result, Ok}
 use Rattle.std.specs.Prelude.{Err, IfErr}
 use Rattle.ill_values.specs.Day.{Date}
 use Rattle.ill_record.specs.declared.side.Side.{Side}
 use Rattle.ill_text.specs.declared.fault.ToolFault.{ToolFault}
 use Rattle.ill_text.specs.declared.fault.ToolFault.TheVariants.{OutOfMemory}
+use Rattle.ill_files.specs.Folders.{AreFoundAt}
 use Rattle.ill_files.specs.Opening.{GoesWell, FailsToOpen, after_writing, names_answer}
 use Rattle.ill_text.specs.Fault.{IsOpenFault}
 use Rattle.ill_text.specs.Output.{WritesPrefix, WritesText}
@@ -69,43 +70,38 @@ abbrev pub VisitsFiles : (Bool → Bool → Stop → Type 0) → List (List ℕ)
     Result Bool ToolFault → Type 0
 VisitsFiles Runs files before after answer = VisitsEach (Runs (are_several files)) files before after answer
 
--- The desks at the paths were visited, one after another. The result is the gravest of their answers and of that
+-- Desks that are found at `paths` were visited, one after another. The result is the gravest of their answers and of that
 -- about the names in the folders. Or memory ran out before the first desk.
-abbrev pub VisitsPaths : (Bool → Bool → Stop → Type 0) → Option (List ℕ) → Option (List ℕ) → Result Bool ToolFault → Type 0
-VisitsPaths Runs before after result =
+abbrev pub VisitsPaths : (Bool → Bool → Stop → Type 0) → (paths : List (List ℕ)) → Option (List ℕ) → Option (List ℕ) →
+    Result Bool ToolFault → Type 0
+VisitsPaths Runs paths before after result =
     ((result ≡ Err OutOfMemory) × (after ≡ before))
-    ⊎ ((files : List (List ℕ)) × (are_texts : Bool) × (answer : Result Bool ToolFault)
+    ⊎ ((files : List (List ℕ)) × (are_texts : Bool) × (answer : Result Bool ToolFault) × AreFoundAt paths files
     × VisitsFiles Runs files before after answer × (result ≡ graver answer (names_answer are_texts)))
 
--- Those of the wanted loans of the desks at the paths that have the words `find`, if there are any, were listed.
-abbrev pub ListsPaths : Form → Wanted → (find : Option (List ℕ)) → Option (List ℕ) → Option (List ℕ) → Result Bool ToolFault →
+-- After the text before the first desk, which was written with the result `written`, the desks at `paths` were visited. If
+-- `written` is a fault, none was.
+abbrev pub VisitsAfter : (written : Result (Unit {0}) ToolFault) → (Bool → Bool → Stop → Type 0) → (paths : List (List ℕ)) →
+    Option (List ℕ) → Option (List ℕ) → Result Bool ToolFault → Type 0
+VisitsAfter (Ok done) Runs paths between after result = VisitsPaths Runs paths between after result
+VisitsAfter (Err fault) Runs paths between after result = (result ≡ Err fault) × (after ≡ between)
+
+-- The figures of the desks at `paths` were written. In CSV the names of the fields come first.
+abbrev pub CountsPaths : FiguresView → (paths : List (List ℕ)) → Option (List ℕ) → Option (List ℕ) → Result Bool ToolFault →
     Type 0
-ListsPaths form wanted find before after result = VisitsPaths (ListsDesk form wanted find) before after result
-
--- What came to the desks at the paths was told.
-abbrev pub TellsPaths : Form → Option ℕ → (since : Option Date) → Option (List ℕ) → Option (List ℕ) → Result Bool ToolFault →
-    Type 0
-TellsPaths form last since before after result = VisitsPaths (TellsDesk form last since) before after result
-
--- After the text before the first desk, which was written with this result, the desks were visited. If that failed, none was.
-abbrev pub VisitsAfter : Result (Unit {0}) ToolFault → (Bool → Bool → Stop → Type 0) → Option (List ℕ) → Option (List ℕ) →
-    Result Bool ToolFault → Type 0
-VisitsAfter (Ok done) Runs between after result = VisitsPaths Runs between after result
-VisitsAfter (Err fault) Runs between after result = (result ≡ Err fault) × (after ≡ between)
-
--- The figures of the desks at the paths were written. In CSV the names of the fields come first.
-abbrev pub CountsPaths : FiguresView → Option (List ℕ) → Option (List ℕ) → Result Bool ToolFault → Type 0
-CountsPaths view before after result =
+CountsPaths view paths before after result =
     (between : Option (List ℕ)) × (written : Result (Unit {0}) ToolFault)
     × WritesPrefix before between (head_text view.is_csv) written
-    × VisitsAfter written (CountsDesk view) between after result
+    × VisitsAfter written (CountsDesk view) paths between after result
 
--- A page of the desks at the paths was written, with a part for each, and with news if a day `since` is given. The result is
+-- A page of the desks at `paths` was written, with a part for each, and with news if a day `since` is given. The result is
 -- the gravest of the faults of desks that could not be opened, and of that about the names in the folders. Or memory ran out
 -- before the page.
-abbrev pub ReportsPaths : Date → (since : Option Date) → Option (List ℕ) → Option (List ℕ) → Result Bool ToolFault → Type 0
-ReportsPaths today since before after result =
+abbrev pub ReportsPaths : Date → (since : Option Date) → (paths : List (List ℕ)) → Option (List ℕ) → Option (List ℕ) →
+    Result Bool ToolFault → Type 0
+ReportsPaths today since paths before after result =
     ((result ≡ Err OutOfMemory) × (after ≡ before))
     ⊎ ((parts : List Part) × (are_texts : Bool) × (written : Result (Unit {0}) ToolFault)
+    × AreFoundAt paths (map (λ part. part.0) parts)
     × IfErr (gravest_part parts) IsOpenFault × WritesText before after (report_page today since parts) written
     × (result ≡ after_writing written (graver (gravest_part parts) (names_answer are_texts))))

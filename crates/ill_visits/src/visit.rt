@@ -36,7 +36,8 @@ pub(crate) fn visit_paths<T: Files, W: Write, E: Write>(
     visit: &Visit<'_>,
     form: Form,
 ) -> Result<bool, ToolFault>
-    ensures { VisitsPaths (RunsVisit visit.now form) (W.contents machine.old.writer) (W.contents machine.new.writer) result }
+    ensures { VisitsPaths (RunsVisit visit.now form) (map (λ path. path.now) paths.now) (W.contents machine.old.writer)
+        (W.contents machine.new.writer) result }
 {
     let Ok(found) = desk_paths(machine.rt, machine.alloc, paths) else {
         return Err(ToolFault::OutOfMemory);

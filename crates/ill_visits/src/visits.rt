@@ -4,7 +4,7 @@ ghost use Rattle.std.specs.Prelude.{◌≡◌, map, option_map, string_bytes, If
 ghost use Rattle.ill_files.specs.Opening.{after_writing};
 ghost use Rattle.ill_text.specs.Fault.{IsOpenFault};
 ghost use Rattle.ill_visits.specs.Parts.{AddsPart, AddsParts};
-ghost use Rattle.ill_visits.specs.Visits.{CountsPaths, ListsPaths, ReportsPaths, TellsPaths};
+ghost use Rattle.ill_visits.specs.Visits.{CountsPaths, ListsDesk, ReportsPaths, TellsDesk, VisitsPaths};
 
 use crate::visit::{Visit, visit_paths};
 use ill_annex::open_with_annex;
@@ -31,8 +31,8 @@ pub fn list<T: Files, W: Write, E: Write>(
     find: Option<&str>,
     form: Form,
 ) -> Result<bool, ToolFault>
-    ensures { ListsPaths form wanted.now (option_map (λ words. words.now) find.entry) (W.contents machine.old.writer)
-        (W.contents machine.new.writer) result }
+    ensures { VisitsPaths (ListsDesk form wanted.now (option_map (λ words. words.now) find.entry))
+        (map (λ path. path.now) paths.now) (W.contents machine.old.writer) (W.contents machine.new.writer) result }
 {
     visit_paths(machine, paths, &Visit::List(wanted, find), form)
 }
@@ -46,7 +46,8 @@ pub fn news<T: Files, W: Write, E: Write>(
     since: Option<Day>,
     form: Form,
 ) -> Result<bool, ToolFault>
-    ensures { TellsPaths form last since (W.contents machine.old.writer) (W.contents machine.new.writer) result }
+    ensures { VisitsPaths (TellsDesk form last since) (map (λ path. path.now) paths.now) (W.contents machine.old.writer)
+        (W.contents machine.new.writer) result }
 {
     visit_paths(machine, paths, &Visit::News(last, since), form)
 }
@@ -57,7 +58,8 @@ pub fn figures<T: Files, W: Write, E: Write>(
     paths: &[&str],
     view: &FiguresView,
 ) -> Result<bool, ToolFault>
-    ensures { CountsPaths view.now (W.contents machine.old.writer) (W.contents machine.new.writer) result }
+    ensures { CountsPaths view.now (map (λ path. path.now) paths.now) (W.contents machine.old.writer)
+        (W.contents machine.new.writer) result }
 {
     match write_whole(&mut machine.writer, view.head().as_bytes()) {
         Ok(()) => visit_paths(machine, paths, &Visit::Figures(view), Form::Lines),
@@ -73,7 +75,8 @@ pub fn report<T: Files, W: Write, E: Write>(
     today: Day,
     since: Option<Day>,
 ) -> Result<bool, ToolFault>
-    ensures { ReportsPaths today since (W.contents machine.old.writer) (W.contents machine.new.writer) result }
+    ensures { ReportsPaths today since (map (λ path. path.now) paths.now) (W.contents machine.old.writer)
+        (W.contents machine.new.writer) result }
 {
     let found = desk_paths(machine.rt, machine.alloc, paths)?;
     let mut page = Vec::new(machine.alloc);

@@ -63,7 +63,7 @@ look_answered : NoneMisread → (operator : Operator) (v : VisitShown) (left res
     → Follows operator v.user wanted turn result → turn ≡ None
 look_answered law operator v left rest turn result (Err refusal) look answers (none, e) = none
 look_answered law operator v left rest turn result (Ok w) look answers (inl (none, e)) = none
-look_answered law operator v left rest turn result (Ok w) look answers (inr (files, at)) =
+look_answered law operator v left rest turn result (Ok w) look answers (inr (files, found, at)) =
     let was = read _ (wanted_of (rules_of operator) v) left rest w answers in
     only_changes (record { today = operator.today; user = v.user; files = files }) (asked_of w) turn result at
     (look_changes_nothing law (rules_of operator) v was.0 (asked_of w) look was.1 (is_change (asked_of w)) refl)
@@ -88,7 +88,7 @@ own_form_answered : AskedByOwn → (operator : Operator) (v : VisitShown) (left 
     → (body : List ℕ) × IsOwnForm (rules_of operator) v body × Consumes left rest body
 own_form_answered law operator v left rest turn result (Err refusal) answers (none, e) = no_turn turn none
 own_form_answered law operator v left rest turn result (Ok w) answers (inl (none, e)) = no_turn turn none
-own_form_answered law operator v left rest turn result (Ok w) answers (inr (files, at)) =
+own_form_answered law operator v left rest turn result (Ok w) answers (inr (files, found, at)) =
     let was = read _ (wanted_of (rules_of operator) v) left rest w answers in (
       was.0,
       law (rules_of operator) v was.0 (asked_of w) was.1
@@ -131,7 +131,7 @@ form_answered : (operator : Operator) (v : VisitShown) (left rest : Option (List
     → Follows operator v.user wanted (Some turn) result → TakesTurn operator v left rest turn
 form_answered operator v left rest turn result (Err refusal) answers (none, e) = no_turn turn none
 form_answered operator v left rest turn result (Ok w) answers (inl (none, e)) = no_turn turn none
-form_answered operator v left rest turn result (Ok w) answers (inr (files, at)) =
+form_answered operator v left rest turn result (Ok w) answers (inr (files, found, at)) =
     let was = read _ (wanted_of (rules_of operator) v) left rest w answers in
     let acted = act_of_turn (record { today = operator.today; user = v.user; files = files }) (asked_of w) turn result at in
     (was.0, acted.0, was.2, was.1 ∙ ap (λ asked. Ok asked) acted.1, acted.2)

@@ -174,15 +174,16 @@ abbrev pub uncounted : Result Bool ToolFault → List ℕ
 uncounted (Ok is_well) = []
 uncounted (Err fault) = UNCOUNTED.now
 
--- The reply has figures of the span, as `ill figures` writes them. A desk that cannot be read has none, and a notice says so.
-abbrev pub ShowsSpan : Date → Option Span → Result (List ℕ) Trouble → Type 0
-ShowsSpan today None result = result ≡ Err troubles.NoSpan
-ShowsSpan today (Some span) (Ok reply) =
+-- The reply has figures of the span of the desks in `files`, as `ill figures` writes them. A desk that cannot be read has
+-- none, and a notice says so.
+abbrev pub ShowsSpan : Date → (files : List (List ℕ)) → Option Span → Result (List ℕ) Trouble → Type 0
+ShowsSpan today files None result = result ≡ Err troubles.NoSpan
+ShowsSpan today files (Some span) (Ok reply) =
     (lines : List ℕ) × (answer : Result Bool ToolFault)
-    × CountsPaths (record { span = span; is_csv = false }) (Some []) (Some lines) answer
+    × CountsPaths (record { span = span; is_csv = false }) files (Some []) (Some lines) answer
     × (reply ≡ page_reply Good (figures_page today (uncounted answer) lines))
-ShowsSpan today (Some span) (Err trouble) = trouble ≡ no_memory
+ShowsSpan today files (Some span) (Err trouble) = trouble ≡ no_memory
 
--- The reply has the figures of the days from one to another, if the second is not before the first.
-abbrev pub ShowsFigures : Date → (from to : Date) → Result (List ℕ) Trouble → Type 0
-ShowsFigures today from to result = ShowsSpan today (span_between from to) result
+-- The reply has the figures of the desks in `files` of the days from one to another, if the second is not before the first.
+abbrev pub ShowsFigures : Date → (files : List (List ℕ)) → (from to : Date) → Result (List ℕ) Trouble → Type 0
+ShowsFigures today files from to result = ShowsSpan today files (span_between from to) result

@@ -8,6 +8,7 @@ use Rattle.ill_browser.specs.declared.wanted.Wanted.{Wanted}
 use Rattle.ill_browser.specs.Visit.{RulesShown, VisitShown, body_size}
 use Rattle.ill_browser.specs.Wanted.{Answers, Asked, Desks, Loan, Slip, Figures, Act, Note, asked_of, wanted_of}
 use Rattle.ill_commands.specs.Streams.{Streams}
+use Rattle.ill_files.specs.Folders.{AreFoundAt}
 use Rattle.ill_page.specs.declared.reply.Status.TheVariants.{Good}
 use Rattle.ill_web.specs.declared.operator.Operator.{Operator}
 use Rattle.ill_web.specs.declared.house.House.{House}
@@ -52,20 +53,20 @@ AnswersAt house (Desks find) turn result = (turn ≡ None) × ShowsDesks house.t
 AnswersAt house (Loan loan) turn result =
     (turn ≡ None) × AtDesk house.files loan.desk (ShowsLoan house.today (tells Good []) loan) result
 AnswersAt house (Slip loan) turn result = (turn ≡ None) × AtDesk house.files loan.desk (ShowsSlip loan) result
-AnswersAt house (Figures from to) turn result = (turn ≡ None) × ShowsFigures house.today from to result
+AnswersAt house (Figures from to) turn result = (turn ≡ None) × ShowsFigures house.today house.files from to result
 AnswersAt house (Act loan stamp words) turn result =
     ActsHere house (record { loan = loan; stamp = stamp; words = words }) turn result
 AnswersAt house (Note loan note) turn result = (turn ≡ None) × AtDesk house.files loan.desk (Notes loan note) result
 
 -- ---- a request
 
--- What was asked for was answered at the desks that the operator's paths have. Or the request was refused. Or memory ran out
+-- What was asked for was answered at desks that are found at the operator's paths. Or the request was refused. Or memory ran out
 -- before the desks were found.
 abbrev pub Follows : Operator → (user : List ℕ) → Result Wanted VisitFault → Option Turn → Result (List ℕ) Trouble → Type 0
 Follows operator user (Err refusal) turn result = (turn ≡ None) × (result ≡ Err (troubles.Refused refusal))
 Follows operator user (Ok wanted) turn result =
     ((turn ≡ None) × (result ≡ Err no_memory))
-    ⊎ ((files : List (List ℕ))
+    ⊎ ((files : List (List ℕ)) × AreFoundAt (map (λ path. path.now) operator.paths.items) files
     × AnswersAt (record { today = operator.today; user = user; files = files }) (asked_of wanted) turn result)
 
 -- The request was read, and answered. `left` has the bytes of the input before, and `rest` those after.

@@ -260,7 +260,7 @@ fn slip_reply<T: LockFiles>(house: &House<'_, T>, place: &Place<'_>) -> Result<V
 /// Returns the reply with the figures of all desks between two days. A desk that cannot be read has none, and a notice
 /// says so.
 pub fn show_figures<T: Files>(house: &House<'_, T>, from: Day, to: Day) -> Result<Vec<u8>, Trouble>
-    ensures { ShowsFigures house.now.operator.now.today from to (said result) }
+    ensures { ShowsFigures house.now.operator.now.today (house_shown house.now).files from to (said result) }
 {
     match Span::new(from, to) {
         Some(span) => show_span(house, span),
@@ -270,18 +270,14 @@ pub fn show_figures<T: Files>(house: &House<'_, T>, from: Day, to: Day) -> Resul
 
 /// Returns the reply with the figures of all desks in `span`.
 fn show_span<T: Files>(house: &House<'_, T>, span: Span) -> Result<Vec<u8>, Trouble>
-    ensures { ShowsSpan house.now.operator.now.today (Some span) (said result) }
+    ensures { ShowsSpan house.now.operator.now.today (house_shown house.now).files (Some span) (said result) }
 {
     let view = FiguresView {
         span,
         is_csv: false,
     };
     let mut machine = house.machine();
-    let paths: Vec<&str> = house
-        .files
-        .iter()
-        .map(|file| file.as_str())
-        .collect(house.alloc)?;
+    let paths = paths_of(house.alloc, house.files)?;
     let answer = figures(&mut machine, &paths, &view);
     if let Err(ToolFault::OutOfMemory) = answer {
         return Err(Trouble::Desk(ToolFault::OutOfMemory));
@@ -289,6 +285,17 @@ fn show_span<T: Files>(house: &House<'_, T>, span: Span) -> Result<Vec<u8>, Trou
     let notice = uncounted(answer);
     let page = figures_page(house.alloc, house.operator.today, notice, &machine.writer)?;
     Ok(page_reply(house.alloc, Status::Good, &page)?)
+}
+
+/// Returns the paths in `files`, in their order.
+fn paths_of<'a>(alloc: Global, files: &'a [String]) -> Result<Vec<&'a str>, OutOfMemory>
+    ensures { IfOk result (λ paths. map (λ path. path.now) paths.items ≡ map (λ file. string_bytes file) files.now) }
+{
+    let mut paths = Vec::new(alloc);
+    for file in files {
+        paths.push(file.as_str())?;
+    }
+    Ok(paths)
 }
 
 /// Returns what is told beside figures whose command ended with `answer`. It is nothing if each desk was read.

@@ -12,6 +12,7 @@ returns g c =
       map (λ file. string_bytes file) c.deref.result.now,
       length c.deref-2.result.now == 0,
       answer,
+      c.in_ok-desk_paths.ensures,
       c.visit_files-answer.ensures,
       c.graver.ensures ∙ ap (λ further. graver answer further) c.warn_of_names.ensures,
     )

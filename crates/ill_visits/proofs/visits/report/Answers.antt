@@ -1,6 +1,7 @@
 -- Answers the contract of `report` (`src/visits.rt`).
-use Rattle.std.proofs.Common.{ℕ, List, ◌++◌, map, ap, subst, inr, ◌∙◌}
+use Rattle.std.proofs.Common.{ℕ, Bor, List, ◌++◌, map, ap, sym, subst, inr, ◌∙◌}
 use Rattle.std.specs.Prelude.{IfErr, Option, string_bytes, ◌==◌, length}
+use Rattle.ill_files.specs.Folders.{AreFoundAt}
 use Rattle.ill_files.specs.Opening.{after_writing}
 use Rattle.ill_files.specs.Opening.{names_answer}
 use Rattle.ill_text.specs.Output.{WritesText}
@@ -35,4 +36,5 @@ returns g c =
     let result = c.after_writing.ensures ∙ ap (λ answer. after_writing c.end_page.result answer)
     (c.graver-answer.ensures ∙ ap (λ further. graver answer further) c.warn_of_names.ensures
     ∙ ap (λ answer. graver answer (names_answer are_texts)) told.3) in
-    inr (parts, are_texts, c.end_page.result, fault, written, result)
+    let found = subst (AreFoundAt (map (λ (path : Bor (List ℕ)). path.now) c.args.paths.now)) (sym told.1) c.in_ok-found.ensures in
+    inr (parts, are_texts, c.end_page.result, found, fault, written, result)

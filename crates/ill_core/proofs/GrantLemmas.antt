@@ -26,7 +26,7 @@ less p q rest = if p == q then rest else nat_lt p q
 less_is : (p q : ℕ) (rest : Bool) → less p q rest ≡ true → Less p q (rest ≡ true)
 less_is p q rest h = go (p == q) refl h
   where
-    -- The test `p == q` is `same`. It decides which case of `Less` holds.
+    -- `same` is the value of the test `p == q`, and decides which case of `Less` holds.
     go : (same : Bool) → (p == q) ≡ same → (if same then rest else nat_lt p q) ≡ true → Less p q (rest ≡ true)
     go true e h = inr (eqb-true p q e, h)
     go false e h = inl (ltb-true p q h)
@@ -117,7 +117,7 @@ not_before_earlier d c e earlier not_before =
 less_either : (p q r : ℕ) (A B C : Type 0) → (A → B ⊎ C) → Less p r A → (Less p q B) ⊎ (Less q r C)
 less_either p q r A B C either h = go (cases_order p q) h
   where
-    -- It compares `p` with `q`: they are equal, or one is less.
+    -- The first argument compares `p` with `q`: they are equal, or one is less.
     go : (p ≡ q) ⊎ ((p < q) ⊎ (q < p)) → Less p r A → (Less p q B) ⊎ (Less q r C)
     go (inr (inl below)) less = inl (inl below)
     go (inr (inr above)) (inl lt) = inr (inl (omega (arith, above, lt)))
@@ -129,7 +129,7 @@ less_either p q r A B C either h = go (cases_order p q) h
 day_either : (p q r : ℕ) → p < r → (p < q) ⊎ (q < r)
 day_either p q r lt = go (cases_order p q)
   where
-    -- It compares `p` with `q`: they are equal, or one is less.
+    -- The first argument compares `p` with `q`: they are equal, or one is less.
     go : (p ≡ q) ⊎ ((p < q) ⊎ (q < p)) → (p < q) ⊎ (q < r)
     go (inl same) = inr (omega (arith, same, lt))
     go (inr (inl below)) = inl below
@@ -148,7 +148,7 @@ before_later a b c not_before before =
 
 -- ---- the dates that were granted
 
--- If dates rise after `d`, the last of them is not before `d`.
+-- If dates rise after `d`, the last of them is not before `d`. If there are no dates, `d` counts as the last.
 rise_above : (d : Date) (dates : List Date) → rise_from (Some d) dates ≡ true
     → (e : Date) × (last_or (Some d) dates ≡ Some e) × (is_before e d ≡ false)
 unfolding rise_from
@@ -165,7 +165,8 @@ unfolding rise_from
 rise_rest last None dates rises = (last, rises)
 rise_rest last (Some d) dates rises = (Some d, (and_parts _ _ rises).1)
 
--- If `dates` with `o` first rise after `last`, and `o` is `d`, the last one is not before `d`.
+-- Let `dates` with `o` first rise after `last`, and `o` be `d`. Then a last date exists, and is not before `d`. `p`
+-- would be the last if there were no date.
 last_not_before_first : (last : Option Date) (o : Option Date) (dates : List Date) (d : Date) (p : Option Date) → o ≡ Some d
     → rise_from last (cons_option o dates) ≡ true
     → (e : Date) × (last_or p (cons_option o dates) ≡ Some e) × (is_before e d ≡ false)
@@ -184,7 +185,8 @@ last_skips : (o : Option Date) (dates : List Date) (d : Date) (p : Option Date)
 last_skips None dates d p last = last p
 last_skips (Some c) dates d p last = last (Some c)
 
--- If the granted dates rise, the date `d` of the APDU at index `i` is not after the last one.
+-- Let the granted dates rise, and the APDU at index `i` grant `d`. Then a last date exists, and is not before `d`. `p`
+-- would be the last if no date were granted.
 last_is_latest : (last : Option Date) (apdus : List Apdu) (i : ℕ) (a : Apdu) (d : Date) (p : Option Date)
     → rise_from last (filter_map granted_day apdus) ≡ true → slice_get apdus i ≡ Some a
     → granted_day a ≡ Some d → (e : Date) × (last_or p (filter_map granted_day apdus) ≡ Some e) × (is_before e d ≡ false)
@@ -195,7 +197,7 @@ last_is_latest last (b ∷ apdus) (suc i) a d p rises e is =
     let rest = rise_rest last (granted_day b) (filter_map granted_day apdus) rises in
     last_skips (granted_day b) (filter_map granted_day apdus) d p (λ q. last_is_latest rest.0 apdus i a d q rest.1 e is)
 
--- If the granted dates rise, the due date is not before the date that message `n` grants.
+-- If the granted dates rise, and message `n` grants `d`, there is a due date that is not before `d`.
 pub granted_not_later : (apdus : List Apdu) (n : ℕ) (a : Apdu) (d : Date)
     → are_rising (filter_map granted_day apdus) ≡ true → message apdus n ≡ Some a → granted_day a ≡ Some d
     → (e : Date) × (last_of granted_day apdus ≡ Some e) × (is_before e d ≡ false)

@@ -34,8 +34,8 @@ pub numbered_none : (txn : Qualifiers) (number : ℕ) → are_numbered txn numbe
 unfolding are_numbered
 numbered_none txn number = refl
 
--- `are_numbered` of the list from index `i` on is `judged` and its test of the rest. `judged` is its test of the APDU
--- `a` there.
+-- `a` is the APDU at index `i`, and `judged` says that `a` belongs to `txn` and has number `i + 1`. Then `are_numbered`
+-- of the list from index `i` on is `judged` and `are_numbered` of the list after `a`.
 pub numbered_at : (txn : Qualifiers) (apdus : List Apdu) (i : ℕ) (a : Apdu) (judged : Bool) → i < length apdus
     → a ≡ get_or apdus i a
     → judged ≡ (is_same_txn a.txn txn && nat_eq a.number (i + 1))
@@ -172,6 +172,7 @@ pub last_of_more : {X : Type 0} (f : Apdu → Option X) (apdus : List Apdu) (a :
 last_of_more f apdus a x there = ap (last_or None) (found_more f apdus a x there) ∙ last_more None (filter_map f apdus) x
 
 -- If the numbers found before are below `number`, and the APDU has `number`, the number found is below `number + 1`.
+-- `is_one` says that the APDU is of the kind sought.
 number_found : (number a_number m : ℕ) (is_one : Bool) (o : Option ℕ) → a_number ≡ number → ((m : ℕ) → o ≡ Some m → m < number)
     → option_or (if is_one then Some a_number else None) o ≡ Some m → m < number + 1
 number_found number a_number m true o is within found = search rules
@@ -199,11 +200,12 @@ pub last_renew_within : (txn : Qualifiers) (apdus : List Apdu) (n : ℕ) → are
 last_renew_within txn apdus n numbered found = let below : n < 1 + length apdus =
     renew_below txn 1 apdus None n (λ m no. search rules) numbered found in omega (arith, below)
 
--- If two APDUs are equal, their bodies are equal.
+-- If two lists of one APDU each are equal, the bodies of both APDUs are equal.
 same_body : (a b : Apdu) → ◌≡◌ {A = List Apdu} (a ∷ []) (b ∷ []) → a.body ≡ b.body
 same_body a b same = search rules
 
--- If the next APDU of the list is `a`, its body is that of `a`.
+-- Let the list with the next APDU, which has `body`, equal the list with `a` at the end. Then `body` is the body of
+-- `a`.
 pub issued_body : (txn : Qualifiers) (apdus : List Apdu) (body : Body) (a : Apdu)
     → with_next txn apdus body ≡ apdus ++ a ∷ [] → body ≡ a.body
 issued_body txn apdus body a same = same_body (next_apdu txn apdus body) a (append_cancel_left apdus _ _ same)
@@ -212,20 +214,22 @@ issued_body txn apdus body a same = same_body (next_apdu txn apdus body) a (appe
 more_than_itself : (n : ℕ) → n ≡ n + 1 → ⊥
 more_than_itself n h = omega (arith, h)
 
--- No list equals itself with one more APDU.
+-- No list `new` equals both `old` and `old` with one more APDU. If one did, any `P` would hold.
 pub not_longer : {P : Type 0} (old new : List Apdu) (a : Apdu) → new ≡ old → new ≡ old ++ a ∷ [] → P
 not_longer old new a same longer =
     absurd (more_than_itself (length old) (ap length (sym same ∙ longer) ∙ length-append old (a ∷ [])))
 
--- ---- Cancels
+-- ---- messages by their numbers, and Cancels
 
--- If message `n + 1` is old or the new one, so is message `n + 2` after an APDU is put first.
+-- If message `n + 1` is old or the new one, so is message `n + 2` after an APDU is put first. `old` tests an old
+-- message, and `says` the new one. `size` is the number of old messages.
 message_one_further : (says : Bool) (old : Bool) (n size : ℕ) → (old ≡ true) ⊎ ((suc n ≡ size + 1) × (says ≡ true))
     → (old ≡ true) ⊎ ((suc (suc n) ≡ suc size + 1) × (says ≡ true))
 message_one_further says old n size (inl is) = inl is
 message_one_further says old n size (inr (at, is)) = inr (omega (arith, at), is)
 
--- If `says` holds of message `c` after one more APDU, message `c` is an old message or the new one.
+-- If `says` holds of message `c` after APDU `a` is added, it holds of the old message `c`. Or `c` is the next number,
+-- and `says` holds of `a`.
 pub was_more : (says : Body → Bool) (apdus : List Apdu) (a : Apdu) (c : ℕ) → is_message_with says (apdus ++ a ∷ []) c ≡ true
     → (is_message_with says apdus c ≡ true) ⊎ ((c ≡ length apdus + 1) × (says a.body ≡ true))
 was_more says apdus a zero h = search rules
@@ -245,7 +249,8 @@ pub last_cancel_more : (apdus : List Apdu) (a : Apdu) → is_cancel a.body ≡ t
     → last_of number_of_cancel (apdus ++ a ∷ []) ≡ Some a.number
 last_cancel_more apdus a is = last_of_more number_of_cancel apdus a a.number (ap (λ b. if b then Some a.number else None) is)
 
--- If the last Cancel has number `size`, and `c` is not its number, Cancel `c` is old (`old`).
+-- Cancel `c` is old, as `old` says, or has number `size`. If `size` is the number of the last Cancel and `c` is not,
+-- Cancel `c` is old.
 pub older_cancel : (c size : ℕ) (last : Option ℕ) (old : Bool) → last ≡ Some size → is_equal_number c last ≡ false
     → (old ≡ true) ⊎ ((c ≡ size) × (true ≡ true)) → old ≡ true
 older_cancel c size last old is_last other (inl is) = is

@@ -13,7 +13,8 @@ message_further : (apdus : List Apdu) (a b : Apdu) (n : ℕ)
 message_further apdus a b n (inl old) = inl (old.0, omega (arith, old.1))
 message_further apdus a b n (inr new) = inr (omega (arith, new.0), new.1)
 
--- Each message of a list with one more APDU is an old message or the new one.
+-- Let `a` be added to a list. Then message `n` is an old message, and `n` is at most the old length. Or message `n` is
+-- `a`, and `n` is the old length plus 1.
 pub message_more : (apdus : List Apdu) (a b : Apdu) (n : ℕ) → message (apdus ++ a ∷ []) n ≡ Some b
     → ((message apdus n ≡ Some b) × (n ≤ length apdus)) ⊎ ((n ≡ length apdus + 1) × (a ≡ b))
 message_more apdus a b zero there = search rules

@@ -20,7 +20,8 @@ use Rattle.ill_core.specs.RequesterEvidence.{AnswersOnce, replies, replied_numbe
 use Rattle.ill_core.proofs.NumberLemmas.{all_weaker, below_new, at_most_below, distinct_more}
 use Rattle.ill_core.proofs.IssuedLemmas.{found_none, found_more, last_of_more, has_more}
 
--- After a delivery in CONDITIONAL the answered numbers are below the held number, if no conditions were declined.
+-- Let a change to `new` satisfy `Holds`, `new` be in CONDITIONAL, and no conditions be declined. Then the answered
+-- numbers are below the held number.
 held_still : (x new : RequesterRecord) (k : ℕ) → Holds x k new → AnswersOnce x
     → is_among (Conditional ∷ []) new.state ≡ true → has_message_with declines x.issued ≡ false
     → list_all (λ n. is_below n new.held) (replies x.issued) ≡ true

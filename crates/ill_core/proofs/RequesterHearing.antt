@@ -34,7 +34,7 @@ transition : (number : ℕ) (body : Body) (fits : Bool) (here others : Result Ta
     → has_heard (if fits then here else others).1 number body ≡ true
 transition number body fits here others = cond_both fits here others (λ r. has_heard r.1 number body ≡ true)
 
--- The record after an admitted message of a responder would not change if it came again.
+-- The record after an admitted message of a responder would not change if the message came again.
 message_heard : (x : RequesterRecord) (a : Apdu) (body : Body) → is_requesters body ≡ false
     → has_heard (take_message x a body).1 a.number body ≡ true
 message_heard x a (types.IllAnswer results.Conditional) theirs = search rules
@@ -69,7 +69,7 @@ admitted_heard x answer number body true false same own heard = heard
 admitted_heard x answer number body true true same own heard = search rules
 admitted_heard x answer number body false is_own same own heard = search rules
 
--- The record after a responder's message of the transaction would not change if it came again.
+-- The record after a responder's message of the transaction would not change if the message came again.
 pub takes_heard : (x : RequesterRecord) (a : Apdu) → is_same_txn a.txn x.txn ≡ true → is_requesters a.body ≡ false
     → has_heard (takes x a).1 a.number a.body ≡ true
 takes_heard x a same theirs =

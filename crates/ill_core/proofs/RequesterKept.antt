@@ -103,7 +103,8 @@ fits txn Recall held checked_in due issued wishes.Return row h leads =
     (no_more (λ r. FitsWith r.next r.held x r.body) _ row) leads
 fits txn state held checked_in due issued wish row h leads = search rules
 
--- If the state after a transition fits, the record after it satisfies the rules of a requester.
+-- If `row` satisfies `FitsWith`, the record after it satisfies the rules of a requester. `txn` and `issued` are the
+-- transaction and the list of that record.
 pub row_kept : (x : RequesterRecord) (row : Transition) (txn : Qualifiers) (issued : List Apdu) → RequesterRules x
     → FitsWith row.next row.held x row.body
     → txn ≡ x.txn → issued ≡ with_next x.txn x.issued row.body

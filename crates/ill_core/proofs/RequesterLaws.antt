@@ -27,7 +27,7 @@ acts_issue x new wish = of_acts (λ r. IssuesNext x.txn x.issued r.issued) x new
 pub acts_txn : (x new : RequesterRecord) (wish : Wish) → acts x wish ≡ Ok new → new.txn ≡ x.txn
 acts_txn x new wish = of_acts (λ r. r.txn ≡ x.txn) x new wish (λ row there how. refl)
 
--- The record after a wish satisfies the rules of a requester.
+-- If a record satisfies the rules of a requester, so does the record after a wish.
 pub acts_kept : (x new : RequesterRecord) (wish : Wish) → acts x wish ≡ Ok new → IsRequester x → IsRequester new
 acts_kept x new wish = of_acts (λ r. IsRequester x → IsRequester r) x new wish (λ row there how h.
     let rules = requester_rules x h in
@@ -80,7 +80,7 @@ takes_issue x a = (delivery_row x a).issued
 pub takes_txn : (x : RequesterRecord) (a : Apdu) → (takes x a).1.txn ≡ x.txn
 takes_txn x a = (delivery_row x a).txn
 
--- The record after a message satisfies the rules of a requester.
+-- If a record satisfies the rules of a requester, so does the record after a message.
 pub takes_kept : (x : RequesterRecord) (a : Apdu) → IsRequester x → IsRequester (takes x a).1
 takes_kept x a h = is_requester _ ((delivery_row x a).kept (requester_rules x h))
 

@@ -60,8 +60,8 @@ record ReflectsOldOrAttested (x : RequesterRecord) (number : ℕ) (body : Body) 
       → Reflects x (GrantedBefore renew due) ⊎ Attests number body (GrantedBefore renew due)
   past_due : (due : Date) → Reflects new (PastDue due) → Reflects x (PastDue due) ⊎ Attests number body (PastDue due)
 
--- The record after each row of deliveries satisfies `ReflectsOldOrAttested`. A due date is there exactly in SHIPPED or
--- later (`fits`), and the last Renew was issued (`within`).
+-- The record after each row of deliveries satisfies `ReflectsOldOrAttested`. `fits` says that a due date is there
+-- exactly in SHIPPED or later. `within` says that the number of the last Renew is at most the length of the list.
 keeps : (x : RequesterRecord) (number : ℕ) (body : Body) (new : RequesterRecord) → Leads x number body new
     → is_some x.due ≡ is_among later x.state
     → ((n : ℕ) → last_renew x ≡ Some n → n ≤ length x.issued) → ReflectsOldOrAttested x number body new
@@ -109,8 +109,8 @@ takes_reflects x a notice h =
 -- ---- actions
 
 -- The transition of a wish adds no notice that the record reflects. It enters neither RECALL nor an overdue state, and
--- holds or accepts only conditions held before. It issues a Renew exactly if it leads to a state in which this waits.
--- It leaves RECALL, RETURNED and those states only for RECALL or RETURNED.
+-- holds or accepts only conditions held before. It issues a Renew exactly if it leads to a state in which a Renew
+-- waits. It leaves RECALL, RETURNED and the states of a waiting Renew only for RECALL or RETURNED.
 record AddsNoNotice (x : RequesterRecord) (transition : Transition) : Type 0 where
   recalled : transition.next ≡ Recall → x.state ≡ Recall
   held : (c : ℕ) → transition.held ≡ Some c → x.held ≡ Some c
@@ -153,7 +153,7 @@ renew_next x transition is =
     last_of_more number_of_renew x.issued (next_apdu x.txn x.issued transition.body) (length x.issued + 1)
     (ap (λ b. if b then Some (length x.issued + 1) else None) is)
 
--- If a Renew is issued and does not wait after a transition, it was issued before the transition.
+-- A Renew that is in the record after a transition, and does not wait there, was issued before the transition.
 was_before : (x : RequesterRecord) (transition : Transition) (renew : ℕ) → AddsNoNotice x transition
     → is_awaiting_answer (record_after x transition) renew ≡ false
     → (is_message_with is_renew x.issued renew ≡ true) ⊎ ((renew ≡ length x.issued + 1) × (is_renew transition.body ≡ true))

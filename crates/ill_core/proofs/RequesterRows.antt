@@ -36,14 +36,15 @@ use Rattle.ill_core.proofs.IssuedLemmas.{was_more, still_cancel, last_cancel_mor
 use Rattle.ill_core.proofs.TransitionLemmas.{at_transition, few_with_next, is_this, no_more}
 use Rattle.ill_core.proofs.RequesterAnswers.{silent_once, reply_once, held_number}
 
--- No test is both false and true.
+-- No test is both false and true. If one were, any `P` would hold.
 not_both : {P : Type 0} (b : Bool) → b ≡ false → b ≡ true → P
 not_both b is_false is_true = search rules
 
 -- ---- deliveries
 
 -- A row of deliveries gives `answer` to message `k` with `body`. It issues nothing, preserves the rules, and does not
--- lower the due date. The message is evidence of each new claim.
+-- lower the due date. It does not lead back to IDLE, nor out of a final state or out of SHIPPED and later. Only `Taken`
+-- changes the record, and the message is evidence of each new claim.
 pub record Moves (x : RequesterRecord) (k : ℕ) (body : Body) (answer : Result Taking Refusal × RequesterRecord) : Type 0 where
   pub txn : answer.1.txn ≡ x.txn
   pub issued : answer.1.issued ≡ x.issued
@@ -235,7 +236,7 @@ no_more_idle : (next : State) → is_among (Idle ∷ Cancelled ∷ NotSupplied �
 no_more_idle Idle on = search rules
 no_more_idle next on = refl
 
--- A row to none of IDLE, CANCELLED and NOT-SUPPLIED adds no claim, unless it claims a new refusal.
+-- A row to none of IDLE, CANCELLED and NOT-SUPPLIED adds no claim, if it claims no further refusal.
 goes_on : (x : RequesterRecord) (row : Transition) → is_among (Idle ∷ Cancelled ∷ NotSupplied ∷ []) row.next ≡ false
     → ((c : ℕ) → ClaimsRefusal (record_after x row) c → ClaimsRefusal x c) → (fact : Fact)
     → Claims (record_after x row) fact → Claims x fact
@@ -245,12 +246,13 @@ goes_on x row away refused (evidence.Granted due) shown = shown
 goes_on x row away refused (evidence.Refused cancel) shown = refused cancel shown
 goes_on x row away refused evidence.GivenBack shown = shown
 
--- An APDU that answers no conditions is not a Conditional-Reply.
+-- An APDU that answers no conditions is not a Conditional-Reply. If it were one, any `P` would hold.
 no_reply : {P : Type 0} (body : Body) (n : ℕ) (is_yes : Bool) → replied_number body ≡ None
     → body ≡ types.ConditionalReply n is_yes → P
 no_reply body n is_yes silent is = search rules
 
--- A row that answers no conditions satisfies `Issues`, if its states permit it and it claims no new refusal.
+-- A row satisfies `Issues` if it answers no conditions, starts in no final state, and stays in SHIPPED or later. It
+-- must lead to none of IDLE, CONDITIONAL, CANCELLED and NOT-SUPPLIED, and claim no further refusal.
 silent_row : (x : RequesterRecord) (next : State) (body : Body) → replied_number body ≡ None → accepts body ≡ None
     → declines body ≡ false
     → is_among (Conditional ∷ []) next ≡ false → is_among (Idle ∷ Cancelled ∷ NotSupplied ∷ []) next ≡ false
@@ -310,7 +312,8 @@ answers_held x is_yes here undeclined =
       once = λ held once. reply_once x is_yes (unwrap_or x.held 0) (held_number x.held (held ∙ here)) here undeclined once;
     }
 
--- If a requester is in CONDITIONAL and has not declined, its list has no Conditional-Reply no.
+-- If a requester is in CONDITIONAL and has not declined, its list has no Conditional-Reply no. `conditional` says that
+-- the state is CONDITIONAL, `declined` that the list has a Conditional-Reply no.
 undeclined_there : (conditional declined : Bool) → conditional && not (conditional && declined) ≡ true
     → (conditional ≡ true) × (declined ≡ false)
 undeclined_there true false h = (refl, refl)
@@ -357,7 +360,7 @@ wish_row x wishes.Return row =
 ok_is : (x y : RequesterRecord) → ◌≡◌ {A = Result RequesterRecord Refusal} (Ok x) (Ok y) → x ≡ y
 ok_is x y h = search rules
 
--- If `P` holds after each transition found, it holds of the record after a wish.
+-- If `P` holds of the record after the transition `found`, and the wish succeeds with `new`, `P` holds of `new`.
 by_row : (P : RequesterRecord → Type 0) (x new : RequesterRecord) (found : Result Transition Refusal) (number : Result ℕ Refusal)
     → ((row : Transition) → found ≡ Ok row → P (record_after x row)) → acts_by x found number ≡ Ok new → P new
 by_row P x new (Err refusal) number leads acted = search rules

@@ -37,11 +37,12 @@ use Rattle.ill_core.proofs.RequesterRows.{message_row}
 use Rattle.ill_core.proofs.Rules.{requester_rules, is_requester}
 use Rattle.ill_core.proofs.RequesterLaws.{acts_kept}
 
--- Returns the answer that a row gives to an APDU, and the record after it.
+-- Returns the answer that a row gives to an APDU, and the record after it. `row.3` is the effect of the row.
 abbrev pub hit : RequesterRecord → Apdu → Body → Row ResponderKind → Result Taking Refusal × RequesterRecord
 hit x a body row = (Ok (taking_of row.3 x.state), after x row (number_in a body) (date_in body))
 
--- Returns the answer of the rows of a kind, computed by one test after another.
+-- Returns the answer of the first row of the kind that fits, and the record after it. The rows are tested one after
+-- another. Without a kind, or if no row fits, the answer is a conflict.
 abbrev pub tests_of : RequesterRecord → Apdu → Body → Option ResponderKind → Result Taking Refusal × RequesterRecord
 tests_of x a body None = conflict x.state x
 tests_of x a body (Some kind) =
@@ -107,13 +108,15 @@ takes_this x a row is = ap (answer_of (hit x a a.body) (conflict x.state x)) (sy
 pub takes_none : (x : RequesterRecord) (a : Apdu) → delivery_row x a ≡ None → conflict x.state x ≡ take_message x a a.body
 takes_none x a is = ap (answer_of (hit x a a.body) (conflict x.state x)) (sym is) ∙ takes_row x a
 
--- If `row` is the first that fits an APDU, the record after it satisfies the rules of a requester.
+-- Let `x` be a requester's record, and `row` the first that fits an APDU. Then the record after `row` satisfies the
+-- rules of a requester.
 pub takes_kept : (x : RequesterRecord) (a : Apdu) (row : Row ResponderKind) → IsRequester x → delivery_row x a ≡ Some row
     → IsRequester (after x row (number_in a a.body) (date_in a.body))
 takes_kept x a row h is = subst (λ answer. IsRequester answer.1) (sym (takes_this x a row is))
     (is_requester _ ((message_row x a a.body).kept (requester_rules x h)))
 
--- A record with the parts after a row is the record after the row.
+-- Record `x` with `state`, `held`, `checked_in` and `due` is the record after `row`, if these are the parts after
+-- `row`.
 pub after_is : (x : RequesterRecord) (row : Row ResponderKind) (k : ℕ) (date : Option Date) (state : State) (held : Option ℕ)
     (checked_in : Bool) (due : Option Date)
     → state ≡ next_state row.3 x.state → held ≡ held_after row.4 x.held k
@@ -123,7 +126,8 @@ after_is x row k date state held checked_in due s h m d = cc
 
 -- ---- wishes
 
--- Returns the record after a row is followed for a wish, which issues message `k`.
+-- Returns the record after a row is followed for a wish, which issues message `k`. `row.3` is the effect of the row,
+-- and `row.4` are its changes.
 abbrev pub wished : RequesterRecord → Wish → ℕ → Row RequesterKind → RequesterRecord
 wished x wish k row =
     requester_of x.txn (next_state row.3 x.state) (held_after row.4 x.held k) (tables.has_common_bit row.4 MARK || x.checked_in)
@@ -177,7 +181,7 @@ by_this : (x : RequesterRecord) (wish : Wish) (k : ℕ) (row : Row RequesterKind
 by_this x wish k row is = ap (answer_of (λ r. Ok (wished x wish k r)) (Err (refusals.NotNow x.state))) (sym is)
     ∙ wish_rows_say x wish k
 
--- If no row fits a wish, the wish has no transition.
+-- If no row fits a wish, its transition is the refusal `NotNow`.
 by_none : (x : RequesterRecord) (wish : Wish) → wish_row x wish ≡ None
     → Err (refusals.NotNow x.state) ≡ by_transition x (transition_of x wish)
 by_none x wish is = ap (answer_of (λ r. Ok (wished x wish 0 r)) (Err (refusals.NotNow x.state))) (sym is) ∙ wish_rows_say x wish 0
@@ -200,7 +204,7 @@ not_now : (x : RequesterRecord) (found : Result Transition Refusal) (refusal : R
 not_now x (Err other) refusal number is = sym is
 not_now x (Ok transition) refusal number is = search rules
 
--- If `row` fits a wish and a number is left, the wish leads to the record after the row.
+-- Let `row` be the first that fits a wish, and a number be left. Then the wish leads to the record after `row`.
 pub acts_this : (x : RequesterRecord) (wish : Wish) (row : Row RequesterKind) (k n : ℕ) → wish_row x wish ≡ Some row
     → next_number x.issued ≡ Ok n
     → acts x wish ≡ Ok (wished x wish k row)
@@ -208,7 +212,8 @@ acts_this x wish row k n is next =
     ap (acts_by x (transition_of x wish)) next
     ∙ numbered x (wished x wish k row) (transition_of x wish) n (by_this x wish k row is)
 
--- If `row` fits a wish and no number is left, the wish is refused with the refusal of the number.
+-- Let `row` be the first that fits a wish, and no number be left. Then the wish is refused with the refusal of the
+-- number.
 pub acts_used : (x : RequesterRecord) (wish : Wish) (row : Row RequesterKind) (refusal : Refusal)
     → wish_row x wish ≡ Some row → next_number x.issued ≡ Err refusal
     → acts x wish ≡ Err refusal
@@ -225,18 +230,19 @@ has_transition : (x new : RequesterRecord) (found : Result Transition Refusal) �
 has_transition x new (Ok transition) is = search rules
 has_transition x new (Err refusal) is = search rules
 
--- If `row` fits a wish, the wish has a transition.
+-- If `row` is the first that fits a wish, the wish has a transition.
 pub transition_there : (x : RequesterRecord) (wish : Wish) (row : Row RequesterKind) → wish_row x wish ≡ Some row
     → IsOk (transition_of x wish)
 transition_there x wish row is = has_transition x (wished x wish 0 row) (transition_of x wish) (by_this x wish 0 row is)
 
--- If `row` fits a wish and a number is left, the record after it satisfies the rules of a requester.
+-- Let `row` be the first that fits a wish of a requester, and a number be left. Then the record after `row` satisfies
+-- the rules of a requester.
 pub wished_kept : (x : RequesterRecord) (wish : Wish) (row : Row RequesterKind) (k n : ℕ) → IsRequester x
     → wish_row x wish ≡ Some row → next_number x.issued ≡ Ok n
     → IsRequester (wished x wish k row)
 wished_kept x wish row k n h is next = acts_kept x (wished x wish k row) wish (acts_this x wish row k n is next) h
 
--- A record with the parts after a row is the record after the wish.
+-- The record with these six parts is the record after the wish, if they are the parts after `row`.
 pub wished_is : (x : RequesterRecord) (wish : Wish) (row : Row RequesterKind) (k : ℕ) (txn : Qualifiers) (state : State)
     (held : Option ℕ) (checked_in : Bool) (due : Option Date) (issued : List Apdu)
     → (txn ≡ x.txn) → state ≡ next_state row.3 x.state → held ≡ held_after row.4 x.held k
@@ -246,6 +252,7 @@ pub wished_is : (x : RequesterRecord) (wish : Wish) (row : Row RequesterKind) (k
 wished_is x wish row k txn state held checked_in due issued t s h m d i = cc
 
 -- If a wish is refused because no number is left, the requester answers with this refusal. The record does not change.
+-- `few` says that fewer than 255 messages were issued.
 refused_used : (x : RequesterRecord) (wish : Wish) (few : Bool) (refusal : Refusal) → acts x wish ≡ Err refusal
     → (if few then Ok (length x.issued + 1) else Err refusals.NumbersUsed) ≡ Err refusal
     → Acts x wish (Err refusal) x
@@ -253,14 +260,16 @@ refused_used x wish true refusal acted is = search rules
 refused_used x wish false refusals.NumbersUsed acted is = (acted, refl)
 refused_used x wish false refusal acted is = search rules
 
--- If `row` fits a wish and no number is left, the requester answers with the refusal of the number.
+-- Let `row` be the first that fits a wish, and no number be left. Then the requester answers with the refusal of the
+-- number, and the record does not change.
 pub act_used : (x : RequesterRecord) (wish : Wish) (row : Row RequesterKind) (refusal : Refusal)
     → wish_row x wish ≡ Some row → next_number x.issued ≡ Err refusal
     → Acts x wish (Err refusal) x
 act_used x wish row refusal is next =
     refused_used x wish (nat_lt (length x.issued) 255) refusal (acts_used x wish row refusal is next) next
 
--- If `row` fits a wish and a number is left, the requester may answer `OutOfMemory`. The record does not change then.
+-- Let `row` be the first that fits a wish, and a number be left. Then the requester may answer `OutOfMemory`, and the
+-- record does not change.
 pub act_memory : (x : RequesterRecord) (wish : Wish) (row : Row RequesterKind) (n : ℕ) (refusal : Refusal)
     → wish_row x wish ≡ Some row → next_number x.issued ≡ Ok n
     → refusal ≡ refusals.OutOfMemory → Acts x wish (Err refusal) x

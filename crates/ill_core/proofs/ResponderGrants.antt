@@ -98,7 +98,7 @@ first_later apdus body rises none i m n b d e at old new =
     let last = granted_not_later apdus i b d rises at (grant_date b.body m d old) in
     absurd (last_none apdus last.0 none last.1)
 
--- In IN-PROCESS the number of Shipped is 0.
+-- Let `count` be the number of Shipped that the state requires. In IN-PROCESS it is 0.
 pub not_shipped : (state : State) (count : ℕ) → is_among (InProcess ∷ []) state ≡ true
     → count ≡ (if is_among later state then 1 else 0) → count ≡ 0
 not_shipped InProcess count is counted = counted
@@ -116,7 +116,7 @@ passes_rest : (p : ℕ → Bool) (found : Option ℕ) (ns : List ℕ) → list_a
 passes_rest p None ns all = all
 passes_rest p (Some m) ns all = (and_parts _ _ all).1
 
--- If all numbers that `f` finds in a list pass a test, the number in each APDU passes it.
+-- If all numbers that `f` finds in a list pass the test `p`, the one at index `i` passes it.
 found_passes : (f : Apdu → Option ℕ) (p : ℕ → Bool) (apdus : List Apdu) (i m : ℕ) (b : Apdu)
     → list_all p (filter_map f apdus) ≡ true → slice_get apdus i ≡ Some b → f b ≡ Some m → p m ≡ true
 found_passes f p [] i m b all at is = search rules
@@ -146,7 +146,7 @@ grant_most : (apdus : List Apdu) (last : Option ℕ) (i m : ℕ) (b : Apdu)
 grant_most apdus last i m b most at (inl none) = omega (arith, none)
 grant_most apdus last i m b most at (inr is) = at_most_last m last (most_answered apdus last i m b most at is)
 
--- If `d` is not after the due date, and `due` is, then `d` is before `due`.
+-- If `d` is not after the due date `e`, and `due` is after `e`, then `d` is before `due`.
 pub after_granted : (due : Date) (last : Option Date) (e d : Date) → last ≡ Some e → is_before e d ≡ false
     → is_after_due due last ≡ true → is_before d due ≡ true
 after_granted due last e d is not_before after = before_later e d due not_before (ap (is_after_due due) (sym is) ∙ after)
@@ -185,7 +185,7 @@ transition_later y _ (recalls is) h once = none_later y.issued types.Recall refl
 transition_later y _ (checks_in is) h once = none_later y.issued types.CheckedIn refl
 transition_later y _ (expires is) h once = none_later y.issued types.Expired refl
 
--- A deed preserves `GrantsRise`.
+-- A deed preserves `GrantsRise`, if the record satisfies the rules of a responder, and no Renew was answered twice.
 pub acts_rise : (y new : ResponderRecord) (deed : Deed) (today : Date) → acts y deed today ≡ Ok new → IsResponder y
     → AnswersOnce MayRenew y → GrantsRise y.issued → GrantsRise new.issued
 acts_rise y new deed today done h once rise =

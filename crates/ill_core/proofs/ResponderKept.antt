@@ -316,7 +316,8 @@ answer_kept : (y : ResponderRecord) (next : Result ℕ Refusal) → ResponderRul
 answer_kept y (Ok number) h waits = no_kept y h waits
 answer_kept y (Err refusal) h waits = h
 
--- The record after an admitted message satisfies the rules. Each case follows the tests of `take_message`, one by one.
+-- If `y` satisfies the rules, so does the record after an admitted message. Each case follows the tests of
+-- `take_message`, one by one.
 pub message_kept : (y : ResponderRecord) (a : Apdu) (body : Body) → ResponderRules y → is_same_txn a.txn y.txn ≡ true
     → is_ill_request a.body ≡ is_ill_request body → ResponderRules (take_message y a body).1
 message_kept y a (types.IllRequest expiry item) h same is =
@@ -350,21 +351,22 @@ message_kept y a types.Returned h same is =
     transition (is_among (Returned ∷ CheckedIn ∷ []) y.state) _ _ (λ _. h) (λ _. h))
 message_kept y a other h same is = h
 
--- An APDU that is admitted belongs to the transaction.
+-- An APDU that is not refused belongs to the transaction. `same` says that it belongs, and `is_own` that its type is
+-- one of the side's own.
 admitted_same : (same is_own : Bool)
     → (if same then (if is_own then Some WrongRole else None) else Some OtherTransaction) ≡ None → same ≡ true
 admitted_same true is_own h = refl
 admitted_same false is_own h = search rules
 
--- If `y` satisfies the rules, and the record after `answer` does without a refusal, so does that after
--- `unless_refused`.
+-- Let `y` satisfy the rules, and let the record after `answer` do if nothing is refused. Then the record after
+-- `unless_refused` satisfies the rules.
 unless_kept : (refused : Option Refusal) (y : ResponderRecord) (answer : Result Taking Refusal × ResponderRecord)
     → ResponderRules y → (refused ≡ None → ResponderRules answer.1)
     → ResponderRules (unless_refused refused y answer).1
 unless_kept (Some refusal) y answer h admitted = h
 unless_kept None y answer h admitted = admitted refl
 
--- The record after a message satisfies the rules of a responder.
+-- If a record satisfies the rules of a responder, so does the record after a message.
 pub takes_kept : (y : ResponderRecord) (a : Apdu) → IsResponder y → IsResponder (takes y a).1
 takes_kept y a h =
     let rules = responder_rules y h in

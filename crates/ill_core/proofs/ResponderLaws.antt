@@ -91,21 +91,21 @@ request_begins y a asks is =
     unless_begins (first_refusal y.txn (not (is_requesters a.body)) a) y (take_message y a a.body)
     (message_begins y a a.body asks) is
 
--- Outside IDLE a deed does not change the request.
+-- Outside IDLE a deed neither changes the request nor leads back to IDLE.
 pub acts_request : (y new : ResponderRecord) (deed : Deed) (today : Date) → acts y deed today ≡ Ok new → KeepsRequest y new
 acts_request y new deed today = of_acts (KeepsRequest y) y new deed today (λ transition there how begun. (how.on, refl))
 
--- Outside IDLE a message does not change the request.
+-- Outside IDLE a message neither changes the request nor leads back to IDLE.
 pub takes_request : (y : ResponderRecord) (a : Apdu) → KeepsRequest y (takes y a).1
 takes_request y a = of_takes (KeepsRequest y) y a (λ how. how.request) (λ said how begun. (how.on, refl))
 
--- The record after a deed satisfies the rules of a responder.
+-- If a record satisfies the rules of a responder, so does the record after a deed.
 pub acts_kept : (y new : ResponderRecord) (deed : Deed) (today : Date) → acts y deed today ≡ Ok new → IsResponder y
     → IsResponder new
 acts_kept y new deed today = of_acts (λ r. IsResponder y → IsResponder r) y new deed today
     (λ transition is how h. is_responder _ (transition_kept y transition (responder_rules y h) is))
 
--- No test is both false and true.
+-- No test is both false and true. If one were, any `P` would hold.
 pub not_both : {P : Type 0} (b : Bool) → b ≡ false → b ≡ true → P
 not_both b is_false is_true = search rules
 
@@ -259,12 +259,14 @@ takes_keep_last question y a =
     of_takes (λ r. KeepsLast question y r ⊎ TakesNew question a.number a.body y r) y a (λ how. how.asked question)
     (λ said how. inl (issues_keeps question y _ _ how))
 
--- If a question waits only if it waited before, `AnsweredOnce` still holds.
+-- If a question waits only if it waited before, `AnsweredOnce` still holds. `ns` are the answered numbers, and `last`
+-- is the last question.
 each_kept : (ns : List ℕ) (last : Option ℕ) (waited waiting : Bool) → (waiting ≡ true → waited ≡ true)
     → AnsweredOnce ns last waited → AnsweredOnce ns last waiting
 each_kept ns last waited waiting still h = record { distinct = h.distinct; most = h.most; below = λ is. h.below (still is) }
 
--- If a new question has a number above the last one, `AnsweredOnce` still holds.
+-- If a new question has a number above the last one, `AnsweredOnce` still holds. `waited` and `waiting` say that the
+-- last question waits, before and after the new one.
 each_asked : (ns : List ℕ) (last : Option ℕ) (waited waiting : Bool) (n : ℕ) → is_at_most n last ≡ false
     → AnsweredOnce ns last waited → AnsweredOnce ns (Some n) waiting
 each_asked ns last waited waiting n above h =
@@ -279,7 +281,7 @@ each_asked ns last waited waiting n above h =
 most_itself : (n : ℕ) → is_at_most n (Some n) ≡ true
 most_itself n = search rules
 
--- If the last question waits and is answered, `AnsweredOnce` still holds.
+-- If the last question, which has number `n`, waits and is answered, `AnsweredOnce` still holds.
 each_answered : (ns : List ℕ) (n : ℕ) → AnsweredOnce ns (Some n) true → AnsweredOnce (ns ++ n ∷ []) (Some n) false
 each_answered ns n h =
     let below = h.below refl in
@@ -289,13 +291,13 @@ each_answered ns n h =
       below = λ is. search rules;
     }
 
--- If the last question has a number while it waits, `unwrap_or` returns this number.
+-- Let the last question `o` have a number while it waits. If it waits, and `n` is `unwrap_or o 0`, `o` is `n`.
 pub known : (o : Option ℕ) (n : ℕ) (waiting : Bool) → implies waiting (is_some o) ≡ true → waiting ≡ true
     → n ≡ unwrap_or o 0 → o ≡ Some n
 known o n waiting there is same = search rules
 
--- A transition that answers question `o`, or none, preserves `AnsweredOnce`, if the last question has a number while it
--- waits.
+-- A transition preserves `AnsweredOnce`, if the last question has a number while it waits. `o` is the number of the
+-- question that the transition answers, or `None`.
 answer_issued : (question : Question) (y : ResponderRecord) (body : Body) (next : State) (o : Option ℕ)
     → answered_number question body ≡ o → Issues y body next
     → implies (is_question_open question y.state) (is_some (last_asked question y)) ≡ true → AnswersOnce question y
@@ -333,7 +335,7 @@ acts_once question y new deed today done there =
     of_acts (λ r. AnswersOnce question y → AnswersOnce question r) y new deed today
     (λ transition leads how. issues_each question y transition.body transition.next how there) done
 
--- A change that issues nothing preserves `AnswersOnce`.
+-- A change that issues nothing, and satisfies `KeepsLast` or `TakesNew`, preserves `AnswersOnce`.
 moves_each : (question : Question) (y new : ResponderRecord) (number : ℕ) (body : Body) → new.issued ≡ y.issued
     → KeepsLast question y new ⊎ TakesNew question number body y new
     → AnswersOnce question y → AnswersOnce question new

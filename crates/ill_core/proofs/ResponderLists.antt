@@ -117,7 +117,8 @@ ships_none : ships_first [] ≡ true
 unfolding ships_first
 ships_none = refl
 
--- `ships_first` of the list from index `i` on is its test of the APDU there and of the rest.
+-- `ships_first` of the list from index `i` on is its test of the APDU at `i` and of the rest. `shipped` says that this
+-- APDU is a Shipped, and `renewal` that it is a Renew-Answer yes.
 pub ships_at : (shipped renewal : Bool) (apdus : List Apdu) (i : ℕ) (a : Apdu) → i < length apdus → a ≡ get_or apdus i a
     → shipped ≡ is_shipped a.body → renewal ≡ is_renewal a.body
     → ships_first (drop i apdus) ≡ (shipped || (not renewal && ships_first (drop (i + 1) apdus)))
@@ -175,7 +176,7 @@ last_some : {X : Type 0} (o : Option X) (xs : List X) → is_some o ≡ true →
 last_some o [] there = there
 last_some o (x ∷ xs) there = last_some (Some x) xs refl
 
--- If a list has a last value, it has one after any value found before.
+-- If a list has a last value, it has a last value also after a value `o` found before.
 last_any : {X : Type 0} (o : Option X) (xs : List X) → is_some (last_or None xs) ≡ true → is_some (last_or o xs) ≡ true
 last_any o [] there = search rules
 last_any o (x ∷ xs) there = there

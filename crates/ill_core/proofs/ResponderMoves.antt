@@ -51,7 +51,8 @@ transition : (y : ResponderRecord) (number : ℕ) (body : Body) (fits : Bool)
     → Change y number body (if fits then here else others).1
 transition y number body fits here others = cond_both fits here others (λ r. Change y number body r.1)
 
--- If conditions wait for an answer, the state is CONDITIONAL.
+-- If `c` is the number of the conditions that wait for an answer, the state is CONDITIONAL. `size` is this number in
+-- CONDITIONAL.
 waits_conditional : (c : ℕ) (state : State) (size : Option ℕ)
     → is_equal_number c (if is_among (Conditional ∷ []) state then size else None) ≡ true
     → is_among (Conditional ∷ []) state ≡ true
@@ -142,18 +143,21 @@ heard_transition : (number : ℕ) (body : Body) (fits : Bool) (here others : Res
     → IsWithoutEffect number body (if fits then here else others)
 heard_transition number body fits here others = cond_both fits here others (IsWithoutEffect number body)
 
--- The record after a Conditional-Reply no would not change if it came again, with a number left or without one.
+-- The record after a Conditional-Reply no would not change if this message came again. `left` says that a number is
+-- left, and may be true or false.
 no_heard : (y : ResponderRecord) (number c : ℕ) (left : Bool) → nat_lt (length y.issued) 255 ≡ left
     → has_heard (answers_no y (if left then Ok (length y.issued + 1) else Err NumbersUsed)).1 number
     (types.ConditionalReply c false) ≡ true
 no_heard y number c true few = refl
 no_heard y number c false few = or_right (not (is_among undecided y.state)) _ (not_from_false _ few)
 
--- If a Received does not set the received mark now, it would not change the record.
+-- If a Received does not set the received mark now, it would not change the record. `is_later` says that the state is
+-- SHIPPED or later, and `marked` that the mark is set.
 received_heard : (is_later marked : Bool) → is_later && not marked ≡ false → implies is_later marked ≡ true
 received_heard is_later marked none = search rules
 
--- A Renew in neither SHIPPED nor OVERDUE would not change the record.
+-- A Renew in neither SHIPPED nor OVERDUE would not change the record. `above` is the test that its number is at most
+-- that of the last Renew.
 renew_heard : (state : State) (above : Bool) → is_among (Shipped ∷ []) state ≡ false
     → is_among (Overdue ∷ []) state ≡ false → not (is_among (Shipped ∷ Overdue ∷ []) state) || above ≡ true
 renew_heard state above one other = search rules
@@ -199,7 +203,8 @@ is_heard : (number : ℕ) (body : Body) (answer : Result Taking Refusal × Respo
     → has_heard answer.1 number body ≡ true
 is_heard number body answer (hears is) = is
 
--- A message of the transaction, with a type that the other side issues, is admitted.
+-- A message of the transaction, with a type that the other side issues, is admitted. `same` says that it is of the
+-- transaction, and `theirs` that it has a type of the other side.
 not_refused : (same theirs : Bool) (y : ResponderRecord) (answer : Result Taking Refusal × ResponderRecord)
     → same ≡ true → theirs ≡ true
     → unless_refused (if same then (if not theirs then Some WrongRole else None) else Some OtherTransaction) y answer ≡ answer
@@ -207,7 +212,7 @@ not_refused true true y answer here issued = refl
 not_refused false theirs y answer here issued = search rules
 not_refused true false y answer here issued = search rules
 
--- The record after a requester's message of the transaction would not change if it came again.
+-- The record after a requester's message of the transaction would not change if the message came again.
 pub takes_heard : (y : ResponderRecord) (a : Apdu) → is_same_txn a.txn y.txn ≡ true → is_requesters a.body ≡ true
     → has_heard (takes y a).1 a.number a.body ≡ true
 takes_heard y a same theirs =

@@ -66,7 +66,7 @@ OverduesAreInPlace y = OverdueFits y × GrantsBeforeOverdue y.issued
 abbrev IsAfterOverdues : List Apdu → Date → Type 0
 IsAfterOverdues apdus due = AllOverdues (λ day. is_before day due ≡ true) apdus
 
--- ---- days of APDUs
+-- ---- the days and the types of APDUs
 
 -- If `is_overdue_of due` is true of an APDU, it is an Overdue with a date that equals `due`.
 overdue_day : (due : Date) (body : Body) → is_overdue_of due body ≡ true
@@ -155,8 +155,9 @@ dated_stays apdus a none h n b day at is =
     let old = h n b day at is in
     (old.0, due_stays apdus a none ∙ old.1, old.2)
 
--- An APDU with this body may be issued from `y`, and lead to this state. It may neither grant a date nor be an Overdue.
--- It may grant a date after each Overdue, or be an Overdue for the due date.
+-- An APDU with this body may be issued from `y`, and lead to this state. By `says_neither` it neither grants a date nor
+-- is an Overdue, and does not enter `overdue` or leave `reminded`. By `grants` it grants a date after each Overdue, and
+-- leads to no state of `overdue`. By `warns` it is an Overdue for the due date, and leads to a state of `reminded`.
 data Notice (y : ResponderRecord) : Body → State → Type 0 where
   says_neither : (body : Body) (next : State) → grant_in body ≡ None → ((due : Date) → is_overdue_of due body ≡ false)
       → (is_among overdue next ≡ true → is_among overdue y.state ≡ true)
@@ -291,7 +292,7 @@ transition_notice y _ (recalls is) h fits = says_neither _ _ refl (λ due. refl)
 transition_notice y _ (checks_in is) h fits = says_neither _ _ refl (λ due. refl) (λ there. search rules) (λ there. refl)
 transition_notice y _ (expires is) h fits = says_neither _ _ refl (λ due. refl) (λ there. search rules) (λ there. search rules)
 
--- A deed preserves `OverdueFits` and `GrantsBeforeOverdue`.
+-- A deed preserves `OverdueFits` and `GrantsBeforeOverdue`, if the record satisfies the rules of a responder.
 pub acts_overdue : (y new : ResponderRecord) (deed : Deed) (today : Date) → acts y deed today ≡ Ok new → IsResponder y
     → OverdueFits y → GrantsBeforeOverdue y.issued → OverdueFits new × GrantsBeforeOverdue new.issued
 acts_overdue y new deed today done kept h order =

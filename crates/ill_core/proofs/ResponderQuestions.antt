@@ -67,8 +67,8 @@ none_answered : (question : Question) (y : ResponderRecord) (body : Body) (next 
 none_answered question y body next number none =
     ap (is_in number) (found_none (λ a. answered_number question a.body) y.issued (next_apdu y.txn y.issued body) none)
 
--- If a question is answered after a transition, it was asked before it. The last question has a number while it waits,
--- and `o` is the number that the transition answers.
+-- If question `number` was answered in the record after a transition, it was asked in `y`. The last question has a
+-- number while it waits. `o` is the number that the transition answers, or `None`.
 answered_asked : (question : Question) (y : ResponderRecord) (body : Body) (next : State) (number : ℕ) (o : Option ℕ)
     → answered_number question body ≡ o → Issues y body next
     → implies (is_question_open question y.state) (is_some (last_asked question y)) ≡ true
@@ -82,7 +82,8 @@ answered_asked question y body next number (Some m) some how there is =
     (known (last_asked question y) m (is_question_open question y.state) there row.0 row.2)
     (in_more (answers_to question y.issued) m number (sym (ap (is_in number) more) ∙ is))
 
--- If `WasAsked` holds of a question after a transition, it held before. The last question has a number while it waits.
+-- If `WasAsked` holds of a question after a transition, it holds of the question in `y`. The last question has a number
+-- while it waits.
 issues_asked : (question : Question) (y : ResponderRecord) (body : Body) (next : State) (number : ℕ) → Issues y body next
     → implies (is_question_open question y.state) (is_some (last_asked question y)) ≡ true
     → WasAsked question (issues_to y body next) number → WasAsked question y number
@@ -153,7 +154,8 @@ answered_now question apdus a m number names same =
     ap (is_in number) (found_more (λ b. answered_number question b.body) apdus a m names)
     ∙ in_end (answers_to question apdus) m number same
 
--- After a transition the last question may have no answer, or it had one before, or the transition answers it.
+-- One of three cases holds of a transition. The last question may have no answer in the next state, or it needed an
+-- answer in the state before. Or the transition answers it.
 transition_answers : (question : Question) (y : ResponderRecord) (transition : Transition) → IsTransition y transition
     → (is_among (unanswered question) transition.next ≡ true) ⊎
     ((is_among (unanswered question) y.state ≡ false) ⊎
@@ -183,7 +185,7 @@ transition_answers MayRenew y _ (recalls is) = inr (inl (search rules))
 transition_answers MayRenew y _ (checks_in is) = inl refl
 transition_answers MayRenew y _ (expires is) = inr (inl (search rules))
 
--- If a transition changes the last question as `transition_answers` says, it preserves `HasAnsweredLast`.
+-- If one of the three cases of `transition_answers` holds of a transition, the transition preserves `HasAnsweredLast`.
 transition_has_answered : (question : Question) (y : ResponderRecord) (transition : Transition)
     → (is_among (unanswered question) transition.next ≡ true) ⊎
     ((is_among (unanswered question) y.state ≡ false) ⊎
@@ -198,7 +200,7 @@ transition_has_answered question y transition (inr (inr now)) h number last deci
     answered_now question y.issued (next_apdu y.txn y.issued transition.body) (unwrap_or (last_asked question y) 0) number now
     named
 
--- A deed preserves `HasAnsweredLast`.
+-- A deed preserves `HasAnsweredLast`, if the last question has a number while it waits.
 pub acts_has_answered : (question : Question) (y new : ResponderRecord) (deed : Deed) (today : Date) → acts y deed today ≡ Ok new
     → implies (is_question_open question y.state) (is_some (last_asked question y)) ≡ true → HasAnsweredLast question y
     → HasAnsweredLast question new

@@ -288,7 +288,7 @@ takes_quiet y a = row_quiet y a.number a.body (takes y a) (delivery_row y a)
 ok_is : (x y : ResponderRecord) → ◌≡◌ {A = Result ResponderRecord Refusal} (Ok x) (Ok y) → x ≡ y
 ok_is x y h = search rules
 
--- If `P` holds after each transition found, it holds of the record after a deed.
+-- If `P` holds of the record after the transition `found`, and the deed succeeds with `new`, `P` holds of `new`.
 by_transition : (P : ResponderRecord → Type 0) (y new : ResponderRecord) (found : Result Transition Refusal)
     (number : Result ℕ Refusal)
     → ((transition : Transition) → found ≡ Ok transition → P (record_after y transition)) → acts_by y found number ≡ Ok new

@@ -46,12 +46,14 @@ use Rattle.ill_core.proofs.ResponderKept.{message_kept, transition_kept}
 use Rattle.ill_core.proofs.ResponderRows.{of_acts}
 use Rattle.ill_core.proofs.TableLemmas.{answer_of, by_tests, found_by_tests, tests_true}
 
--- Returns the answer that a row gives to an APDU, and the record after it.
+-- Returns the answer that a row gives to an APDU, and the record after it. If the row issues a message and no number is
+-- left, the answer is `NumbersUsed`. `row.3` is the effect of the row, and `row.4` are its changes.
 abbrev pub hit : ResponderRecord → Apdu → Body → Row RequesterKind → Result Taking Refusal × ResponderRecord
 hit y a body row = unless_refused (number_refusal row.4 y.issued) y
     (Ok (taking_of row.3 y.state), after_delivery y a row (number_in a body))
 
--- Returns the answer of the rows of a kind, computed by one test after another.
+-- Returns the answer of the first row of the kind that fits, and the record after it. The rows are tested one after
+-- another. Without a kind, or if no row fits, the answer is a conflict.
 abbrev pub tests_of : ResponderRecord → Apdu → Body → Option RequesterKind → Result Taking Refusal × ResponderRecord
 tests_of y a body None = conflict y.state y
 tests_of y a body (Some kind) =
@@ -150,11 +152,12 @@ new_taken (To next) state is = refl
 new_taken Stay state is = refl
 new_taken other state is = search rules
 
--- Returns true if the row takes no memory, or the message takes memory and the row answers `Taken`.
+-- Returns true if the row takes no memory, or the message takes memory and the row answers `Taken`. `row.3` is the
+-- effect of the row, and `row.4` are its changes.
 abbrev grows_new : ResponderRecord → Body → Row RequesterKind → Bool
 grows_new y body row = implies (is_row_with_memory row.4) (takes_memory y body && is_new row.3)
 
--- Returns true if `grows_new` is true of each row of the kind that contains the state.
+-- Returns true if there is no kind, or `grows_new` is true of each of its rows that contains the state.
 abbrev kind_grows_new : ResponderRecord → Body → Option RequesterKind → Bool
 kind_grows_new y body None = true
 kind_grows_new y body (Some kind) =
@@ -213,7 +216,8 @@ transition_by state None allowed body = Err (refusals.NotNow state)
 transition_by state (Some row) (Err refusal) body = Err refusal
 transition_by state (Some row) (Ok done) body = leads_to (next_state row.3 state) body
 
--- If `found` gives `transition` when the date allows it, and `forbids` when not, it gives `if_allowed` of the two.
+-- Let the row `found` give `transition` if its date is allowed, and the refusal `forbids` if not. Then it gives
+-- `if_allowed` of both for `is_allowed`, the test of the date.
 dated : (state : State) (found : Option (Row ResponderKind)) (is_allowed : Bool) (forbids : Refusal)
     (transition : Result Transition Refusal) (body : Body)
     → transition_by state found (Ok tt) body ≡ transition → transition_by state found (Err forbids) body ≡ Err forbids
@@ -292,7 +296,8 @@ acts_none y deed today is =
     (sym (deeded deed y.state y today)
     ∙ ap (λ found. transition_by y.state found (check_date y deed today) (deed_body y deed)) is)
 
--- If `row` fits a deed, the transition of the deed is that of the row and the date.
+-- If `row` is the first that fits a deed, the row and `allowed` give the transition of the deed. `allowed` is the
+-- result of the check of the date.
 row_transition : (y : ResponderRecord) (deed : Deed) (today : Date) (row : Row ResponderKind) (allowed : Result Unit Refusal)
     → deed_row y.state deed ≡ Some row → check_date y deed today ≡ allowed
     → transition_of y deed today ≡ transition_by y.state (Some row) allowed (deed_body y deed)
@@ -300,7 +305,8 @@ row_transition y deed today row allowed is date =
     sym (deeded deed y.state y today) ∙ (ap (λ found. transition_by y.state found (check_date y deed today) (deed_body y deed)) is
     ∙ ap (λ found. transition_by y.state (Some row) found (deed_body y deed)) date)
 
--- If `row` fits a deed, the row, the date and the number decide the outcome of the deed.
+-- If `row` is the first that fits a deed, the row, `allowed` and `number` decide the outcome of the deed. `allowed` is
+-- the result of the check of the date, and `number` the next number or its refusal.
 acts_by_row : (y : ResponderRecord) (deed : Deed) (today : Date) (row : Row ResponderKind) (allowed : Result Unit Refusal)
     (number : Result ℕ Refusal)
     → deed_row y.state deed ≡ Some row → check_date y deed today ≡ allowed → next_number y.issued ≡ number
@@ -309,7 +315,7 @@ acts_by_row y deed today row allowed number is date next =
     ap (λ transition. acts_by y transition (next_number y.issued)) (row_transition y deed today row allowed is date)
     ∙ ap (acts_by y (transition_by y.state (Some row) allowed (deed_body y deed))) next
 
--- If `row`, the date and a number allow a deed, it leads to the record after the row.
+-- If `row`, the date and a number allow a deed, the deed leads to the record after the row.
 pub acts_this : (y : ResponderRecord) (deed : Deed) (today : Date) (row : Row ResponderKind) (number : ℕ)
     → deed_row y.state deed ≡ Some row → check_date y deed today ≡ Ok tt → next_number y.issued ≡ Ok number
     → acts y deed today ≡ Ok (after_deed y row number (deed_body y deed))
@@ -349,7 +355,7 @@ other_refusal : {T : Type 0} (refused : Result T Refusal) → is_memory refused 
 other_refusal (Err OutOfMemory) other is = search rules
 other_refusal refused other is = search rules
 
--- If `row` fits a deed and its date forbids it, the responder answers with the refusal of the date.
+-- If `row` fits a deed, and the date forbids the deed, the responder answers with the refusal of the date.
 pub acts_forbidden : (y : ResponderRecord) (deed : Deed) (today : Date) (row : Row ResponderKind) (refusal : Refusal)
     → deed_row y.state deed ≡ Some row → check_date y deed today ≡ Err refusal → Acts y deed today (Err refusal) y
 acts_forbidden y deed today row OutOfMemory is date =
@@ -372,7 +378,7 @@ pub acts_wanting : (y : ResponderRecord) (deed : Deed) (today : Date) (row : Row
     → Acts y deed today (Err OutOfMemory) y
 acts_wanting y deed today row number is date next = (subst IsOk (sym (acts_this y deed today row number is date next)) refl, refl)
 
--- The record after a deed satisfies the rules of a responder.
+-- If `y` satisfies the rules of a responder, so does the record after a deed.
 pub deed_kept : (y new : ResponderRecord) (deed : Deed) (today : Date) → IsResponder y → acts y deed today ≡ Ok new
     → IsResponder new
 deed_kept y new deed today h done =

@@ -41,7 +41,7 @@ pub data IsTransition (y : ResponderRecord) : Transition → Type 0 where
   expires : is_among (InProcess ∷ Conditional ∷ []) y.state ≡ true
       → IsTransition y (record { next = NotSupplied; body = types.Expired })
 
--- If `P` holds of a transition whenever its date allows it, `P` holds of each transition that is allowed.
+-- If `P` holds of `here` when `is_allowed` is true, `P` holds of the `transition` that `if_allowed` gives.
 allowed : (P : Transition → Type 0) (is_allowed : Bool) (refusal : Refusal) (here transition : Transition)
     → (is_allowed ≡ true → P here) → if_allowed is_allowed refusal (Ok here) ≡ Ok transition → P transition
 allowed P true refusal here transition there e = subst P (transition_is here transition e) (there refl)

@@ -30,7 +30,8 @@ by_tests state guards hit miss (row ∷ rows) =
     if has_state row.1 state then if_guards_hold row.2 guards (hit row) (by_tests state guards hit miss rows)
     else by_tests state guards hit miss rows
 
--- The test of a guard and of the others at once equals the test of each after the other.
+-- The test of a guard and of the others at once equals the test of each after the other. `is_unasked` says that the row
+-- does not ask for the guard. `holds` and `others` say that the guard and the others hold.
 guard_met : {A : Type 0} (is_unasked holds others : Bool) (hit miss : A)
     → (if (is_unasked || holds) && others then hit else miss)
     ≡ (if is_unasked then (if others then hit else miss) else (if holds then (if others then hit else miss) else miss))
@@ -47,7 +48,7 @@ met_asked asked (f ∷ guards) hit miss =
     ∙ ap (λ others. if bit_and asked f.bit == 0 then others else (if f.holds then others else miss))
     (met_asked asked guards hit miss)
 
--- The test of a row equals the test of its state, followed by the test of its guards.
+-- The test of a row equals the test `is_in` of its state, followed by the test `is_met` of its guards.
 row_fits : {K A : Type 0} (is_in is_met : Bool) (hit : Row K → A) (miss : A) (row : Row K) (others : Option (Row K))
     → answer_of hit miss (if is_in && is_met then Some row else others)
     ≡ (if is_in then (if is_met then hit row else answer_of hit miss others) else answer_of hit miss others)

@@ -12,7 +12,8 @@ use Rattle.ill_core.proofs.IssuedLemmas.{next_of}
 pub transition_is : {R : Type 0} (here row : R) → ◌≡◌ {A = Result R Refusal} (Ok here) (Ok row) → here ≡ row
 transition_is here row e = search rules
 
--- `P` holds of `row`, which a choice gives, if it holds when `here` gives it, and when `others` do.
+-- A choice by `is_here` between `here` and `others` gives `row`. If `P` holds of `row` whenever `here` gives it, and
+-- whenever `others` gives it, `P` holds of `row`.
 pub at_transition : {R : Type 0} (P : R → Type 0) (is_here : Bool) (here others : Result R Refusal) (row : R)
     → (is_here ≡ true → here ≡ Ok row → P row) → (others ≡ Ok row → P row)
     → (if is_here then here else others) ≡ Ok row → P row

@@ -90,16 +90,17 @@ next_number apdus = if nat_lt (length apdus) 255 then Ok (length apdus + 1) else
 abbrev pub next_apdu : Qualifiers → List Apdu → Body → Apdu
 next_apdu txn apdus body = record { txn = txn; number = length apdus + 1; body = body }
 
--- Returns the APDUs with the next one at the end.
+-- Returns the list `apdus` with the next APDU at the end. The next APDU belongs to `txn`, and has the next number and
+-- `body`.
 abbrev pub with_next : Qualifiers → List Apdu → Body → List Apdu
 with_next txn apdus body = apdus ++ next_apdu txn apdus body ∷ []
 
--- The list `new` is `old` with one more APDU, which has the next number.
+-- The list `new` is `old` with one more APDU, which belongs to `txn` and has the next number.
 abbrev pub IssuesNext : Qualifiers → List Apdu → List Apdu → Type 0
 IssuesNext txn old new = (body : Body) × (new ≡ with_next txn old body)
 
--- Returns the refusal that comes before the table: `OtherTransaction`, then `WrongRole`, or else `None`. `is_own` says
--- that the side's own role issues APDUs of this type.
+-- Returns the refusal of APDU `a` before the table is asked, or `None`. The refusal is `OtherTransaction` if `a` is not
+-- of `txn`, and else `WrongRole` if `is_own` is true. `is_own` says that the side's own role issues APDUs of this type.
 abbrev pub first_refusal : Qualifiers → Bool → Apdu → Option Refusal
 first_refusal txn is_own a =
     if is_same_txn a.txn txn then (if is_own then Some WrongRole else None)

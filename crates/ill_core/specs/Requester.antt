@@ -85,8 +85,8 @@ parts_fit state is_held is_due is_marked =
     && (are_alike is_due (is_among later state)
     && implies is_marked (is_among (Returned ∷ []) state)))
 
--- Returns true if a Received in the list fits `state`. RECEIVED, RENEW/PENDING, OVERDUE, RENEW/OVERDUE and RETURNED
--- require one. Beside these, only RECALL permits one.
+-- Returns true if `has_received`, which says that the list has a Received, fits `state`. RECEIVED, RENEW/PENDING,
+-- OVERDUE, RENEW/OVERDUE and RETURNED require a Received. Beside these states, only RECALL permits one.
 abbrev pub received_fits : State → Bool → Bool
 received_fits state has_received =
     implies (is_among (Received ∷ RenewPending ∷ Overdue ∷ RenewOverdue ∷ Returned ∷ []) state)

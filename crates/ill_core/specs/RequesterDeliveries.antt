@@ -120,7 +120,8 @@ take_answer x k results.WillSupply = take_promise x
 take_answer x k results.HoldPlaced = take_promise x
 take_answer x k other = take_end x
 
--- Returns the answer of a requester to an APDU of a responder, and the record after it.
+-- Returns the answer of requester `x` to APDU `a` of a responder, and the record after it. The third argument is the
+-- body of `a`.
 abbrev pub take_message : RequesterRecord → Apdu → Body → Result Taking Refusal × RequesterRecord
 take_message x a (types.IllAnswer answer) = take_answer x a.number answer
 take_message x a types.Expired = take_end x

@@ -44,13 +44,18 @@ is_due_after day (Some due) = is_before day due
 -- The record `x` reflects the notice.
 abbrev pub Reflects : RequesterRecord → Notice → Type 0
 Reflects x Recalled = x.state ≡ states.Recall
+-- The conditions are held, or were accepted last.
 Reflects x (Named conditions) = (x.held ≡ Some conditions) ⊎ (accepted_number x ≡ Some conditions)
+-- The requester issued Renew `renew`, which waits no longer. The state is neither RECALL nor RETURNED, and the due date
+-- is not after `day`.
 Reflects x (Answered renew day) =
     (is_message_with is_renew x.issued renew ≡ true)
     × (is_among (states.Recall ∷ states.Returned ∷ []) x.state ≡ false)
     × (is_awaiting_answer x renew ≡ false) × (is_due_after day x.due ≡ false)
+-- The due date is `due`. Renew `renew` waits for its answer, or is not issued yet.
 Reflects x (GrantedBefore renew due) =
     (x.due ≡ Some due) × ((is_awaiting_answer x renew ≡ true) ⊎ (length x.issued < renew))
+-- The due date is `due`, and the state says that the item is overdue.
 Reflects x (PastDue due) =
     (x.due ≡ Some due)
     × (is_among (states.NotReceivedOverdue ∷ states.Overdue ∷ states.RenewOverdue ∷ []) x.state ≡ true)
@@ -59,9 +64,11 @@ Reflects x (PastDue due) =
 abbrev pub Attests : ℕ → Body → Notice → Type 0
 Attests number types.Recall Recalled = Unit {0}
 Attests number (types.IllAnswer results.Conditional) (Named conditions) = number ≡ conditions
+-- The APDU answers Renew `renew`, and grants no date after `day`.
 Attests number (types.RenewAnswer answers granted) (Answered renew day) =
     (answers ≡ renew) × (is_due_after day granted ≡ false)
 Attests number (types.Shipped granted) (GrantedBefore renew due) = granted ≡ due
+-- The APDU grants `due`, and answers a Renew with a number below `renew`.
 Attests number (types.RenewAnswer answers (Some granted)) (GrantedBefore renew due) =
     (granted ≡ due) × (answers < renew)
 Attests number (types.Overdue day) (PastDue due) = day ≡ due

@@ -27,11 +27,12 @@ use Rattle.ill_core.specs.Requester.{RequesterRecord, accepted_number, is_declin
 abbrev pub held_after : ℕ → Option ℕ → ℕ → Option ℕ
 held_after changes held k = if has_common_bit changes HOLDS then Some k else (if has_common_bit changes FREES then None else held)
 
--- Returns the due date after a row with `changes` is followed for `date`.
+-- Returns the due date after a row with `changes` is followed: `date` if `changes` has `DUE`, and else `due`.
 abbrev pub due_after : ℕ → Option Date → Option Date → Option Date
 due_after changes due date = if has_common_bit changes DUE then date else due
 
--- Returns the record after a row is followed for message `k` with `date`.
+-- Returns the record after a row is followed for message `k` with `date`. `row.3` is the effect of the row, and `row.4`
+-- are its changes.
 abbrev pub after : {K : Type 0} → RequesterRecord → Row K → ℕ → Option Date → RequesterRecord
 after x row k date =
     record x {
@@ -46,26 +47,27 @@ abbrev pub is_dated : (Date → Bool) → Option Date → Bool
 is_dated f None = false
 is_dated f (Some d) = f d
 
--- Returns the guards on the conditions of message `k`: `k` is at most the accepted number, or `k` is held.
+-- Returns two guards on the conditions of message `k`. One is that `k` is at most the accepted number, the other that
+-- `k` is held.
 abbrev pub number_guards : RequesterRecord → ℕ → List Guard
 number_guards x k =
     record { bit = delivery.PASSED; holds = is_at_most k (accepted_number x) }
     ∷ record { bit = delivery.HELD; holds = is_equal_number k x.held } ∷ []
 
--- Returns the guards on an answer to message `c`: `c` is the last Cancel, or `c` is any Cancel.
+-- Returns two guards on an answer to message `c`. One is that `c` is the last Cancel, the other that `c` is any Cancel.
 abbrev pub cancel_guards : RequesterRecord → ℕ → List Guard
 cancel_guards x c =
     record { bit = delivery.LAST_CANCEL; holds = is_equal_number c (last_cancel x) }
     ∷ record { bit = delivery.WAS_CANCEL; holds = is_message_with is_cancel x.issued c } ∷ []
 
--- Returns the guards on an answer to message `c`: `c` is the last Renew, or `c` is any Renew.
+-- Returns two guards on an answer to message `c`. One is that `c` is the last Renew, the other that `c` is any Renew.
 abbrev pub renew_guards : RequesterRecord → ℕ → List Guard
 renew_guards x c =
     record { bit = delivery.LAST_RENEW; holds = is_equal_number c (last_renew x) }
     ∷ record { bit = delivery.WAS_RENEW; holds = is_message_with is_renew x.issued c } ∷ []
 
--- Returns the guards on `date`: it is not the due date, or it is later. The last guard is that the checked-in mark is
--- not set.
+-- Returns three guards. Two are on `date`: it is not the due date, and it is after the due date. The third is that the
+-- checked-in mark is not set.
 abbrev pub due_guards : RequesterRecord → Option Date → List Guard
 due_guards x date =
     record { bit = delivery.NOT_DUE; holds = not (is_dated (λ d. is_due_on d x.due) date) }
@@ -101,8 +103,8 @@ wish_body x wishes.Receive = types.Received
 wish_body x (wishes.Renew wished) = types.Renew wished
 wish_body x wishes.Return = types.Returned
 
--- Returns the guards that rows of wishes may ask for. The conditions were not declined, no Received was issued, or a
--- Received was issued.
+-- Returns the three guards for which rows of wishes may ask. They are that no conditions were declined, that no
+-- Received was issued, and that a Received was issued.
 abbrev pub wish_guards : RequesterRecord → List Guard
 wish_guards x =
     record { bit = wish.UNDECLINED; holds = not (is_declined x) }

@@ -89,7 +89,7 @@ abbrev pub is_after_last : Option Date → Option Date → Bool
 is_after_last last None = true
 is_after_last last (Some d) = not (is_some last) || is_after_due d last
 
--- Returns true if each date is after the one before it, and the first date is after `last`.
+-- Returns true if each date is after the one before it. If there is a `last`, the first date must be after `last`.
 unfoldable pub rise_from : Option Date → List Date → Bool
 rise_from last [] = true
 rise_from last (d ∷ dates) = is_after_last last (Some d) && rise_from (Some d) dates

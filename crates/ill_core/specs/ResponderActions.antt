@@ -35,7 +35,8 @@ leads_to next body = Ok (record { next = next; body = body })
 abbrev pub not_now : ResponderRecord → Result Transition Refusal
 not_now y = Err (refusals.NotNow y.state)
 
--- Returns `transition` if its date allows it, and else `refusal`.
+-- Returns `transition` if the first argument is true, and else `refusal`. The first argument says that a date allows
+-- the deed.
 abbrev pub if_allowed : Bool → Refusal → Result Transition Refusal → Result Transition Refusal
 if_allowed true refusal transition = transition
 if_allowed false refusal transition = Err refusal
@@ -86,7 +87,7 @@ renew_answer_transition y granted =
     else if is_among (RenewOverdue ∷ []) y.state then renewal_transition y Overdue granted
     else not_now y
 
--- Returns the date that replaces an absent date.
+-- Returns the date that stands for an absent due date: its year, month and day are 0.
 abbrev pub no_date : Date
 no_date = record { year = 0; month = 0; day = 0 }
 

@@ -85,7 +85,8 @@ take_returned y =
     else if is_among (Returned ∷ CheckedIn ∷ []) y.state then repeat y
     else conflict y.state y
 
--- Returns the answer of a responder to an APDU of a requester, and the record after it.
+-- Returns the answer of responder `y` to APDU `a` of a requester, and the record after it. The third argument is the
+-- body of `a`.
 abbrev pub take_message : ResponderRecord → Apdu → Body → Result Taking Refusal × ResponderRecord
 take_message y a (types.IllRequest expiry item) = take_request y a
 take_message y a (types.ConditionalReply c true) = take_yes y c

@@ -57,7 +57,8 @@ KeepsRequest y new =
     is_among (Idle ∷ []) y.state ≡ false →
     (is_among (Idle ∷ []) new.state ≡ false) × (new.request ≡ y.request)
 
--- A message issues nothing. A Conditional-Reply no may issue one ILL-Answer unfilled.
+-- A message with `body` changes `y` to `new`, and issues nothing. Only a Conditional-Reply no may issue one ILL-Answer
+-- unfilled.
 abbrev pub IssuesUnfilled : ResponderRecord → Body → ResponderRecord → Type 0
 IssuesUnfilled y body new =
     (new.issued ≡ y.issued) ⊎ ((declines body ≡ true)
@@ -82,7 +83,8 @@ ends_in body state =
     || ((is_cancelled body && is_among (Cancelled ∷ []) state)
     || (is_shipped body && is_among later state))
 
--- An APDU that ends the request is issued only while the request is open, and leads to its own state.
+-- If an APDU that ends the request is issued from `y` to `new`, the request was open in `y`. The state of `new` is one
+-- to which this end leads.
 abbrev pub Ends : ResponderRecord → ResponderRecord → Type 0
 Ends y new =
     (a : Apdu) → new.issued ≡ y.issued ++ a ∷ [] → is_end a.body ≡ true
@@ -105,7 +107,9 @@ pub record EndsOnce (y : ResponderRecord) : Type 0 where
 
 -- A question that the requester asks and the responder answers with yes or no.
 pub data Question : Type 0 where
+  -- A Cancel asks this question, and a Cancel-Reply answers it.
   MayCancel : Question
+  -- A Renew asks this question, and a Renew-Answer answers it.
   MayRenew : Question
 
 -- Returns true if the APDU asks the question.
@@ -129,15 +133,16 @@ abbrev pub is_question_open : Question → State → Bool
 is_question_open MayCancel state = is_among (CancelPending ∷ []) state
 is_question_open MayRenew state = is_among (RenewPending ∷ RenewOverdue ∷ []) state
 
--- A question is answered only while it waits, and waits no longer afterwards. The answer has the number of the last
--- question taken of this kind.
+-- A question that is answered from `y` to `new` waits in `y`, and waits no longer in `new`. The answer has the number
+-- of the last question of this kind that was taken.
 abbrev pub AnswersLast : Question → ResponderRecord → ResponderRecord → Type 0
 AnswersLast question y new =
     (a : Apdu) (n : ℕ) → new.issued ≡ y.issued ++ a ∷ [] → answered_number question a.body ≡ Some n
     → (is_question_open question y.state ≡ true) × (is_question_open question new.state ≡ false)
     × (n ≡ unwrap_or (last_asked question y) 0)
 
--- The last question is unchanged, and none waits in `new` that did not wait in `y`.
+-- The last Cancel or Renew, as `question` says, is unchanged. In `new` a question of this kind waits only if one waited
+-- in `y`.
 abbrev pub KeepsLast : Question → ResponderRecord → ResponderRecord → Type 0
 KeepsLast question y new =
     (last_asked question new ≡ last_asked question y)

@@ -39,7 +39,7 @@ HasAnsweredLast question y =
     (number : ℕ) → last_asked question y ≡ Some number → is_among (unanswered question) y.state ≡ false →
     has_answered question y number ≡ true
 
--- ---- the order of what was issued
+-- ---- recalls, granted dates and overdues, and their order
 
 -- Returns true if the APDU is a Recall.
 abbrev pub is_recall : Body → Bool
@@ -79,8 +79,9 @@ abbrev pub is_overdue_of : Date → Body → Bool
 is_overdue_of due (types.Overdue day) = is_same_day day due
 is_overdue_of due other = false
 
--- No Overdue has a date after the due date. In OVERDUE and RENEW/OVERDUE the list has an Overdue for the due date. If
--- the list has one, the state is OVERDUE, RENEW/OVERDUE, RECALL, RETURNED or CHECKED-IN.
+-- If the list has an Overdue, there is a due date. The date of an Overdue is not after the due date. In OVERDUE and
+-- RENEW/OVERDUE the list has an Overdue for the due date. If the list has an Overdue for the due date, the state is
+-- OVERDUE, RENEW/OVERDUE, RECALL, RETURNED or CHECKED-IN.
 pub record OverdueFits (y : ResponderRecord) : Type 0 where
   pub dated : (n : ℕ) (a : Apdu) (day : Date) → message y.issued n ≡ Some a → a.body ≡ types.Overdue day →
       (due : Date) × (due_of y ≡ Some due) × (is_before due day ≡ false)

@@ -33,7 +33,8 @@ use Rattle.ill_core.specs.ResponderActions.{no_date, expiry_of}
 abbrev pub number_after : ℕ → ℕ → Option ℕ → ℕ → Option ℕ
 number_after bit changes last k = if has_common_bit changes bit then Some k else last
 
--- Returns the record after a row is followed for message `k`, except for the request and the list.
+-- Returns record `y` after `row` is followed for message `k`. The request and the list are still those of `y`. `row.3`
+-- is the effect of the row, and `row.4` are its changes.
 abbrev pub after : {K : Type 0} → ResponderRecord → Row K → ℕ → ResponderRecord
 after y row k =
     record y {
@@ -55,7 +56,8 @@ abbrev pub issued_after : ℕ → Qualifiers → List Apdu → List Apdu
 issued_after changes txn issued =
     if has_common_bit changes ENDS then with_next txn issued (types.IllAnswer Unfilled) else issued
 
--- Returns the record after `row` is followed for APDU `a`, which has number `k` for the row.
+-- Returns the record after `row` is followed for APDU `a`, which has number `k` for the row. `row.4` are the changes of
+-- the row.
 abbrev pub after_delivery : ResponderRecord → Apdu → Row RequesterKind → ℕ → ResponderRecord
 after_delivery y a row k =
     record (after y row k) {
@@ -90,8 +92,8 @@ reply_guards y c =
     ∷ record { bit = delivery.ACCEPTED; holds = is_equal_number c y.accepted }
     ∷ record { bit = delivery.WAS_CONDITIONAL; holds = is_message_with names_conditions y.issued c } ∷ []
 
--- Returns the guards on a message with number `n`: `n` is at most the last Cancel, or the last Renew. The last guard is
--- that the received mark is not set.
+-- Returns three guards on a message with number `n`. Two are that `n` is at most the last Cancel, and at most the last
+-- Renew. The third is that the received mark is not set.
 abbrev pub past_guards : ResponderRecord → ℕ → List Guard
 past_guards y n =
     record { bit = delivery.PAST_CANCEL; holds = is_at_most n y.last_cancel }

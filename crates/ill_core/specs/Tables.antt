@@ -45,6 +45,7 @@ pub record Guard : Type 0 where
 abbrev pub are_met : ℕ → List Guard → Bool
 are_met asked guards = list_all (λ f. (bit_and asked f.bit == 0) || f.holds) guards
 
--- Returns true if `row` contains `state`, and all guards that it asks for hold.
+-- Returns true if the states of `row` contain `state`, and all guards that `row` asks for hold. `row.1` is the mask of
+-- its states, and `row.2` the mask of its guards.
 abbrev pub fits : {K : Type 0} → State → List Guard → Row K → Bool
 fits state guards row = has_state row.1 state && are_met row.2 guards

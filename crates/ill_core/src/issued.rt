@@ -92,7 +92,7 @@ impl Issued {
         &self.txn
     }
 
-    /// Returns the APDUs, in their order.
+    /// Returns the APDUs, in their order. They are at most 255, and the n-th has number n.
     pub fn apdus(&self) -> &[Apdu]
         ensures value { result.now ≡ self.now.apdus }
         ensures numbered { are_numbered self.now.txn 1 self.now.apdus ≡ true }
@@ -162,7 +162,7 @@ impl Issued {
             .ok_or(Refusal::NumbersUsed)
     }
 
-    /// Appends the next APDU, with `number` and `body`. If memory runs out, nothing changes.
+    /// Appends an APDU with `body` and `number`, which must be the next number. If memory runs out, nothing changes.
     #[tactic(auto, using(crate::proofs::IssuedLemmas::numbered_issue, crate::proofs::IssuedLemmas::last_of_next))]
     pub fn issue(&mut self, alloc: Global, number: Number, body: Body) -> Result<(), Refusal>
         requires next { next_number self.old.apdus ≡ Ok number }
@@ -178,7 +178,8 @@ impl Issued {
         Ok(())
     }
 
-    /// Refuses an APDU of another transaction, and then one of a type that this role issues, if `is_own` says so.
+    /// Refuses an APDU of another transaction, and else an APDU for which `is_own` is true. `is_own` says that this
+    /// side's role issues APDUs of this type.
     pub fn admit(&self, apdu: &Apdu, is_own: bool) -> Result<(), Refusal>
         ensures { Admits (first_refusal self.now.txn is_own apdu.now) result }
     {
@@ -204,7 +205,7 @@ fn last_granted(apdus: &[Apdu]) -> Option<Day>
     last
 }
 
-/// Returns true if each APDU belongs to `txn`, and the n-th has number n.
+/// Returns true if each APDU belongs to `txn`, and the n-th has number n. There are then at most 255.
 pub fn are_numbered(txn: &TxnId, apdus: &[Apdu]) -> bool
     ensures value { result ≡ are_numbered txn.now 1 apdus.now }
     ensures few { result ≡ true → length apdus.now ≤ 255 }
@@ -217,7 +218,7 @@ pub fn are_numbered(txn: &TxnId, apdus: &[Apdu]) -> bool
     true
 }
 
-/// Returns true if the APDU belongs to `txn` and has this number.
+/// Returns true if the APDU belongs to `txn` and has this number. The number is then at most 255.
 fn is_message(apdu: &Apdu, txn: &TxnId, number: usize) -> bool
     ensures value { result ≡ (is_same_txn apdu.now.txn txn.now && (apdu.now.number == number)) }
     ensures few { result ≡ true → number ≤ 255 }

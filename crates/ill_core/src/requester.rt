@@ -1,4 +1,4 @@
-//! Defines the requester.
+//! Defines the requester: its record, its wishes and its answers to messages.
 
 mod actions;
 mod deliveries;
@@ -140,8 +140,8 @@ impl Requester {
         })
     }
 
-    /// Restores `standing` and the first `count` messages, if they satisfy the rules together. Otherwise it returns
-    /// `false`, and nothing changes.
+    /// Restores `standing` and the first `count` messages, and returns true, if they satisfy the rules together.
+    /// Otherwise it returns false, and nothing changes.
     pub fn go_back(&mut self, standing: Standing, count: u8) -> bool
         ensures fits { (result ≡ true) ↔ IsRequester (back_to standing count self.old) }
         ensures back { self.new ≡ (if result then back_to standing count self.old else self.old) }
@@ -211,7 +211,7 @@ impl Requester {
         self.standing.state
     }
 
-    /// Returns the day on which the item is due, or `None` before SHIPPED.
+    /// Returns the day on which the item is due, or `None` if it was not shipped.
     pub fn due(&self) -> Option<Day>
         ensures { result ≡ self.now.due }
     {

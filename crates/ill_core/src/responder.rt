@@ -1,4 +1,4 @@
-//! Defines the responder.
+//! Defines the responder: its record, its deeds and its answers to messages.
 
 mod actions;
 mod deliveries;
@@ -157,8 +157,8 @@ impl Responder {
         })
     }
 
-    /// Restores `standing` and the first `count` messages, if they satisfy the rules together. Otherwise it returns
-    /// `false`, and nothing changes. In IDLE the request is dropped.
+    /// Restores `standing` and the first `count` messages, and returns true, if they satisfy the rules together. In
+    /// IDLE the request is dropped. Otherwise it returns false, and nothing changes.
     pub fn go_back(&mut self, standing: Standing, count: u8) -> bool
         ensures fits { (result ≡ true) ↔ IsResponder (back_to standing count self.old) }
         ensures back { self.new ≡ (if result then back_to standing count self.old else self.old) }
@@ -234,8 +234,8 @@ impl Responder {
         self.standing.state
     }
 
-    /// Returns the day on which the item is due, or `None` before SHIPPED. It is the date of the last Shipped or
-    /// Renew-Answer yes.
+    /// Returns the day on which the item is due, or `None` if it was not shipped. The day is the date of the last
+    /// Shipped or Renew-Answer yes.
     pub fn due(&self) -> Option<Day>
         ensures { result ≡ due_of self.now }
     {

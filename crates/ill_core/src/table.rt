@@ -8,7 +8,8 @@ ghost use Rattle.ill_core.specs.Tables.{Guard, are_met, has_state, fits, taking_
 use crate::state::State;
 use crate::taking::Taking;
 
-/// A row: the kind of action or message, its states, its guards, its effect, and its changes beside the state.
+/// A row: the kind of action or message, its states, its guards, its effect, and its changes beside the state. They are
+/// `row.0` to `row.4`.
 ///
 /// Bit i of the states is variant i of `State`, from 0. Each role names the bits of its guards and of its changes. The
 /// rows of a kind are adjacent, and the first of them that fits decides.

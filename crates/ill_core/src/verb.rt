@@ -42,7 +42,7 @@ pub enum Verb {
     Expire,
 }
 
-/// Lists all verbs.
+/// Lists all verbs, in the order of the variants.
 const VERBS: [Verb; 14] = [
     Verb::Request,
     Verb::Cancel,

@@ -116,8 +116,9 @@ pub fn requester_answers_once()
     ensures takes { (x : RequesterRecord) (a : Apdu) → AnswersOnce x → AnswersOnce (takes x a).1 }
 {}
 
-/// A message of the transaction that ends the request leads to the state of this end, if possible. Shipped leads to
-/// SHIPPED or later, an end without the item to NOT-SUPPLIED. A yes to the last Cancel leads to CANCELLED.
+/// Let a message of the transaction end the request. From an open state a Shipped leads to SHIPPED or later, and an end
+/// without the item to NOT-SUPPLIED. A yes to the last Cancel leads from CANCEL-PENDING to CANCELLED. A requester
+/// already in the state of this end stays there.
 pub fn requester_follows()
     ensures shipped { (x : RequesterRecord) (a : Apdu) (due : Date) →
         is_same_txn a.txn x.txn ≡ true → a.body ≡ types.Shipped due →

@@ -126,7 +126,8 @@ pub fn responder_keeps_last()
         KeepsLast question y (takes y a).1 ⊎ TakesNew question a.number a.body y (takes y a).1 }
 {}
 
-/// A deed or a message preserves this: no Cancel and no Renew is answered twice. The one that waits has a number.
+/// A deed or a message preserves this: no Cancel and no Renew is answered twice. Before a deed, a Cancel or Renew that
+/// waits has a number.
 pub fn responder_answers_once()
     ensures acts { (question : Question) (y new : ResponderRecord) (deed : Deed) (today : Date) →
         acts y deed today ≡ Ok new →
@@ -154,7 +155,8 @@ pub fn responder_follows()
         LeadsTo (states.Returned ∷ states.CheckedIn ∷ []) (takes y a) }
 {}
 
-/// Each Cancel or Renew that a record has after a message was there before, or is this message. A deed adds none.
+/// Each Cancel or Renew that a record has after a message was there before, or is this message. A deed adds none, if a
+/// Cancel or Renew that waits has a number.
 pub fn responder_was_asked()
     ensures acts { (question : Question) (y new : ResponderRecord) (deed : Deed) (today : Date) (number : ℕ) →
         acts y deed today ≡ Ok new →
@@ -166,7 +168,7 @@ pub fn responder_was_asked()
 {}
 
 /// A deed or a message preserves this: the last Cancel and the last Renew were answered. They may also wait, or the
-/// item came back.
+/// item came back. Before a deed, a Cancel or Renew that waits has a number.
 pub fn responder_has_answered_last()
     ensures acts { (question : Question) (y new : ResponderRecord) (deed : Deed) (today : Date) →
         acts y deed today ≡ Ok new →
@@ -186,7 +188,8 @@ pub fn responder_recalls()
 {}
 
 /// A deed or a message preserves this: each Overdue is issued after the APDU that grants its date. A record with an
-/// Overdue for the due date is in OVERDUE, RENEW/OVERDUE, RECALL, RETURNED or CHECKED-IN.
+/// Overdue for the due date is in OVERDUE, RENEW/OVERDUE, RECALL, RETURNED or CHECKED-IN. Before a deed, the record
+/// satisfies the rules of a responder.
 pub fn responder_is_overdue()
     ensures acts { (y new : ResponderRecord) (deed : Deed) (today : Date) → acts y deed today ≡ Ok new →
         IsResponder y → OverdueFits y → GrantsBeforeOverdue y.issued →
@@ -195,7 +198,8 @@ pub fn responder_is_overdue()
         OverdueFits (takes y a).1 × GrantsBeforeOverdue (takes y a).1.issued }
 {}
 
-/// A deed or a message preserves this: the granted dates rise with the numbers of the Renews that they answer.
+/// A deed or a message preserves this: the granted dates rise with the numbers of the Renews that they answer. Before a
+/// deed, the record satisfies the rules of a responder, and no Renew was answered twice.
 pub fn responder_grants_rise()
     ensures acts { (y new : ResponderRecord) (deed : Deed) (today : Date) → acts y deed today ≡ Ok new →
         IsResponder y → AnswersOnce MayRenew y → GrantsRise y.issued → GrantsRise new.issued }

@@ -32,7 +32,8 @@ const NOT_HERE: u16 = 1 << 2; // No Received was issued.
 // Sets of states. In `KEPT` the requester has the item, and no Recall was taken.
 const KEPT: u16 = RECEIVED | RENEW_PENDING | OVERDUE | RENEW_OVERDUE;
 
-/// Lists the rows of wishes, ordered by kind. Within a kind, the first row that fits decides.
+/// Lists the rows of wishes, ordered by kind. Each has its kind, states, guards, effect and changes. Within a kind, the
+/// first row that fits decides.
 const ROWS: [Row<Kind>; 11] = [
     Row(Kind::Request, IDLE, NONE, To(Pending), NONE),
     Row(Kind::Yes, CONDITIONAL, UNDECLINED, To(Pending), FREES),
@@ -101,7 +102,8 @@ impl Guards for Requester {
     }
 }
 
-/// Returns the body of the APDU that a wish with a transition issues.
+/// Returns the body of the APDU that a wish with a transition issues. Fails with `OutOfMemory` if its item cannot be
+/// copied.
 pub fn body_of(requester: &Requester, alloc: Global, wish: &Wish) -> Result<Body, Refusal>
     requires done { IsOk (transition_of requester.now wish.now) }
     ensures value { IfOk result (λ body. body ≡ wish_body requester.now wish.now) }

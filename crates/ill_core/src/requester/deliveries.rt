@@ -64,7 +64,8 @@ const SHIPPED_OR_LATER: u16 = LENT | RECALL | RETURNED;
 // The responder has reported that the item is overdue.
 const REMINDED: u16 = NOT_RECEIVED_OVERDUE | OVERDUE | RENEW_OVERDUE;
 
-/// Lists the rows of deliveries, ordered by kind. Within a kind, the first row that fits decides.
+/// Lists the rows of deliveries, ordered by kind. Each has its kind, states, guards, effect and changes. Within a kind,
+/// the first row that fits decides.
 const ROWS: [Row<Kind>; 30] = [
     Row(Kind::Conditions, ANY, PASSED, Repeat, NONE),
     Row(Kind::Conditions, CONDITIONAL, HELD, Repeat, NONE),
@@ -101,7 +102,7 @@ const ROWS: [Row<Kind>; 30] = [
 /// The index of the first row of each kind, and then the number of rows.
 const BEGINNINGS: [usize; 13] = [0, 3, 4, 6, 8, 11, 13, 15, 20, 23, 26, 28, 30];
 
-/// Follows the first row that fits a message, and returns the answer.
+/// Follows the first row that fits a message, and returns the answer. If no row fits, the answer is a conflict.
 pub fn take_message(requester: &mut Requester, apdu: &Apdu) -> Taking
     ensures { (Ok result, requester.new) ≡ take_message requester.old apdu.now apdu.now.body }
 {

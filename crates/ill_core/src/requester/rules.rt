@@ -32,7 +32,7 @@ pub fn fit_together(standing: &Standing, apdus: &[Apdu]) -> bool
     are_kept(state, apdus)
 }
 
-/// Returns true if `apdus` satisfy the rules of a requester in `state`.
+/// Returns true if `apdus` satisfy the rules of a requester in `state`, which is a requester's.
 fn are_kept(state: State, apdus: &[Apdu]) -> bool
     requires role { is_among (states.InProcess ∷ states.CheckedIn ∷ []) state ≡ false }
     ensures { result ≡ issued_keeps_rules state apdus.now }
@@ -63,7 +63,8 @@ fn begins_with_request(apdus: &[Apdu]) -> bool
     }
 }
 
-/// Returns true if `state` is a requester's, and has exactly the conditions, due date and mark that it may have.
+/// Returns true if `state` is a requester's and fits the parts. `held` says that conditions are held, and `due` that
+/// there is a due date. `checked_in` says that the checked-in mark is set.
 fn parts_fit(state: State, held: bool, due: bool, checked_in: bool) -> bool
     ensures { result ≡ parts_fit state held due checked_in }
 {
@@ -75,7 +76,8 @@ fn parts_fit(state: State, held: bool, due: bool, checked_in: bool) -> bool
     }
 }
 
-/// Returns true if `apdus` fit `state`.
+/// Returns true if `apdus` fit `state`, which is a requester's. They are empty exactly in IDLE. Each state may require
+/// or forbid a Received, a Returned, a Cancel, a Renew and a Conditional-Reply no.
 fn issued_fits(state: State, apdus: &[Apdu]) -> bool
     requires role { is_among (states.InProcess ∷ states.CheckedIn ∷ []) state ≡ false }
     ensures { result ≡ issued_fits state apdus.now }

@@ -32,7 +32,8 @@ pub struct Standing {
 }
 
 impl Standing {
-    /// Returns the standing after `row` is followed for a message with `number` and `date`.
+    /// Returns the standing after `row` is followed for a message with `number` and `date`. `row.3` is the effect of
+    /// the row, and `row.4` are its changes.
     pub fn after<K>(self, row: &Row<K>, number: Number, date: Option<Day>) -> Standing
         ensures state { result.state ≡ next_state row.now.3 self.state }
         ensures held { result.held ≡ held_after row.now.4 self.held number }

@@ -26,7 +26,8 @@ const OPEN: u16 = IN_PROCESS | CONDITIONAL;
 // A Renew waits for its Renew-Answer.
 const RENEWING: u16 = RENEW_PENDING | RENEW_OVERDUE;
 
-/// Lists the rows of deeds, ordered by kind. Within a kind, the first row that fits decides.
+/// Lists the rows of deeds, ordered by kind. Each has its kind, states, guards, effect and changes. Within a kind, the
+/// first row that fits decides.
 const ROWS: [Row<Kind>; 14] = [
     Row(Kind::Conditions, IN_PROCESS, NONE, To(Conditional), NONE),
     Row(Kind::Promise, IN_PROCESS, NONE, Stay, NONE),

@@ -49,7 +49,8 @@ const BACK: u16 = RETURNED | CHECKED_IN;
 
 const SHIPPED_OR_LATER: u16 = LENT | BACK;
 
-/// Lists the rows of deliveries, ordered by kind. Within a kind, the first row that fits decides.
+/// Lists the rows of deliveries, ordered by kind. Each has its kind, states, guards, effect and changes. Within a kind,
+/// the first row that fits decides.
 const ROWS: [Row<Kind>; 16] = [
     Row(Kind::Request, IDLE, NONE, To(InProcess), KEEPS),
     Row(Kind::Request, ANY, NONE, Repeat, NONE),
@@ -72,8 +73,8 @@ const ROWS: [Row<Kind>; 16] = [
 /// The index of the first row of each kind, and then the number of rows.
 const BEGINNINGS: [usize; 8] = [0, 2, 5, 7, 9, 11, 14, 16];
 
-/// Follows the first row that fits a message, and returns the answer. Only an ILL-Request that is kept and a
-/// Conditional-Reply no take memory.
+/// Follows the first row that fits a message, and returns the answer. If no row fits, the answer is a conflict. Only an
+/// ILL-Request that is kept and a Conditional-Reply no take memory.
 pub fn take_message(
     responder: &mut Responder,
     alloc: Global,

@@ -69,16 +69,16 @@ pub fn is_role(apdus: &[Apdu]) -> bool
     apdus.iter().all(|apdu| !apdu.body.is_requesters())
 }
 
-/// Says for each part of a responder that it is there.
+/// Says which parts of a responder are there.
 #[derive(Clone, Copy)]
 struct Present {
-    /// The ILL-Request.
+    /// True if the ILL-Request is there.
     request: bool,
-    /// The number of the conditions accepted last.
+    /// True if conditions were accepted.
     accepted: bool,
-    /// The number of the last Cancel.
+    /// True if a Cancel was taken.
     last_cancel: bool,
-    /// The number of the last Renew.
+    /// True if a Renew was taken.
     last_renew: bool,
     /// True if a Received was taken.
     received: bool,
@@ -163,7 +163,7 @@ fn ends_with_conditions(apdus: &[Apdu]) -> bool
     }
 }
 
-/// Returns true if each granted date is after those before it.
+/// Returns true if each date that `apdus` grant is after those before it.
 #[tactic(auto, using(crate::proofs::ResponderLists::rise_end))]
 pub fn dates_rise(apdus: &[Apdu]) -> bool
     ensures { result ≡ are_rising (filter_map granted_day apdus.now) }

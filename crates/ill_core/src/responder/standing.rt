@@ -38,7 +38,8 @@ pub struct Standing {
 }
 
 impl Standing {
-    /// Returns the standing after `row` is followed for a message with `number`.
+    /// Returns the standing after `row` is followed for a message with `number`. `row.3` is the effect of the row, and
+    /// `row.4` are its changes.
     pub fn after<K>(self, row: &Row<K>, number: Number) -> Standing
         ensures state { result.state ≡ next_state row.now.3 self.state }
         ensures accepted { result.accepted ≡ number_after ACCEPTS row.now.4 self.accepted number }

@@ -11,7 +11,7 @@ returns-then-not-is_message-clause-value c =
     ∙ numbered_at _ _ _ c.index-apdus-index.result false c.loop-index-test.true c.index-apdus-index.is
     c.if-not-is_message.ensures.value)
 
--- If it passes, the test of the rest decides, and the index stays within 255.
+-- If the APDU at the index passes its test, the test of the rest decides. The index stays within 255.
 pub loop-index-preserved : goal.loop-index-preserved
 loop-index-preserved c = record {
   rest = c.loop-index.invariant.rest

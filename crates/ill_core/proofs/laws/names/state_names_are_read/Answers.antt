@@ -1,4 +1,5 @@
--- Proves the contract of `state_names_are_read` (`src/laws/names.rt`).
+-- Proves the contract of `state_names_are_read` (`src/laws/names.rt`). It holds because the name of each state is read
+-- as this state.
 use Rattle.ill_core.specs.State.{state_name, all_states}
 use Rattle.ill_core.proofs.NameLemmas.{state_again}
 use Rattle.ill_core.proofs.laws.names.state_names_are_read.Goals as goal

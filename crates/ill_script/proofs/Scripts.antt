@@ -1,4 +1,4 @@
--- Lemmas on the reading of a script, line by line, for any meaning of its lines.
+-- Proves lemmas on the reading of a script, line by line, for any meaning of its lines.
 use Rattle.std.proofs.Common.{arith, ◌≡◌, ℕ, ◌+◌, ◌<◌, ◌≤◌, Bool, true, false, ◌&&◌, nat_le, if◌then◌else◌, cond, ◌==◌, List, []}
 use Rattle.std.proofs.Common.{◌∷◌, ◌++◌, length, Some, refl, sym, ap, ◌∙◌, length-append}
 use Rattle.std.specs.List.{onto_first}
@@ -38,7 +38,7 @@ within n bytes few short = both_true (nat_le n 100000) (nat_le (length bytes) 10
 too_long : (n : ℕ) (bytes : List ℕ) → 1025 ≤ length bytes → is_within n bytes ≡ false
 too_long n bytes long = go (nat_le n 100000) (nat_le (length bytes) 1024) (le_false (length bytes) 1024 (omega (arith, long)))
   where
-    -- By cases of the first test: if the second is false, both together are.
+    -- By cases of the first test: if the second is false, both together are false.
     go : (a b : Bool) → b ≡ false → (a && b) ≡ false
     go true b none = none
     go false b none = refl
@@ -53,6 +53,7 @@ pub breaks_nothing : {E C : Type 0} → (c : C) (n : ℕ) (bytes : List ℕ) →
 breaks_nothing c n [] is = refl
 breaks_nothing {E = E} c n (byte ∷ bytes) is = ap (λ (b : Bool). if b then empty_reading {E = E} else only_bad n) is
 
+-- `W` is the type of worlds, `E` the type of events. `C` is the type of the value that is carried from line to line.
 module _ {W E C : Type 0} (play : Play W E C) where
   -- A line within the limits has the meaning of its bytes.
   pub line_within : (c : C) (n : ℕ) (bytes : List ℕ) → n ≤ 100000 → length bytes ≤ 1024
@@ -65,7 +66,7 @@ module _ {W E C : Type 0} (play : Play W E C) where
 
   -- ---- lines
 
-  -- The reading of two or more lines is that of the first, and then that of the others.
+  -- The reading of two or more lines is the reading of the first, followed by the reading of the others.
   says_first : (end : C → ℕ → List ℕ → Said E) (c : C) (n : ℕ) (first second : List ℕ) (more : List (List ℕ))
       → says_from play end c n (first ∷ second ∷ more)
       ≡ then_says (line_at play c n first).0 n (says_from play end (line_at play c n first).1 (n + 1) (second ∷ more))
@@ -77,7 +78,7 @@ module _ {W E C : Type 0} (play : Play W E C) where
   unfolding says_from
   says_last end c n rest = refl
 
-  -- If an LF closes a line, the reading is that of the line, and then that of the rest.
+  -- If an LF closes a line, the reading is its meaning, followed by the reading of the rest.
   pub says_line : (end : C → ℕ → List ℕ → Said E) (c : C) (n : ℕ) (bytes rest : List ℕ) → has_lf bytes ≡ false
       → reading_from play end c n (bytes ++ 10 ∷ rest)
       ≡ then_says (line_at play c n bytes).0 n (reading_from play end (line_at play c n bytes).1 (n + 1) rest)
@@ -107,7 +108,7 @@ module _ {W E C : Type 0} (play : Play W E C) where
   bad_ends c n bytes some out = ends_line c n bytes some
       ∙ ap (λ (line : ScriptLine E × C). then_says line.0 n empty_reading) (line_bad c n bytes out)
 
-  -- If a first line is beyond the limits, and lines follow, it is bad.
+  -- If a first line is beyond the limits, and lines follow, this line is bad, and no event is read.
   bad_first : (c : C) (n : ℕ) (first second : List ℕ) (more : List (List ℕ)) → is_within n first ≡ false
       → says_from play (end_reading play) c n (first ∷ second ∷ more) ≡ only_bad n
   bad_first c n first second more out =
@@ -115,7 +116,7 @@ module _ {W E C : Type 0} (play : Play W E C) where
       ∙ ap (λ (line : ScriptLine E × C). then_says line.0 n (says_from play (end_reading play) line.1 (n + 1) (second ∷ more)))
       (line_bad c n first out)
 
-  -- If a first line is beyond the limits, and is not empty, it is bad.
+  -- If a first line is beyond the limits, and is not empty, it is bad, and no event is read.
   first_bad : (c : C) (n : ℕ) (first : List ℕ) (more : List (List ℕ)) → is_within n first ≡ false → 1 ≤ length first
       → says_from play (end_reading play) c n (first ∷ more) ≡ only_bad n
   first_bad c n first [] out some = says_last (end_reading play) c n first ∙ bad_ends c n first some out

@@ -1,4 +1,5 @@
--- A trace grows by one text with each event. A simulation may go on after each line.
+-- Proves that a trace grows by one text with each event. Then it proves that a script may go on after each line that
+-- was performed.
 use Rattle.std.proofs.Common.{arith, ◌≡◌, ℕ, ◌+◌, Bool, true, false, List, [], ◌∷◌, ◌++◌, length, Option, Some, Result, Ok, Err}
 use Rattle.std.proofs.Common.{refl, sym, ap, ◌∙◌, subst, append_assoc, append-nil, length-append, true≢false}
 use Rattle.std.specs.Io.KnownBytes.{Consumes, Appends}
@@ -15,6 +16,7 @@ use Rattle.ill_script.proofs.Scripts.{says_line}
 
 -- ---- the trace of a play
 
+-- `W` is the type of worlds, `E` the type of events. `C` is the type of the value that is carried from line to line.
 module _ {W E C : Type 0} (play : Play W E C) where
   -- The trace of no events is empty.
   pub trace_of_none : (n : ℕ) (w : W) → trace_from play n w [] ≡ []
@@ -35,10 +37,11 @@ module _ {W E C : Type 0} (play : Play W E C) where
 
 -- ---- the trace of a run, one event after another
 
--- `run` gives the world after a list of events. `none` says so of no event, and `next` of one event and more.
+-- `run` gives the world after a list of events. By `none` no event leaves the world as it is. By `next` the first event
+-- leads to the world in which the others happen.
 module _ {W E C : Type 0} (play : Play W E C) (run : W → List E → W) (none : (w : W) → run w [] ≡ w)
     (next : (w : W) (event : E) (events : List E) → run w (event ∷ events) ≡ run (play.next w event) events) where
-  -- The trace of `events ++ more` is the trace of `events`, and then that of `more`.
+  -- The trace of `events ++ more` is the trace of `events`, followed by the trace of `more`.
   pub trace_more : (n : ℕ) (w : W) (events more : List E)
       → trace_from play n w (events ++ more)
       ≡ trace_from play n w events ++ trace_from play (n + length events) (run w events) more
@@ -84,6 +87,7 @@ module _ {W E C : Type 0} (play : Play W E C) (run : W → List E → W) (none :
 abbrev pub with_events : {E : Type 0} → List E → Said E → Said E
 with_events events more = record { events = events ++ more.events; bad = more.bad }
 
+-- `W` is the type of worlds, `E` the type of events. `C` is the type of the value that is carried from line to line.
 module _ {W E C : Type 0} (play : Play W E C) where
   -- The text `prefix` has the events `events`, and `shown` is their trace. A result that fits the rest of the text, from
   -- `now` on, fits the whole. For each result, the equations carry what `answers` says of the rest over to the whole: for
@@ -138,7 +142,8 @@ module _ {W E C : Type 0} (play : Play W E C) where
 
   -- ---- a line, and the rest of the script after it
 
-  -- If `prefix` was read, and its events were shown, the rest of the script performs the whole.
+  -- Let `prefix` be read, and `shown`, the trace of its events, be written. Then a performance of the rest is one of
+  -- the whole. The rest goes on from `now`, with the streams `middle`.
   plays_after : (from now : Progress W C) (prefix shown : List ℕ) (events : List E) (old middle new : Streams)
       (result : Result ℕ SimFault)
       → ((end : C → ℕ → List ℕ → Said E) (text : List ℕ)
@@ -157,7 +162,7 @@ module _ {W E C : Type 0} (play : Play W E C) where
         rest.1 rest.4,
   )
 
-  -- If an LF closes the next line, the reading is that of the line, and then that of the rest.
+  -- If an LF closes the next line, the reading is its meaning `says`, followed by the reading of the rest.
   says_closed : (from now : Progress W C) (bytes : List ℕ) (says : ScriptLine E) → IsLine bytes
       → (line_at play from.carried from.number bytes).0 ≡ says → now.carried ≡ (line_at play from.carried from.number bytes).1
       → now.number ≡ from.number + 1 → (end : C → ℕ → List ℕ → Said E) (text : List ℕ)
@@ -171,7 +176,8 @@ module _ {W E C : Type 0} (play : Play W E C) where
       ∙ ap (λ l. then_says says from.number (reading_from play end l (from.number + 1) text)) (sym leaves)
       ∙ ap (λ n. then_says says from.number (reading_from play end now.carried n text)) (sym next)
 
-  -- If the next line was performed, and then the rest of the script, the script was performed.
+  -- Let the next line be performed, and then the rest of the script from `now` on. Then the script was performed from
+  -- `from` on. `says` is the meaning of the line.
   line_first : (from now : Progress W C) (bytes : List ℕ) (says : ScriptLine E) (old middle new : Streams)
       (result : Result ℕ SimFault)
       → IsLine bytes → (line_at play from.carried from.number bytes).0 ≡ says
@@ -195,7 +201,8 @@ module _ {W E C : Type 0} (play : Play W E C) where
       (says_closed from now bytes (lines.Event event) is e leaves next) shows (omega (arith, done.1)) read done.2 rest
   line_first from now bytes lines.Bad old middle new result is e leaves next read done rest = absurd done
 
-  -- If the next line was performed, and more may follow, the rest of the script performs the whole.
+  -- Let the next line be performed, and more may follow. Then a performance of the rest from `now` on is one of the
+  -- script from `from` on.
   pub goes_on : (from now : Progress W C) (old middle new : Streams) (more : Bool) (result : Result ℕ SimFault)
       → more ≡ true → StepsLine play from old (Ok more) now middle → Plays play now middle result new
       → Plays play from old result new
@@ -204,7 +211,7 @@ module _ {W E C : Type 0} (play : Play W E C) where
       step.2 step.3 rest
   goes_on from now old middle new false result follows step rest = absurd (true≢false (sym follows))
 
-  -- If the next line was performed, and none may follow, the script was performed.
+  -- If the next line was performed, and no other may follow, the script was performed.
   pub ends_here : (from now : Progress W C) (old new : Streams) (more : Bool)
       → more ≡ false → StepsLine play from old (Ok more) now new → Plays play from old (Ok now.count) new
   ends_here from now old new false ends step = step

@@ -1,4 +1,4 @@
--- Lemmas on one step of a simulation, and on its end: each result fits the text that was read.
+-- Proves lemmas on one step of a simulation, and on its end: each result fits the text that was read.
 use Rattle.std.proofs.Common.{rules, arith, ◌≡◌, ℕ, ◌+◌, ◌≤◌, Bool, List, [], ◌∷◌, ◌++◌, length, take, drop, Option, Some, None}
 use Rattle.std.proofs.Common.{Result, Ok, Err, refl, sym, ap, ◌∙◌, subst, append_assoc, append-nil}
 use Rattle.std.specs.Prelude.{IsErrAnd}
@@ -23,10 +23,12 @@ use Rattle.ill_script.proofs.Simulations.{trace_of_none, trace_next, trace_of_on
 nothing_left : (left : Option (List ℕ)) (more : List ℕ) → IsAtEnd left → left ≡ Some more → more ≡ []
 nothing_left left more at_end e = subst IsAtEnd e at_end
 
+-- `W` is the type of worlds, `E` the type of events. `C` is the type of the value that is carried from line to line.
 module _ {W E C : Type 0} (play : Play W E C) where
   -- ---- the text that was read
 
-  -- The text, with all bytes that the reader has left, has `bytes` as line n. A rest follows it.
+  -- The text, with all bytes that are `left` in the reader, begins with `bytes` as line n. A reading `rest` of other
+  -- lines follows.
   abbrev pub Begins : C → ℕ → List ℕ → List ℕ → Option (List ℕ) → Type 0
   Begins c n bytes text left = (more : List ℕ) → left ≡ Some more → (rest : Said E)
       × (reading_from play (end_reading play) c n (text ++ more) ≡ then_says (line_at play c n bytes).0 n rest)
@@ -63,7 +65,8 @@ module _ {W E C : Type 0} (play : Play W E C) where
       → [] ≡ trace_on play from reading.events
   no_trace from reading bad said = none_yet from ∙ ap (λ (s : Said E). trace_on play from s.events) (sym said)
 
-  -- The rest of a script ends with `fault`. The trace that was written fits it.
+  -- The rest of a script, from the next line of `from` on, ends with `fault` after `text` is read. The trace that was
+  -- written fits `fault`.
   abbrev pub Fails : Progress W C → SimFault → List ℕ → Streams → Streams → Type 0
   Fails from fault text old new =
       (trace : List ℕ) × Appends old.written new.written trace × Answers play from (Err fault) text new.left trace
@@ -312,6 +315,8 @@ consumes_ahead : (old : Option (List ℕ)) (text ahead rest : List ℕ)
 consumes_ahead None text ahead rest read = tt
 consumes_ahead (Some bytes) text ahead rest read = read ∙ sym (append_assoc text ahead rest)
 
+-- `W` is the type of worlds, `E` the type of events. `C` is the type of the value that is carried from line to line.
+-- The script goes on from `from`.
 module _ {W E C : Type 0} (play : Play W E C) (from : Progress W C) where
   -- If no byte is ahead, a result that fits `text` fits `text` with the bytes ahead.
   read_whole : (text ahead rest trace : List ℕ) (result : Result ℕ SimFault) → ahead ≡ []

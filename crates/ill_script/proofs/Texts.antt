@@ -1,4 +1,5 @@
--- A text of bytes is a list of lines, between its LFs.
+-- Proves that a text of bytes is a list of lines between its LFs. It also proves how a part of a line is taken from the
+-- bytes ahead.
 use Rattle.std.proofs.Common.{rules, arith, ◌≡◌, ℕ, suc, ◌+◌, ◌-◌, ◌<◌, ◌≤◌, min, Bool, true, false, ◌||◌, ◌==◌, cond, List, []}
 use Rattle.std.proofs.Common.{◌∷◌, ◌++◌, length, take, drop, Option, Some, None, Ok, refl, sym, ap, ◌∙◌, subst, add-one, eqb-true}
 use Rattle.std.proofs.Common.{take_all, take-append-drop, drop_of_length-le, length-append, length-take}
@@ -9,7 +10,7 @@ use Rattle.ill_script.specs.Simulating.{has_lf, lf_place, TakesPart}
 
 -- ---- the first LF
 
--- `bytes` have their first LF at this index, counted from `from`, and `rest` follows it. Or they have no LF.
+-- `bytes` have their first LF at this index, counted from `from`, or have no LF. `rest` are the bytes after `bytes`.
 abbrev FirstLf : List ℕ → List ℕ → ℕ → Option ℕ → Type 0
 FirstLf bytes rest from None = has_lf bytes ≡ false
 FirstLf bytes rest from (Some at) =
@@ -42,7 +43,8 @@ lf_stands (byte ∷ bytes) rest from place is = go (byte == 10) place refl is (l
           ap (λ l. byte ∷ l) stands.4,
         )
 
--- The index of the first LF is within `bytes`. No LF is before it, and `rest` follows it.
+-- The index `at` of the first LF is within `bytes`, and no LF is before it. The text `bytes ++ rest` has the bytes
+-- before `at`, the LF, and the bytes after it.
 first_lf : (bytes rest : List ℕ) (at : ℕ) → lf_place bytes ≡ Some at
     → (at < length bytes) × (has_lf (take at bytes) ≡ false)
     × (bytes ++ rest ≡ take at bytes ++ 10 ∷ drop (at + 1) (bytes ++ rest))
@@ -64,7 +66,8 @@ no_lf bytes is = lf_stands bytes [] 0 None is
 
 -- ---- a part of a line
 
--- If an LF is within the limit, the bytes before it are appended to the line.
+-- If an LF is within the limit, the bytes before it are appended to the line. `before` and `prefix` are the bytes ahead
+-- and the line before the call, `ahead` and `line` those after it. `most` bytes are looked at.
 pub takes_line : (before ahead prefix line : List ℕ) (most at : ℕ) → length prefix ≤ 1024 → most ≤ 1025 - length prefix
     → lf_place (take most before) ≡ Some at
     → line ≡ prefix ++ take at (take most before) → ahead ≡ drop (at + 1) before
@@ -79,7 +82,8 @@ takes_line before ahead prefix line most at few within is line_is ahead_is =
     omega (arith, length-append prefix bytes, length-take at part, length-take most before, first.0, few, within) in
     (bytes, parts ∙ ap (λ l. bytes ++ 10 ∷ l) (sym ahead_is), first.1, line_is, subst (λ l. length l ≤ 1024) (sym line_is) size)
 
--- If no LF is within the limit, and more bytes are ahead, the line is too long.
+-- If no LF is within the limit, and more bytes are ahead, the line is too long. `before` and `prefix` are the bytes
+-- ahead and the line before the call, `ahead` and `line` those after it. `most` bytes are looked at.
 pub takes_too_long : (before ahead prefix line : List ℕ) (most : ℕ) → length prefix ≤ 1024
     → most ≡ min (length before) (1024 - length prefix + 1) → 1024 - length prefix < most
     → lf_place (take most before) ≡ None → ahead ≡ drop most before → TakesPart before ahead prefix line (Ok (Some found.TooLong))
@@ -89,7 +93,8 @@ takes_too_long before ahead prefix line most few most_is long is ahead_is =
     omega (arith, length-append prefix bytes, length-take most before, few, most_is, long) in
     (bytes, sym (take-append-drop most before) ∙ ap (λ l. bytes ++ l) (sym ahead_is), no_lf bytes is, size)
 
--- If the bytes ahead are within the limit, and have no LF, all of them are appended to the line.
+-- If the bytes ahead are within the limit, and have no LF, all of them are appended to the line. `before` and `prefix`
+-- are the bytes ahead and the line before the call, `ahead` and `line` those after it. `most` bytes are looked at.
 pub takes_all : (before ahead prefix line : List ℕ) (most : ℕ) → length prefix ≤ 1024
     → most ≡ min (length before) (1024 - length prefix + 1) → most ≤ 1024 - length prefix
     → lf_place (take most before) ≡ None → line ≡ prefix ++ take most before → ahead ≡ drop most before

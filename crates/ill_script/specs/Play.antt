@@ -9,8 +9,9 @@ use Rattle.ill_script.specs.declared.script_line.ScriptLine.TheVariants as lines
 use Rattle.ill_script.specs.declared.fault.SimFault.{SimFault}
 use Rattle.ill_script.specs.declared.fault.SimFault.TheVariants.{Script, Read, Write, OutOfMemory}
 
--- In a play `says` gives the meaning of a line, and carries a value from line to line. `next` gives the world after an
--- event. `text` shows an event, with its number and the world before it.
+-- A play has worlds `W`, events `E`, and a value of `C` that is carried from line to line. `says` gives the meaning of
+-- a line, and the value for the next line. `next` gives the world after an event. `text` shows an event, with its
+-- number and the world before it.
 pub record Play (W E C : Type 0) : Type 0 where
   pub says : C → List ℕ → ScriptLine E × C
   pub next : W → E → W
@@ -48,11 +49,13 @@ empty_reading = record { events = []; bad = None }
 abbrev pub is_within : ℕ → List ℕ → Bool
 is_within n bytes = nat_le n 100000 && nat_le (length bytes) 1024
 
--- Returns the meaning of line n, and the value for the next line. A line beyond the limits is bad.
+-- Returns the meaning of line n with these bytes, and the value for the next line. `c` is the value that is carried to
+-- line n. A line beyond the limits is bad, and does not change `c`.
 abbrev pub line_at : {W E C : Type 0} → Play W E C → C → ℕ → List ℕ → ScriptLine E × C
 line_at play c n bytes = if is_within n bytes then play.says c bytes else (lines.Bad, c)
 
--- Returns the reading of line n with this meaning, followed by the lines that `more` reads.
+-- Returns the reading of line n with this meaning, followed by the lines that `more` reads. A bad line ends the
+-- reading.
 abbrev pub then_says : {E : Type 0} → ScriptLine E → ℕ → Said E → Said E
 then_says lines.Skipped n more = more
 then_says (lines.Event event) n more = record { events = event ∷ more.events; bad = more.bad }
@@ -112,23 +115,29 @@ abbrev pub OfAll : List ℕ → Option (List ℕ) → (List ℕ → Type 0) → 
 OfAll text left P = (more : List ℕ) → left ≡ Some more → P (text ++ more)
 
 -- A script was performed from the next line of `from` on. The result and `trace` fit the `text` that was read, and the
--- bytes `left` in the reader.
+-- bytes `left` in the reader. The whole text is `text` with the bytes left.
 abbrev pub Answers : {W E C : Type 0} → Play W E C → Progress W C → Result ℕ SimFault → List ℕ →
     Option (List ℕ) → List ℕ → Type 0
+-- The text has ended without a bad line, and `trace` shows its events. `total` is `from.count` plus their number.
 Answers play from (Ok total) text left trace =
     IsAtEnd left × ((reading_on play from text).bad ≡ None) × (trace ≡ trace_on play from (reading_on play from text).events)
     × (total ≡ from.count + length (reading_on play from text).events)
+-- Line `m` is the first bad line of the whole text, and `trace` shows the events before it.
 Answers play from (Err (Script m)) text left trace =
     OfAll text left (λ t. ((reading_on play from t).bad ≡ Some m) × (trace ≡ trace_on play from (reading_on play from t).events))
+-- The text breaks off without a bad line, and `trace` shows its events.
 Answers play from (Err Read) text left trace =
     ((broken_on play from text).bad ≡ None) × (trace ≡ trace_on play from (broken_on play from text).events)
+-- `trace` is a prefix of the trace of the whole text.
 Answers play from (Err Write) text left trace =
     OfAll text left (λ t. IsPrefix trace (trace_on play from (reading_on play from t).events))
+-- `trace` shows some first events of the whole text.
 Answers {E = E} play from (Err OutOfMemory) text left trace =
     OfAll text left (λ t. (events : List E) × IsPrefix events (reading_on play from t).events
     × (trace ≡ trace_on play from events))
 
--- A script was performed from the next line of `from` on. The streams were `old` before, and are `new` after.
+-- A script was performed from the next line of `from` on. The streams were `old` before, and are `new` after. A `text`
+-- was read and a `trace` was written, and the result fits both.
 abbrev pub Plays : {W E C : Type 0} → Play W E C → Progress W C → Streams → Result ℕ SimFault → Streams → Type 0
 Plays play from old result new =
     (text : List ℕ) × (trace : List ℕ) × Consumes old.left new.left text × Appends old.written new.written trace

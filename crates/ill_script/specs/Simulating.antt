@@ -1,4 +1,4 @@
--- These definitions describe a simulation in the midst of a script, from its next line on.
+-- Defines the steps of a simulation in the midst of a script. It reads ahead, reads a line, and performs the line.
 use Rattle.std.specs.Prelude.{◌≡◌, ℕ, ◌+◌, ◌≤◌, Bool, true, false, ◌==◌, List, [], ◌∷◌, ◌++◌, length, take, Option, Some, None}
 use Rattle.std.specs.Prelude.{Result, Ok, Err}
 use Rattle.std.specs.List.{list_any, position_from}
@@ -16,7 +16,9 @@ use Rattle.ill_script.specs.Play.{Play, Progress, Streams, line_at, Plays}
 
 -- ---- reading ahead
 
--- The call that reads ahead loses no byte of the text. It returns true if bytes are ahead now, and false at the end.
+-- A call reads ahead. `before` are the bytes ahead and `old` the bytes in the reader before the call, `ahead` and `new`
+-- after it. No byte is lost. The call returns true if bytes are ahead now, and false at the end. If the reader fails,
+-- no byte is ahead.
 abbrev pub ReadsAhead : List ℕ → List ℕ → Option (List ℕ) → Option (List ℕ) → Result Bool SimFault → Type 0
 ReadsAhead before ahead old new (Ok true) =
     Consumes (prepend_known before old) (prepend_known ahead new) [] × (1 ≤ length ahead)
@@ -25,7 +27,7 @@ ReadsAhead before ahead old new (Ok false) =
 ReadsAhead before ahead old new (Err fault) =
     (fault ≡ Read) × Consumes (prepend_known before old) (prepend_known ahead new) [] × (ahead ≡ [])
 
--- If the reader failed, no bytes are ahead.
+-- If the result says that the reader failed, no bytes are ahead.
 abbrev pub IsUsedUp : {X : Type 0} → List ℕ → Result X SimFault → Type 0
 IsUsedUp ahead (Ok done) = Unit {0}
 IsUsedUp ahead (Err Read) = ahead ≡ []
@@ -37,7 +39,7 @@ IsUsedUp ahead (Err other) = Unit {0}
 abbrev pub has_lf : List ℕ → Bool
 has_lf bytes = list_any (λ byte. byte == 10) bytes
 
--- Returns the index of the first LF, if there is one.
+-- Returns the index of the first LF in `bytes`, or `None`.
 abbrev pub lf_place : List ℕ → Option ℕ
 lf_place bytes = position_from (λ byte. byte == 10) 0 bytes
 
@@ -45,8 +47,9 @@ lf_place bytes = position_from (λ byte. byte == 10) 0 bytes
 abbrev pub IsLine : List ℕ → Type 0
 IsLine bytes = (has_lf bytes ≡ false) × (length bytes ≤ 1024)
 
--- Bytes of `before` are appended to `prefix`, the first part of a line. They end before an LF, beyond the limit, or at
--- the end of `before`. If memory runs out, no byte is taken.
+-- A call takes bytes of `before`, and leaves `ahead`. The bytes end before an LF, beyond the limit, or at the end of
+-- `before`. Within the limit they are appended to `prefix`, the first part of a line, which becomes `line`. If memory
+-- runs out, no byte is taken.
 abbrev pub TakesPart : List ℕ → List ℕ → List ℕ → List ℕ → Result (Option Found) AllocError → Type 0
 TakesPart before ahead prefix line (Ok (Some found.Line)) =
     (bytes : List ℕ) × (before ≡ bytes ++ 10 ∷ ahead) × (has_lf bytes ≡ false)
@@ -59,8 +62,9 @@ TakesPart before ahead prefix line (Ok None) =
     (ahead ≡ []) × (has_lf before ≡ false) × (line ≡ prefix ++ before) × (length line ≤ 1024)
 TakesPart before ahead prefix line (Err fault) = ahead ≡ before
 
--- The call has read a line: with its LF, to the end of the text, or beyond the limit. It is cut off if the reader fails
--- or memory runs out.
+-- A call reads the line `bytes`. `old` and `new` are the bytes of the text before and after the call. The line has its
+-- LF, or is the rest of the text, or is cut off because the reader fails. If the line is beyond the limit or memory
+-- runs out, nothing is said of `bytes`.
 abbrev pub ReadsLine : Option (List ℕ) → Option (List ℕ) → List ℕ → Result Found SimFault → Type 0
 ReadsLine old new bytes (Ok found.Line) = IsLine bytes × Consumes old new (bytes ++ 10 ∷ [])
 ReadsLine old new bytes (Ok found.Rest) = IsLine bytes × Consumes old new bytes × IsAtEnd new
@@ -120,8 +124,8 @@ PerformsLine play says n old result new = ⊥
 abbrev pub history_at : {W C : Type 0} → Progress W C → Streams → History W
 history_at progress streams = record { world = progress.world; count = progress.count; written = streams.written }
 
--- The next line of `from` was performed. If the result is true, more lines may follow from `now` on. Else the simulation
--- has ended with it.
+-- The next line of `from` was performed. If the result is true, more lines may follow from `now` on. If it is false or
+-- a fault, the script was performed to its end.
 abbrev pub StepsLine : {W E C : Type 0} → Play W E C → Progress W C → Streams → Result Bool SimFault →
     Progress W C → Streams → Type 0
 StepsLine play from old (Ok true) now new =
@@ -137,7 +141,8 @@ abbrev pub IsBeforeEnd : Option (List ℕ) → Type 0
 IsBeforeEnd None = Unit {0}
 IsBeforeEnd (Some bytes) = 1 ≤ length bytes
 
--- After the last allowed line the reader is at the end of the text, has another byte, or fails.
+-- After the last allowed line of a script, the text has ended, another byte follows, or the reader fails. `count`
+-- events have happened.
 abbrev pub FindsEnd : ℕ → Option (List ℕ) → Option (List ℕ) → Result ℕ SimFault → Type 0
 FindsEnd count old new (Ok total) = (total ≡ count) × Consumes old new [] × IsAtEnd new
 FindsEnd count old new (Err (Script n)) = (n ≡ 100001) × Consumes old new [] × IsBeforeEnd new

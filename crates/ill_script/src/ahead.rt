@@ -1,4 +1,4 @@
-//! Bytes are read ahead, in pieces.
+//! Defines a buffer, which reads the bytes of a text ahead, in pieces.
 
 ghost use Rattle.std.specs.Prelude.{◌≡◌, ◌≤◌, ℕ, List, [], length, drop, slice_range};
 ghost use Rattle.ill_script.specs.Simulating.{ReadsAhead};
@@ -10,7 +10,7 @@ use std::marker::Model;
 /// At most `PIECE` bytes are read at a time.
 const PIECE: usize = 4_096;
 
-/// A buffer has the bytes of a text that were read and not used yet. Contracts see it as these bytes.
+/// The bytes of a text that were read, and are not used yet: those of `piece` from `start` to `end`.
 #[derive(Drop)]
 pub struct Ahead {
     piece: [u8; PIECE],
@@ -46,7 +46,7 @@ impl Ahead {
         &self.piece[self.start..self.end]
     }
 
-    /// Drops the first `count` bytes.
+    /// Drops the first `count` bytes. The buffer must have as many.
     pub fn skip(&mut self, count: usize)
         requires { count ≤ length self.old }
         ensures { self.new ≡ drop count self.old }
@@ -54,7 +54,8 @@ impl Ahead {
         self.start += count;
     }
 
-    /// Reads a piece if no bytes are ahead. Returns true if bytes are ahead now, and false if the text has ended.
+    /// Reads a piece if no bytes are ahead. Returns true if bytes are ahead now, and false if the text has ended. Fails
+    /// with `Read` if the reader fails.
     pub fn fill<R: Read>(&mut self, reader: &mut R) -> Result<bool, SimFault>
         ensures { ReadsAhead self.old self.new (R.remaining reader.old) (R.remaining reader.new) result }
     {

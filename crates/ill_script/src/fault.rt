@@ -1,4 +1,4 @@
-//! A simulation may stop for several reasons.
+//! Defines the faults for which a simulation stops.
 
 ghost use Rattle.std.specs.Prelude.{◌≡◌};
 ghost use Rattle.ill_script.specs.declared.fault.SimFault.TheVariants.{OutOfMemory};
@@ -6,7 +6,7 @@ ghost use Rattle.ill_script.specs.declared.fault.SimFault.TheVariants.{OutOfMemo
 use std::alloc::{AllocError, AllocFailed};
 use thiserror::Error;
 
-/// A simulation stops for one of these reasons. Text that was written before stays written.
+/// The fault for which a simulation stops. Text that was written before stays written.
 #[derive(Clone, Copy, Debug, PartialEq, Eq, Hash, Error)]
 pub enum SimFault {
     /// The line of the script with this number, from 1 on, is bad.

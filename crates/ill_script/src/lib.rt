@@ -1,5 +1,5 @@
-//! A script is performed line by line, whatever its lines say. Lines are read ahead in pieces, a performer performs each,
-//! and what it shows is written.
+//! Performs a script line by line, whatever its lines say. Lines are read ahead in pieces, a performer performs each,
+//! and the text that it shows is written.
 #![tactic(auto)]
 
 pub mod ahead;

@@ -1,4 +1,4 @@
-//! A text is read line by line.
+//! Reads a text line by line.
 
 ghost use Rattle.std.specs.Prelude.{◌≡◌, ◌<◌, ◌≤◌, length, IfSome};
 ghost use Rattle.std.specs.Io.KnownBytes.{prepend_known};
@@ -15,19 +15,20 @@ const MAX_LINE: usize = 1024;
 /// The byte that closes a line.
 const LF: u8 = b'\n';
 
-/// The bytes that were read for a line are of one of these kinds.
+/// The kind of the bytes that were read for a line.
 #[derive(Clone, Copy)]
 pub enum Found {
     /// A line, and its LF.
     Line,
-    /// The bytes follow the last LF: the text has ended.
+    /// The bytes after the last LF, of which there may be none: the text has ended.
     Rest,
-    /// The bytes are more than a line may have.
+    /// More bytes than a line may have.
     TooLong,
 }
 
-/// Reads one line into `line`, without its LF. It reads on only if no bytes are ahead. It looks at one byte beyond the
-/// limit of a line, and no further.
+/// Reads one line into `line`, without its LF, and returns the kind of its bytes. It takes bytes from `ahead`, and asks
+/// `reader` only if none are ahead. It takes at most one byte more than a line may have. Fails if the reader fails or
+/// memory runs out.
 pub fn next_line<R: Read>(
     reader: &mut R,
     ahead: &mut Ahead,
@@ -46,8 +47,8 @@ pub fn next_line<R: Read>(
     Ok(Found::Rest)
 }
 
-/// Appends bytes that are ahead to `line`, up to an LF, or all of them. It drops the LF. If the line has ended, it
-/// returns its kind.
+/// Appends the bytes of `ahead` to `line` up to an LF, which is dropped, or all of them. Returns `Line` at an LF,
+/// `TooLong` if the line would pass its limit, and `None` if it may go on. If memory runs out, no byte is taken.
 fn take_part(ahead: &mut Ahead, line: &mut Vec<u8>) -> Result<Option<Found>, OutOfMemory>
     requires { length line.old.items ≤ 1024 }
     ensures { TakesPart ahead.old ahead.new line.old.items line.new.items result }
@@ -74,7 +75,7 @@ fn take_part(ahead: &mut Ahead, line: &mut Vec<u8>) -> Result<Option<Found>, Out
     }
 }
 
-/// Returns the index of the first LF, if there is one.
+/// Returns the index of the first LF in `bytes`, or `None`.
 fn find_lf(bytes: &[u8]) -> Option<usize>
     ensures place { result ≡ lf_place bytes.now }
     ensures within { IfSome result (λ at. at < length bytes.now) }

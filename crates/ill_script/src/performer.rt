@@ -1,4 +1,4 @@
-//! A performer performs the lines of a script.
+//! Defines a performer of the lines of a script, for any language of lines.
 
 ghost use Rattle.ill_script.specs.Play.{Play};
 ghost use Rattle.ill_script.specs.Simulating.{TellsLine};
@@ -7,7 +7,7 @@ use crate::trace_line::TraceLine;
 use ill_values::OutOfMemory;
 use std::alloc::Global;
 
-/// A line of a script has one of these effects.
+/// The effect of a line of a script.
 #[derive(Clone, Copy)]
 pub enum LineEffect {
     /// Nothing has happened.
@@ -29,7 +29,8 @@ pub trait Performer: Drop {
     /// The play: the meaning of lines, the worlds to which events lead, and the texts that show them.
     ghost play: { Play Self Self.Event Self.Carried };
 
-    /// Performs a line. If it has an event, this has the number in `shown`, and its text is appended there.
+    /// Performs `line`, and returns its effect. If the line says an event, the event has the number in `shown`, and its
+    /// text is appended to `shown`. `carried` becomes the value for the next line. Fails if memory runs out.
     fn perform_line(
         &mut self,
         alloc: Global,

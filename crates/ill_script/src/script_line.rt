@@ -1,6 +1,6 @@
-//! A line of a script has a meaning.
+//! Defines the meaning of a line of a script.
 
-/// A line of a script has one of these meanings.
+/// The meaning of a line of a script.
 #[derive(Drop)]
 pub enum ScriptLine<E> {
     /// The line says no event.

@@ -17,7 +17,7 @@ use std::io::{Read, Write};
 /// A script has at most `MAX_LINES` lines.
 const MAX_LINES: u32 = 100_000;
 
-/// A simulation is in the midst of a script.
+/// A simulation of a script, before its next line.
 #[derive(Drop)]
 pub struct Simulation<T: Performer> {
     /// The performer of the lines.
@@ -55,7 +55,8 @@ impl<T: Performer> Simulation<T> {
         }
     }
 
-    /// Performs the whole script.
+    /// Performs the whole script in `reader`, and writes its trace to `writer`. The simulation must be before line 1.
+    /// Returns the number of events, or the fault that ended the script.
     pub fn run<R: Read, W: Write>(
         mut self,
         alloc: Global,
@@ -78,7 +79,8 @@ impl<T: Performer> Simulation<T> {
         self.end(reader)
     }
 
-    /// Performs the next line, which has this number. Returns true if another may follow.
+    /// Performs the next line, which has `number`. Returns true if another line may follow, and false if the script has
+    /// ended.
     fn step<R: Read, W: Write>(
         &mut self,
         alloc: Global,
@@ -111,7 +113,8 @@ impl<T: Performer> Simulation<T> {
         }
     }
 
-    /// Performs the line that was read, and writes its text.
+    /// Performs the line that was read, which has `number`, and writes the text of its event. Fails with `Script` if
+    /// the line is bad, with `Write` if the writer fails, or with `OutOfMemory`.
     fn perform_line<W: Write>(
         &mut self,
         alloc: Global,
@@ -147,7 +150,8 @@ impl<T: Performer> Simulation<T> {
         }
     }
 
-    /// Looks for the end of a script that has as many lines as it may have.
+    /// Looks for the end of a script after the last line that it may have. Returns the number of events at the end.
+    /// Fails with `Script` if another byte follows, or with `Read` if the reader fails.
     fn end<R: Read>(&mut self, reader: &mut R) -> Result<u32, SimFault>
         ensures end { FindsEnd self.old.count
             (prepend_known self.old.ahead (R.remaining reader.old))

@@ -1,6 +1,6 @@
-//! A line of a trace shows an event.
+//! Defines a line of a trace.
 
-/// A line of a trace shows an event. It is made by appending to `text`.
+/// A line of a trace, which shows an event. A performer appends to `text`.
 #[derive(Drop)]
 pub struct TraceLine {
     /// The number of the event, counted from 1.

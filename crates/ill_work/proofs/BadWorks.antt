@@ -1,4 +1,4 @@
--- The definition of the kinds of work excludes the wrong answers.
+-- Proves that the kind of work with a side is none of the wrong answers of `MisjudgesWork`.
 use Rattle.std.proofs.Common.{refl, rules, arith, ◌≡◌, ℕ, false}
 use Rattle.std.proofs.lemmas.Bool.Decides.{nat_tests}
 use Rattle.ill_values.specs.Day.{Date}

@@ -9,7 +9,7 @@ use Rattle.ill_work.specs.Work.{all_work, is_work_among}
 use Rattle.ill_work.specs.Table.{kind_of_work}
 use Rattle.ill_work.specs.Order.{has_work, count_of}
 
--- The sum of `f` and `g` together over a list is the sum of `f` and then that of `g`.
+-- The sum of `f x + g x` over a list is the sum of `f` plus the sum of `g`.
 sum_of_both : {X : Type 0} (f g : X → ℕ) (xs : List X) → sum_by (λ x. f x + g x) xs ≡ sum_by f xs + sum_by g xs
 sum_of_both f g [] = refl
 sum_of_both f g (x ∷ xs) =
@@ -19,16 +19,16 @@ sum_of_both f g (x ∷ xs) =
 sum_alike : {X : Type 0} (f g : X → ℕ) → ((x : X) → f x ≡ g x) → (xs : List X) → sum_by f xs ≡ sum_by g xs
 sum_alike f g same xs = ap (λ (h : _ → ℕ). sum_by h xs) (λ i x. same x i)
 
--- Each work is one of all kinds, once.
+-- Each work is exactly one of the kinds in `all_work`.
 once : (work : Work) → sum_by (λ kind. cond (is_work_among (kind ∷ []) work) 1 0) all_work ≡ 1
 once work = search rules
 
--- A list without loans adds 0 for each kind of work.
+-- The sum of 0 over a list is 0. So without loans the numbers of all kinds of work add up to 0.
 none : (works : List Work) → sum_by (λ (work : Work). 0) works ≡ 0
 none [] = refl
 none (work ∷ works) = omega (arith, sum_by-cons (λ (w : Work). 0) work works, none works)
 
--- The numbers of loans of all kinds of work add up to the number of loans.
+-- The numbers of loans of all kinds of work on a day add up to the number of loans.
 pub counts_add_up : (today : Date) (ahead : ℕ) (sides : List Side)
     → sum_by (λ work. count_of today ahead work sides) all_work ≡ length sides
 counts_add_up today ahead [] = none all_work

@@ -48,13 +48,15 @@ module _ (s : State) (received : Bool) (on : Dates) where
       || is_work_among (kinds.WithReader ∷ []) (responder_work_in s received on))
   turn_alike past at_due at_expiry = search rules
 
--- Each verb of the work is possible on the day.
+-- Each verb of a responder's work in the state `s` is possible on the day `today`. `received` says that it has the
+-- received mark.
 pub is_possible : (y : ResponderRecord) (s : State) (received : Bool) (today : Date) (ahead : ℕ) (verb : Verb)
     → is_verb_among (work_verbs (responder_work_in s received (dates_on today ahead (sides.Responder y)))) verb ≡ true
     → is_verb_among (filter (is_allowed (Some today) (sides.Responder y)) (responder_verbs_in s)) verb ≡ true
 is_possible y s received today ahead verb is = search rules
 
--- If no date presses, each verb of the work is possible on some day.
+-- If no date presses, each verb of a responder's work in the state `s` is possible on some day. `received` says that it
+-- has the received mark.
 pub is_possible_some_day : (y : ResponderRecord) (s : State) (received : Bool) (verb : Verb)
     → is_verb_among (work_verbs (responder_work_in s received no_date_presses)) verb ≡ true
     → is_verb_among (filter (is_allowed None (sides.Responder y)) (responder_verbs_in s)) verb ≡ true

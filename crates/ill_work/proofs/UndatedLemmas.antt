@@ -1,5 +1,5 @@
--- Proves the laws of the work without a day: its verbs are possible on some day, it agrees with the turn, and it is the least
--- pressing of all days.
+-- Proves the laws of the work without a day. Its verbs are possible on some day, and it agrees with the turn. On each
+-- day the work is at least as pressing.
 use Rattle.std.proofs.Common.{rules, ◌≡◌, ◌≤◌, ℕ, true, false, None, [], ◌∷◌, refl}
 use Rattle.std.specs.Prelude.{◌||◌}
 use Rattle.ill_values.specs.Day.{Date}
@@ -37,7 +37,7 @@ agrees ahead (sides.Requester x) =
 agrees ahead (sides.Responder y) =
     lending.turn_alike y.state y.received no_date_presses false (λ later. refl) (λ open_still. refl)
 
--- On each day the dates are at least as urgent as without a day.
+-- Without a day no date is past or soon. So each date that is past or soon without a day is so by `on`.
 press_more : (on : Dates) → AreLater no_date_presses on
 press_more on = record {
   expired = λ is. search (rules, is);

@@ -31,13 +31,14 @@ next_by length d =
     else (if nat_lt d.month 12 then record { year = d.year; month = d.month + 1; day = 1 }
     else record { year = d.year + 1; month = 1; day = 1 })
 
--- If `b` is not before `a`, the day after `b` is not before the day after `a`.
+-- If `b` is not before `a`, the day after `b` is not before the day after `a`. The months of `a` and `b` have `of_a`
+-- and `of_b` days.
 next_keeps_by : (a b : Date) (of_a of_b : ℕ) → (a.year ≡ b.year → a.month ≡ b.month → of_a ≡ of_b) → a.day ≤ of_a → b.day ≤ of_b
     → a.month ≤ 12 → b.month ≤ 12 → 1 ≤ a.month → 1 ≤ b.month → 1 ≤ a.day → 1 ≤ b.day → is_before b a ≡ false
     → is_before (next_by of_b b) (next_by of_a a) ≡ false
 next_keeps_by a b of_a of_b same a_day b_day a_month b_month a_first b_first a_one b_one not_before = grind (arith, nat_tests)
 
--- `d` is a day of its month.
+-- The month of `d` is from 1 to 12, and its day is one of this month.
 record IsInMonth (d : Date) : Type 0 where
   month_first : 1 ≤ d.month
   month_last : d.month ≤ 12
@@ -48,7 +49,8 @@ record IsInMonth (d : Date) : Type 0 where
 one_day : (year month : ℕ) → 1 ≤ days_in_month year month
 one_day year month = grind (arith, nat_tests)
 
--- The day that `next_day` chooses by its two tests is a day of its month.
+-- If `d` is a day of its month, so is the day after `d`. `in_month` says that the day after `d` is in the same month.
+-- `in_year` says that the next month is in the same year.
 next_in : (d : Date) (in_month in_year : Bool) → IsInMonth d → nat_lt d.day (days_in_month d.year d.month) ≡ in_month
     → nat_lt d.month 12 ≡ in_year
     → IsInMonth (cond in_month (record { year = d.year; month = d.month; day = d.day + 1 })
@@ -73,7 +75,7 @@ next_in d false false is e f = record {
   day_last = one_day (d.year + 1) 1;
 }
 
--- ---- some days later
+-- ---- some days later, and due dates that are soon
 
 -- `a` and `b` are days of their months, and `b` is not before `a`.
 record IsNotBefore (a b : Date) : Type 0 where
@@ -97,7 +99,8 @@ unfolding days_later
 later_keeps zero a b h = h
 later_keeps (suc n) a b h = next_keeps (days_later n a) (days_later n b) (later_keeps n a b h)
 
--- If `b` is not before `a`, and `due` is by `a`, `due` is by `b`. The tests say which of both are in the calendar.
+-- If `b` is not before `a`, and `due` is by `a`, `due` is by `b`. `has_a` and `has_b` say that `a` and `b` are in the
+-- calendar.
 by_keeps : (a b due : Date) (has_a has_b : Bool) → nat_le a.year 9999 ≡ has_a → nat_le b.year 9999 ≡ has_b
     → is_before b a ≡ false → is_by (cond has_a (Ok a) (Err OutOfRange)) due ≡ true
     → is_by (cond has_b (Ok b) (Err OutOfRange)) due ≡ true
@@ -123,7 +126,7 @@ stays_soon today later ahead (Some due) from until order is =
     (record { first = in_month today from; second = in_month later until; order = order }) in
     by_keeps (days_later ahead today) (days_later ahead later) due _ _ refl refl ends.order is
 
--- ---- work
+-- ---- dates that are past, and work
 
 -- A date that is past on a day is past on each later day.
 stays_past : (today later : Date) (limit : Option Date) → is_before later today ≡ false → is_after_due today limit ≡ true
@@ -131,7 +134,8 @@ stays_past : (today later : Date) (limit : Option Date) → is_before later toda
 stays_past today later None order is = search rules
 stays_past today later (Some limit) order is = grind (arith, nat_tests)
 
--- On the day of `later` each date is past, or soon, that is so on the day of `on`.
+-- Each date of a loan that is past, or soon, by `on` is so by `later`. Both say how the dates of the loan stand to a
+-- day.
 pub record AreLater (on later : Dates) : Type 0 where
   pub expired : on.has_expired ≡ true → later.has_expired ≡ true
   pub overdue : on.is_overdue ≡ true → later.is_overdue ≡ true

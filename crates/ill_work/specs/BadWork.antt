@@ -1,4 +1,4 @@
--- Wrong answers on the kind of work with a side on a day, as staff would say it.
+-- Lists wrong answers on the kind of work with a side on a day, as staff would say them.
 use Rattle.std.specs.Prelude.{◌≡◌, ℕ, true, false, [], ◌∷◌, Some, None, Ok}
 use Rattle.ill_values.specs.Day.{Date, day_after}
 use Rattle.ill_core.specs.declared.state.State.TheVariants as states
@@ -45,13 +45,14 @@ pub data MisjudgesWork (today : Date) (ahead : ℕ) : Side → Work → Type 0 w
   -- The item is shipped. But `receive` is no verb of the work.
   forgets_parcel : (x : RequesterRecord) (work : Work) → x.state ≡ states.Shipped →
       is_verb_among (work_verbs work) verbs.Receive ≡ false → MisjudgesWork today ahead (sides.Requester x) work
-  -- Conditions wait for an answer. But the work gives none.
+  -- Conditions wait for an answer. But the work is another than to answer them.
   forgets_conditions : (x : RequesterRecord) (work : Work) → x.state ≡ states.Conditional → is_declined x ≡ false →
       is_work_among (AnswerConditions ∷ []) work ≡ false → MisjudgesWork today ahead (sides.Requester x) work
   -- The conditions were declined. But the work wants a hand.
   declines_again : (x : RequesterRecord) (work : Work) → x.state ≡ states.Conditional → is_declined x ≡ true →
       wants_a_hand work ≡ true → MisjudgesWork today ahead (sides.Requester x) work
-  -- The request waits for its answer, or the Cancel does, or the item is on its way back. But the work wants a hand.
+  -- A request without an expiry date waits for its answer, its Cancel waits, or the item is sent back. But the work
+  -- wants a hand.
   hurries : (x : RequesterRecord) (work : Work) →
       is_among (states.Pending ∷ states.CancelPending ∷ states.Returned ∷ []) x.state ≡ true →
       expiry_of (request_of (sides.Requester x)) ≡ None → wants_a_hand work ≡ true →
@@ -63,10 +64,10 @@ pub data MisjudgesWork (today : Date) (ahead : ℕ) : Side → Work → Type 0 w
   -- A request waits for its answer. But the work wants no hand.
   forgets_request : (y : ResponderRecord) (work : Work) → y.state ≡ states.InProcess → wants_a_hand work ≡ false →
       MisjudgesWork today ahead (sides.Responder y) work
-  -- A Cancel waits for its answer. But the work is another.
+  -- A Cancel waits for its answer. But the work is another than to answer it.
   forgets_cancel : (y : ResponderRecord) (work : Work) → y.state ≡ states.CancelPending →
       is_work_among (AnswerCancel ∷ []) work ≡ false → MisjudgesWork today ahead (sides.Responder y) work
-  -- A Renew waits for its answer. But the work is another.
+  -- A Renew waits for its answer. But the work is another than to answer it.
   forgets_renewal : (y : ResponderRecord) (work : Work) →
       is_among (states.RenewPending ∷ states.RenewOverdue ∷ []) y.state ≡ true →
       is_work_among (AnswerRenewal ∷ []) work ≡ false → MisjudgesWork today ahead (sides.Responder y) work
@@ -76,7 +77,7 @@ pub data MisjudgesWork (today : Date) (ahead : ℕ) : Side → Work → Type 0 w
   -- The shipped item is due today or later. But the work wants a hand.
   notifies_early : (y : ResponderRecord) (work : Work) (due : Date) → y.state ≡ states.Shipped → due_of y ≡ Some due →
       is_before due today ≡ false → wants_a_hand work ≡ true → MisjudgesWork today ahead (sides.Responder y) work
-  -- The due date of the shipped item is past. But the work says nothing of it.
+  -- The due date of the shipped item is past. But the work is another than to send an overdue notice.
   misses_overdue : (y : ResponderRecord) (work : Work) (due : Date) → y.state ≡ states.Shipped → due_of y ≡ Some due →
       is_before due today ≡ true → is_work_among (NotifyOverdue ∷ []) work ≡ false →
       MisjudgesWork today ahead (sides.Responder y) work
@@ -86,10 +87,10 @@ pub data MisjudgesWork (today : Date) (ahead : ℕ) : Side → Work → Type 0 w
   -- The expiry date is today. But the work lets the request expire.
   expires_early : (y : ResponderRecord) → expiry_of y.request ≡ Some today →
       MisjudgesWork today ahead (sides.Responder y) LetExpire
-  -- The requester has said that the item came. But the work takes it for one on its way.
+  -- The requester has said that the item came. But the work takes the item to be on its way.
   loses_sight : (y : ResponderRecord) → y.received ≡ true → MisjudgesWork today ahead (sides.Responder y) OnItsWay
   -- The loan is over. But the work is another than `Over`.
   reopens : (side : Side) (work : Work) → is_over side ≡ true → is_work_among (Over ∷ []) work ≡ false →
       MisjudgesWork today ahead side work
-  -- The loan is not over. But the work says so.
+  -- The loan is not over. But the work is `Over`.
   closes : (side : Side) → is_over side ≡ false → MisjudgesWork today ahead side Over

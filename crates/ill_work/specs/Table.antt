@@ -1,5 +1,5 @@
--- The table of the kinds of work: what staff do next with a side, by its state, its marks and how its dates stand to a day
--- (this profile's own; the states are those of ISO 10161-1).
+-- Defines the table of the kinds of work, which staff do next with a side. The work depends on its state, its marks and
+-- its dates on a day. The table is this profile's own; the states are those of ISO 10161-1.
 use Rattle.std.specs.Prelude.{ℕ, Bool, false, if◌then◌else◌, Option, None, Some}
 use Rattle.ill_values.specs.Day.{Date}
 use Rattle.ill_core.specs.declared.state.State.{State}
@@ -22,7 +22,7 @@ use Rattle.ill_work.specs.declared.work.Work.TheVariants.{Unpack, Request, OnIts
 
 -- ---- a requester
 
--- Returns the work with an item that is here.
+-- Returns the work with an item that the requester has received. `on` says how the dates stand to the day.
 abbrev pub received_work : Dates → Work
 received_work on =
     if on.is_overdue then SendBackOverdue else (if on.is_due_soon then SendBackOrRenew else WithReader)
@@ -50,11 +50,13 @@ requester_work x on = requester_work_in x.state (is_declined x) (is_received_by 
 
 -- ---- a responder
 
--- Returns the work with an item that is shipped. `received` says that the responder has the received mark.
+-- Returns the work with an item that is shipped. `received` says that the responder has the received mark, and `on` how
+-- its dates stand to the day.
 abbrev pub shipped_work : Bool → Dates → Work
 shipped_work received on = if on.is_overdue then NotifyOverdue else (if received then Wait else OnItsWay)
 
--- Returns the work in a responder's state.
+-- Returns the work in a responder's state. `received` says that it has the received mark, and `on` how its dates stand
+-- to the day.
 abbrev pub responder_work_in : State → Bool → Dates → Work
 responder_work_in states.Idle received on = Wait
 responder_work_in states.InProcess received on = if on.has_expired then LetExpire else AnswerRequest
@@ -93,11 +95,12 @@ kind_of_work today ahead side = work_with side (dates_on today ahead side)
 
 -- ---- a side without a day
 
--- Says that no date of a loan is past, and that none is soon.
+-- Returns the dates of a loan of which none is past, and none is soon.
 abbrev pub no_date_presses : Dates
 no_date_presses = record { has_expired = false; is_overdue = false; is_due_soon = false }
 
--- Returns the kind of work with `side` on the day `today`. Without a day no date is past, and none is soon.
+-- Returns the kind of work with `side` on the day `today`. A due date is soon if it is at most `ahead` days away.
+-- Without a day no date is past, and none is soon.
 abbrev pub work_on : Option Date → ℕ → Side → Work
 work_on None ahead side = work_with side no_date_presses
 work_on (Some today) ahead side = kind_of_work today ahead side

@@ -10,7 +10,7 @@ use Rattle.ill_work.specs.declared.work.Work.TheVariants.{AnswerRenewal, AnswerC
 use Rattle.ill_work.specs.declared.work.Work.TheVariants.{RecallOrAsk, LetExpire, CancelOrAsk, SendBackOrRenew, CheckIn}
 use Rattle.ill_work.specs.declared.work.Work.TheVariants.{Unpack, Request, OnItsWay, WithReader, Wait, Over}
 
--- Returns the verbs of the actions that do this work. Work without a verb is to wait, or is none.
+-- Returns the verbs of the actions that do this work. `OnItsWay`, `WithReader`, `Wait` and `Over` have no verb.
 abbrev pub work_verbs : Work → List Verb
 work_verbs SendBackRecalled = verbs.Return ∷ []
 work_verbs LookFor = verbs.Receive ∷ []
@@ -32,11 +32,11 @@ work_verbs WithReader = []
 work_verbs Wait = []
 work_verbs Over = []
 
--- Returns true if the work wants a hand on that day: it has a verb.
+-- Returns true if the work wants a hand: it has a verb.
 abbrev pub wants_a_hand : Work → Bool
 wants_a_hand work = nat_lt 0 (length (work_verbs work))
 
--- Returns the words for staff.
+-- Returns the words that tell staff the work.
 abbrev pub work_words : Work → List ℕ
 work_words SendBackRecalled = codes "send back at once"
 work_words LookFor = codes "look for it: it is wanted back"
@@ -58,8 +58,9 @@ work_words WithReader = codes "leave it with the reader"
 work_words Wait = codes "wait for the other library"
 work_words Over = codes "file it away"
 
--- Returns the urgency of the work, from 0 on. The most pressing work has 0: the other library wants the item back. After
--- it come dates that are past, questions of the other library, dates that are near, and parcels. Waits come last.
+-- Returns the urgency of the work: its index in `all_work`, from 0 on. The most pressing work has 0. First come items
+-- wanted back and dates that are past, then questions of the other library and near due dates. Parcels and unsent
+-- requests follow. Waits and loans that are over come last.
 abbrev pub urgency_of : Work → ℕ
 urgency_of SendBackRecalled = 0
 urgency_of LookFor = 1

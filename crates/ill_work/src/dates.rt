@@ -1,4 +1,4 @@
-//! How the dates of a loan stand to a day.
+//! Defines how the dates of a loan stand to a day: past, soon, or neither.
 
 ghost use Rattle.std.specs.Prelude.{◌≡◌};
 ghost use Rattle.ill_core.specs.Dates.{is_after_due};
@@ -9,14 +9,14 @@ use ill_saved::Side;
 use ill_values::Day;
 use ill_words::possible::expiry;
 
-/// How the dates of a loan stand to a day.
+/// Says which dates of a loan are past or soon on a day.
 #[derive(Clone, Copy)]
 pub(crate) struct Dates {
-    /// The expiry date of the request is past.
+    /// True if the expiry date of the request is past.
     pub has_expired: bool,
-    /// The due date is past.
+    /// True if the due date is past.
     pub is_overdue: bool,
-    /// The due date is at most some days away.
+    /// True if the due date is past, or at most a number of days away that the caller chose.
     pub is_due_soon: bool,
 }
 
@@ -49,7 +49,7 @@ fn is_past(today: Day, date: Option<Day>) -> bool
 }
 
 /// Returns true if there is a due date, and it is at most `ahead` days after the day `today`. If the calendar ends
-/// before that day, each due date is.
+/// before that day, it returns true for each due date.
 fn is_due_within(today: Day, ahead: u32, due: Option<Day>) -> bool
     ensures { result ≡ is_due_within today ahead due }
 {

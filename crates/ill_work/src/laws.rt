@@ -59,8 +59,8 @@ pub fn no_work_is_left_at_the_end()
     work_can_be_done();
 }
 
-/// The work of a requester is one of its kinds, and that of a responder one of its own. Both have `Wait` and `Over`,
-/// and no other kind.
+/// The work of a requester is one of its kinds, and the work of a responder one of its own. Only `Wait` and `Over` are
+/// kinds of both.
 pub fn work_is_of_its_role()
     ensures asks { (today : Date) (ahead : ℕ) (x : RequesterRecord) →
         is_work_among requesters_work (kind_of_work today ahead (sides.Requester x)) ≡ true }
@@ -103,8 +103,8 @@ pub fn waiting_makes_no_work_less_pressing()
         is_before later today ≡ false → urgency_on later ahead side ≤ urgency_on today ahead side }
 {}
 
-/// Without a day the work is what it is before each date. Each of its verbs is possible on some day. Work that wants a
-/// hand, or an item with its reader, is of a side in its own turn. On each day the work is at least as pressing.
+/// Without a day no date of a loan is past or soon. Each verb of its work is possible on some day. A side has the turn
+/// exactly if this work wants a hand, or its item is with a reader. On each day the work is at least as pressing.
 #[tactic(auto, using(crate::proofs::UndatedLemmas::is_possible, crate::proofs::UndatedLemmas::agrees, crate::proofs::UndatedLemmas::least_pressing))]
 pub fn work_without_a_day()
     ensures possible { (ahead : ℕ) (side : Side) (verb : Verb) →
@@ -125,7 +125,7 @@ pub fn each_loan_has_one_kind_of_work()
         sum_by (λ work. count_of today ahead work sides) all_work ≡ length sides }
 {}
 
-/// The kinds of work are right: none is one of the wrong answers.
+/// The kinds of work are right: none is one of the wrong answers of `MisjudgesWork`.
 #[tactic(auto, using(crate::proofs::BadWorks::not_misjudged))]
 pub fn no_bad_work_passes()
     ensures { (today : Date) (ahead : ℕ) (side : Side) →

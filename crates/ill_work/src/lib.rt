@@ -1,7 +1,7 @@
-//! The kinds of work: what staff do next with a loan on a day, and how soon.
+//! Defines the kinds of work: what staff do next with a loan on a day, and how soon.
 //!
-//! `Work::of` gives the work with one side, and `Work::on` also without a day. `most_pressing_first` puts the loans of a
-//! desk in the order of their work. `count` counts those with one kind of work.
+//! `Work::of` gives the work with one side, and `Work::on` also without a day. `most_pressing_first` puts the loans of
+//! a desk in the order of their work. `count` counts the loans with one kind of work.
 #![tactic(auto)]
 
 mod dates;

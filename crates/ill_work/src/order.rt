@@ -1,4 +1,4 @@
-//! The loans of a desk in the order of their work, and the number of loans with one kind of work.
+//! Puts the loans of a desk in the order of their work, and counts the loans with one kind.
 
 ghost use Rattle.std.specs.Prelude.{◌≡◌, map, IfOk, IsPermutation};
 ghost use Rattle.std.specs.List.Sorted.{IsNonDecreasingBy};
@@ -11,8 +11,8 @@ use ill_words::waiting::most_urgent_first;
 use std::alloc::Global;
 
 /// Returns all loans in the order of their work on the day `today`, the most pressing first. Loans with one kind of
-/// work are in the order of their deadlines, and loans without one last. Loans with equal deadlines stay in the order
-/// in which they were begun. A due date is soon if it is at most `ahead` days away.
+/// work are in the order of their deadlines, and loans without a deadline last. Loans with equal deadlines stay in the
+/// order in which they were begun. A due date is soon if it is at most `ahead` days away.
 pub fn most_pressing_first<'a>(
     alloc: Global,
     sides: &'a Sides,
@@ -40,7 +40,8 @@ pub fn count(sides: &[&Side], work: Work, today: Day, ahead: u32) -> usize
         .count()
 }
 
-/// Returns true if `work` is the work with `side` on the day `today`.
+/// Returns true if `work` is the work with `side` on the day `today`. A due date is soon if it is at most `ahead` days
+/// away.
 fn has_work(side: &Side, work: Work, today: Day, ahead: u32) -> bool
     ensures { result ≡ has_work today ahead work side.now }
 {

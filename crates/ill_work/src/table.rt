@@ -1,4 +1,4 @@
-//! The table of the kinds of work: one for each state, its marks and how its dates stand to a day.
+//! Defines the table of the kinds of work: one for each state of a side, its marks and its dates.
 
 ghost use Rattle.std.specs.Prelude.{◌≡◌};
 ghost use Rattle.ill_work.specs.Table.{kind_of_work, received_work, requester_work, responder_work, shipped_work, work_on, work_with};
@@ -11,15 +11,15 @@ use ill_values::Day;
 
 impl Work {
     /// Returns the work with `side` on the day `today`. A due date is soon if it is at most `ahead` days away. If the
-    /// calendar ends before that, each due date is. Allocates nothing.
+    /// calendar ends before that day, each due date is soon. Allocates nothing.
     pub fn of(side: &Side, today: Day, ahead: u32) -> Work
         ensures { result ≡ kind_of_work today ahead side.now }
     {
         work_with(side, dates_on(today, ahead, side))
     }
 
-    /// Returns the work with `side` on the day `today`. Without a day no date is past, and none is soon. Allocates
-    /// nothing.
+    /// Returns the work with `side` on the day `today`. A due date is soon if it is at most `ahead` days away. Without
+    /// a day no date is past, and none is soon. Allocates nothing.
     pub fn on(side: &Side, today: Option<Day>, ahead: u32) -> Work
         ensures { result ≡ work_on today ahead side.now }
     {
@@ -67,7 +67,7 @@ fn requester_work(requester: &Requester, dates: Dates) -> Work
     }
 }
 
-/// Returns the work with an item that is here, whose dates stand to the day as `dates` says.
+/// Returns the work with an item that the requester has received. `dates` says how its dates stand to the day.
 fn received_work(dates: Dates) -> Work
     ensures { result ≡ received_work dates }
 {
@@ -102,8 +102,8 @@ fn responder_work(responder: &Responder, dates: Dates) -> Work
     }
 }
 
-/// Returns the work with an item that is shipped, whose dates stand to the day as `dates` says. If `is_received` is
-/// true, it has reached the requester.
+/// Returns the work with an item that is shipped. `is_received` says that it has reached the requester, and `dates` how
+/// its dates stand to the day.
 fn shipped_work(is_received: bool, dates: Dates) -> Work
     ensures { result ≡ shipped_work is_received dates }
 {

@@ -1,4 +1,4 @@
-//! The kinds of work at a desk: their actions, their words and their urgency.
+//! Defines the kinds of work at a desk: their verbs, their words and their urgency.
 
 ghost use Rattle.std.specs.Prelude.{◌≡◌, Some};
 ghost use Rattle.std.specs.Fmt.{padded};
@@ -13,7 +13,7 @@ use std::fmt;
 pub enum Work {
     /// A requester sends back an item that the responder has recalled.
     SendBackRecalled,
-    /// A requester looks for an item that the responder wants back, and that was never received.
+    /// A requester looks for an item that is overdue or recalled, and that was never received.
     LookFor,
     /// A requester sends back an item that is overdue, or agrees with the responder on more time.
     SendBackOverdue,
@@ -82,7 +82,7 @@ impl Work {
         &WORKS
     }
 
-    /// Returns the words for staff, as `send back at once`.
+    /// Returns the words that tell staff the work, as `send back at once`.
     pub fn words(self) -> &'static str
         ensures { result.now ≡ work_words self }
     {
@@ -109,7 +109,7 @@ impl Work {
         }
     }
 
-    /// Returns the verbs of the actions that do this work. Work without a verb is to wait, or is none.
+    /// Returns the verbs of the actions that do this work. `OnItsWay`, `WithReader`, `Wait` and `Over` have no verb.
     pub fn verbs(self) -> &'static [Verb]
         ensures { result.now ≡ work_verbs self }
     {
@@ -131,7 +131,7 @@ impl Work {
         }
     }
 
-    /// Returns true if the work wants a hand on that day: it has a verb.
+    /// Returns true if the work wants a hand: it has a verb.
     pub fn wants_a_hand(self) -> bool
         ensures { result ≡ wants_a_hand self }
     {

@@ -162,6 +162,7 @@ date_made d is =
     ) refl
 
 -- The date text of a day in range is read as that day.
+-- By `year`, `month` and `day` the digits of the text have the values of these fields. `last` bounds the day.
 pub date_again : (d : Date) → IsDate d → read_date (date_text d) ≡ Ok d
 date_again d is =
     let year : (10 * (48 + d.year / 1000 % 10 - 48) + (48 + d.year / 100 % 10 - 48)) * 100

@@ -1,4 +1,5 @@
--- Proves that the day `n` days later has a number in jiff's calendar that is higher by `n`.
+-- Proves that the day `n` days later has a number in jiff's calendar that is higher by `n`. So `day_after` agrees with
+-- a date of jiff to which `n` days are added.
 use Rattle.std.proofs.Common.{◌≡◌, ℕ, zero, suc, ◌+◌, ◌<◌, ◌≤◌, Bool, true, false, cond, nat_lt, Ok, Err, refl, sym, ap, ◌∙◌}
 use Rattle.std.proofs.Common.{arith, ℤ, pos, ◌+ℤ◌, ◌≤ℤ◌, unsigned_abs, inl, inr}
 use Rattle.std.specs.Int.{IsInRange}
@@ -91,7 +92,8 @@ next_in_next_year d is last end =
           (omega (arith, signed_arith)));
     }
 
--- The day that `next_day` chooses by its two tests is one day after `d`.
+-- The day that `next_day` chooses by its two tests is one day after `d`. The results of the tests are `in_month` and
+-- `in_year`.
 next_by : (d : Date) (in_month in_year : Bool) → IsDay d → nat_lt d.day (days_in_month d.year d.month) ≡ in_month
     → nat_lt d.month 12 ≡ in_year
     → IsLater 1 d (cond in_month (record { year = d.year; month = d.month; day = d.day + 1 })
@@ -139,12 +141,12 @@ number_same d date same =
     let day : date.day ≡ d.day = omega (arith, signed_arith, same.2) in
     rw (same.0, month, day) refl
 
--- If the year of the day `d` is at most 9999, its number is within jiff's calendar.
+-- If the year of the day `d` is at most 9999, the number of `d` is within jiff's calendar.
 number_in_reach : (d : Date) → IsDay d → d.year ≤ 9999 → IsEpochDay (day_number d)
 unfolding civil_of
 number_in_reach d is year = epoch_day_range (civil_of d (date_of_day d is year))
 
--- If the number of the day `d` is within jiff's calendar, its year is at most 9999.
+-- If the number of the day `d` is within jiff's calendar, the year of `d` is at most 9999.
 -- A later year has a number above that of 31 December 9999, the last day of jiff's calendar.
 year_in_reach : (d : Date) → IsDay d → IsEpochDay (day_number d) → d.year ≤ 9999
 year_in_reach d is reach =
@@ -198,8 +200,9 @@ record IsReached (d : Date) (later : CivilDate) : Type 0 where
   same_month : pos later.month ≡ pos d.month
   same_day : pos later.day ≡ pos d.day
 
--- Let `date` be the date of jiff for the day `d`. If the number of `later` is that of `date` plus `n`, `later` is
--- `days_later n d`, and this is in range. For dates with equal numbers are equal (`epoch_day_injective`).
+-- Let `date` be the date of jiff for the day `d`. Let the number of `later` be the number of `date` plus `n`. Then
+-- `later` is `days_later n d`, which is in range. For dates with equal numbers are equal (`epoch_day_injective`).
+-- By `far` the day `days_later n d` is `n` days after `d`. By `here` its number is the number of `later`.
 reached_same : (n : ℕ) (d : Date) (date later : CivilDate) → IsDate d → IsSame d date
     → epoch_day later ≡ epoch_day date +ℤ pos n → IsReached (days_later n d) later
 unfolding civil_of
@@ -211,15 +214,16 @@ reached_same n d date later is same number =
     let one = epoch_day_injective later (civil_of (days_later n d) found) here in
     record { in_range = found; same_year = one.0; same_month = ap pos one.1; same_day = ap pos one.2 }
 
--- Let `date` be the day `d`. If the number of `later` is that of `date` plus `n`, its year is not negative.
+-- Let `date` be the day `d`. If the number of `later` is the number of `date` plus `n`, the year of `later` is not
+-- negative. By `there` the date `later` is the day `days_later n d`.
 pub reached_year : (n : ℕ) (d : Date) (date later : CivilDate) → IsDate d → IsSame d date
     → epoch_day later ≡ epoch_day date +ℤ pos n → pos 0 ≤ℤ later.year
 reached_year n d date later is same number =
     let there = reached_same n d date later is same number in
     rw there.same_year (omega (arith, signed_arith))
 
--- Let `date` be the day `d`. If the number of `later` is that of `date` plus `n`, `date_of` of the parts of `later`
--- returns `day_after n d`.
+-- Let `date` be the day `d`. Let the number of `later` be the number of `date` plus `n`. Then `date_of` of the year,
+-- month and day of `later` returns `day_after n d`. By `there` the date `later` is the day `days_later n d`.
 pub reached : (n : ℕ) (d : Date) (date later : CivilDate) → IsDate d → IsSame d date
     → epoch_day later ≡ epoch_day date +ℤ pos n
     → date_of (unsigned_abs later.year) later.month later.day ≡ day_after n d

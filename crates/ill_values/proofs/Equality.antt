@@ -1,4 +1,4 @@
--- Proves that two APDUs are equal if all their parts are.
+-- Proves that a test of all parts of two APDUs is true if, and only if, the APDUs are equal.
 use Rattle.std.proofs.Common.{◌≡◌, ℕ, Bool, ◌&&◌, nat_eq, IsTrue, ◌↔◌, eq-eqb, ap}
 use Rattle.std.proofs.lemmas.Bool.{and_parts, and_from, eqb-true}
 use Rattle.ill_values.specs.declared.apdu.Apdu.{Apdu}
@@ -11,7 +11,8 @@ same_parts a b txn number body =
     let parts : (a.txn, a.number, a.body) ≡ (b.txn, b.number, b.body) = cc in
     ap (λ (p : Qualifiers × ℕ × Body). record { txn = p.0; number = p.1; body = p.2 }) parts
 
--- If the tests of ids and of bodies decide equality, the test of all parts decides the equality of APDUs.
+-- Let `same_txn` be true exactly for equal ids, and `same_body` exactly for equal bodies. Then the test of all parts is
+-- true exactly for equal APDUs.
 pub apdus_equal : (same_txn : Qualifiers → Qualifiers → Bool) (same_body : Body → Body → Bool)
     → ((a b : Qualifiers) → IsTrue (same_txn a b) ↔ (a ≡ b)) → ((a b : Body) → IsTrue (same_body a b) ↔ (a ≡ b))
     → (a b : Apdu) → IsTrue (same_txn a.txn b.txn && (nat_eq a.number b.number && same_body a.body b.body)) ↔ (a ≡ b)

@@ -29,7 +29,7 @@ name_found name_of (a ∷ all) text x e =
       | inr h ↦ name_found name_of all text x h
     ]
 
--- If each name is read as its value, `text` is read as `x` if, and only if, it names `x`.
+-- Let the name of each value be read as that value. Then `text` is read as `x` if, and only if, it is the name of `x`.
 pub named_exactly : {A : Type 0} (name_of : A → List ℕ) (all : List A) → ((x : A) → named_by name_of all (name_of x) ≡ Some x)
     → (text : List ℕ) (x : A) → (named_by name_of all text ≡ Some x) ↔ (text ≡ name_of x)
 named_exactly name_of all again text x = (

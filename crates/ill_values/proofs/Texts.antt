@@ -1,4 +1,5 @@
--- Proves the tests of texts: UTF-8 by the result of `from_utf8`, and the size of a text.
+-- Proves that `from_utf8` tests UTF-8, and that items, qualifiers and date texts are UTF-8. Proves that a text which
+-- passes `text_check` has 1 to `most` bytes.
 use Rattle.std.proofs.Common.{◌≡◌, ℕ, ◌/◌, ◌<◌, ◌≤◌, Bool, true, false, cond, eqb, leb, ltb, List, [], ◌∷◌, length, Result, Ok}
 use Rattle.std.proofs.Common.{Err}
 use Rattle.std.proofs.Common.{sym, refl, arith}
@@ -19,7 +20,8 @@ is_false : (b : Bool) → (b ≡ true → ⊥) → false ≡ b
 is_false true never = absurd (never refl)
 is_false false never = refl
 
--- If `r` is `Ok` for UTF-8 and `Err` for other bytes, `is_ok r` is `is_utf8 bs`.
+-- If `r` is `Ok` for UTF-8 and `Err` for other bytes, `is_ok r` is `is_utf8 bs`. `P` and `Q` are further statements on
+-- the value and on the error of `r`, which are not used.
 pub is_ok-from_utf8 : {S E : Type 0} (bs : List ℕ) (r : Result S E) (P : S → Type 0) (Q : E → Type 0)
     → MatchResult r (λ s. P s × IsUtf8 bs) (λ e. ¬ (IsUtf8 bs) × Q e) → is_ok r ≡ is_utf8 bs
 is_ok-from_utf8 bs (Ok s) P Q h = sym (is_utf8-from_IsUtf8 bs h.1)
@@ -31,7 +33,7 @@ no_fault : (b : Bool) (r : Result (Unit {0}) TextFault) (fault : TextFault) → 
 no_fault true r fault e = absurd cc
 no_fault false r fault e = (refl, e)
 
--- A text that passes `text_check` has at most `most` bytes.
+-- A text that passes `text_check` has at most `most` bytes. By `some` it is not empty, and by `few` it is not too long.
 text_most : (most : ℕ) (passes : List ℕ → Bool) (text : List ℕ) → text_check most passes text ≡ Ok tt → length text ≤ most
 text_most most passes text e =
     let some = no_fault (eqb (length text) 0)
@@ -58,7 +60,8 @@ passed : (b : Bool) → judged b ≡ Ok tt → b ≡ true
 passed true e = refl
 passed false e = absurd cc
 
--- A text that passes `text_check` passes its last test, `passes`.
+-- A text that passes `text_check` passes its last test, `passes`. By `some` and `few` the tests of its size found no
+-- fault.
 text_passes : (most : ℕ) (passes : List ℕ → Bool) (text : List ℕ) → text_check most passes text ≡ Ok tt → passes text ≡ true
 text_passes most passes text e =
     let some = no_fault (eqb (length text) 0)

@@ -30,8 +30,8 @@ IsBody (Renew wished) = IfSome wished IsDate
 IsBody (RenewAnswer answers granted) = IsNumber answers × IfSome granted IsDate
 IsBody Expired = Unit {0}
 
--- Each part of `apdu` is in range. A clause on all messages needs this premise, because a number there is any natural
--- number. A text is any list there.
+-- Each part of `apdu` is in range. A value of the type `Apdu` may have any natural number as its number, and any list
+-- as a text. So a clause on all APDUs needs this premise.
 pub record IsApdu (apdu : Apdu) : Type 0 where
   pub txn : AreQualifiers apdu.txn
   pub number : IsNumber apdu.number

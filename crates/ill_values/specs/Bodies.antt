@@ -1,4 +1,4 @@
--- Tests the type and the fields of an APDU (this profile's own).
+-- Tests the type and the fields of an APDU, and returns dates and numbers in them (this profile's own).
 use Rattle.std.specs.Prelude.{ℕ, Bool, true, false, ◌||◌, Option, Some, None}
 use Rattle.ill_values.specs.Body.{Body}
 use Rattle.ill_values.specs.declared.apdu.BodyWith.TheVariants.{IllRequest, IllAnswer, ConditionalReply, Cancel, CancelReply}
@@ -81,7 +81,7 @@ grant_in (Shipped due) = Some due
 grant_in (RenewAnswer answers due) = due
 grant_in other = None
 
--- Returns the due date that an APDU states, or `None`.
+-- Returns the due date that a Shipped, an Overdue or a Renew-Answer yes states, and `None` for any other APDU.
 abbrev pub date_in : Body → Option Date
 date_in (Shipped due) = Some due
 date_in (Overdue due) = Some due
@@ -93,7 +93,7 @@ abbrev pub declines : Body → Bool
 declines (ConditionalReply answers false) = true
 declines other = false
 
--- Returns the number of the conditions that a Conditional-Reply yes accepts, and `None` for any other APDU.
+-- Returns the number of the ILL-Answer conditional that a Conditional-Reply yes accepts, and `None` for any other APDU.
 abbrev pub accepts : Body → Option ℕ
 accepts (ConditionalReply answers true) = Some answers
 accepts other = None

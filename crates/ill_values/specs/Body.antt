@@ -1,4 +1,4 @@
--- The body of an APDU, whatever stands for its item.
+-- Defines the body of an APDU in proofs, and the bodies that differ from it in their item alone.
 use Rattle.std.specs.Prelude.{◌≡◌, ℕ, List, Result, Ok, Err}
 use Rattle.std.specs.Borrow.{Bor}
 use Rattle.ill_values.specs.declared.apdu.BodyWith.{BodyWith}
@@ -38,8 +38,8 @@ abbrev pub checked_body : BodyWith (Bor (List ℕ)) → Result Body TextFault
 checked_body (IllRequest expiry item) = item_of item.now >>= λ text. Ok (IllRequest expiry text)
 checked_body other = Ok (body_in other)
 
--- `result` is `old` with another item in an ILL-Request, or the fault of that item. All other fields are kept.
--- `gives item made` says that the item `item` may become `made`.
+-- Maps the item of a body, `old`. `gives item made` says that the item `item` may give `made`, a new item or a fault.
+-- If `old` is an ILL-Request, `result` is `old` with the new item, or the fault. Any other body is kept.
 abbrev pub Maps : {I J E : Type 0} → (I → Result J E → Type 0) → BodyWith I → Result (BodyWith J) E → Type 0
 Maps gives (IllRequest expiry item) (Ok (IllRequest same new)) = (same ≡ expiry) × gives item (Ok new)
 Maps gives (IllRequest expiry item) (Err fault) = gives item (Err fault)

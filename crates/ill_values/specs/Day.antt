@@ -6,7 +6,7 @@ use Rattle.std.specs.Char.{is_ascii_digit}
 use Rattle.ill_values.specs.declared.fault.DayFault.{DayFault}
 use Rattle.ill_values.specs.declared.fault.DayFault.TheVariants.{NotDigits, OutOfRange, NotADate}
 
--- A year, a month from 1 to 12, and a day of that month.
+-- A year, a month and a day of the month, each any natural number. `IsDate` says that they are a day.
 pub record Date : Type 0 where
   pub year : ℕ
   pub month : ℕ

@@ -24,7 +24,7 @@ abbrev pub ◌>>=◌ : {A B : Type 0} → Result A TextFault → (A → Result B
 (Ok value) >>= next = next value
 (Err fault) >>= next = Err fault
 
--- Returns `Ok` if `text` has 1 to `most` bytes and passes the test, and else its first fault.
+-- Returns `Ok` if `text` has 1 to `most` bytes and passes the test `passes`, and else its first fault.
 abbrev pub text_check : ℕ → (List ℕ → Bool) → List ℕ → Result (Unit {0}) TextFault
 text_check most passes text =
     if length text == 0 then Err Empty
@@ -51,7 +51,8 @@ IsItem text = item_check text ≡ Ok tt
 abbrev pub item_of : List ℕ → Result (List ℕ) TextFault
 item_of text = item_check text >>= λ _. Ok text
 
--- `result` is the expected fault, which is the first parameter. If that is a value, `result` is it or `OutOfMemory`.
+-- The first parameter is the expected result. If it is a fault, `result` is that fault. If it is a value, `result` is
+-- that value or `OutOfMemory`.
 abbrev pub ReturnsText : {V : Type 0} → Result V TextFault → Result V TextFault → Type 0
 ReturnsText (Err fault) result = result ≡ Err fault
 ReturnsText (Ok value) result = MatchResult result (λ made. made ≡ value) (λ fault. fault ≡ OutOfMemory)

@@ -72,7 +72,7 @@ pub enum BodyWith<I> {
     },
     /// The requester accepts or declines the responder's conditions.
     ConditionalReply {
-        /// The number of the ILL-Answer that named the conditions.
+        /// The number of the ILL-Answer conditional that is answered.
         answers: Number,
         /// True if the requester accepts the conditions.
         yes: bool,
@@ -121,7 +121,7 @@ pub enum BodyWith<I> {
 }
 
 impl<I> BodyWith<I> {
-    /// Returns the type of the message. A view of the body has an equal type (`mapped`).
+    /// Returns the type of the message. If bytes replace its item, the body keeps the type (`mapped`).
     pub fn apdu_type(&self) -> ApduType
         ensures value { result ≡ type_of self.now }
         ensures mapped { (text : I → List ℕ) → result ≡ type_of (map_item text self.now) }
@@ -144,7 +144,8 @@ impl<I> BodyWith<I> {
         }
     }
 
-    /// Returns the name of the type of the message, as `ILL-Request`. A view of the body has an equal name (`mapped`).
+    /// Returns the name of the type of the message, as `ILL-Request`. If bytes replace its item, the body keeps the
+    /// name (`mapped`).
     pub fn type_name(&self) -> &'static str
         ensures value { result.now ≡ type_name self.now }
         ensures mapped { (text : I → List ℕ) → result.now ≡ type_name (map_item text self.now) }

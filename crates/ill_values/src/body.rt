@@ -1,4 +1,4 @@
-//! Asks of the type and the fields of an APDU.
+//! Tests the type and the fields of an APDU, and returns the due date in them.
 
 ghost use Rattle.std.specs.Prelude.{◌≡◌};
 ghost use Rattle.ill_values.specs.Bodies.{is_requesters, is_ill_request, is_shipped, is_end, is_renewal, names_conditions, grant_in, date_in};
@@ -36,8 +36,8 @@ impl Body {
         matches!(self, Body::Shipped { .. })
     }
 
-    /// Returns true if the APDU ends the request. It is a final ILL-Answer, an Expired, a Cancel-Reply yes, or a
-    /// Shipped.
+    /// Returns true for an APDU that ends the request: a final ILL-Answer, an Expired, a Cancel-Reply yes, or a
+    /// Shipped. An ILL-Answer is final if its result is not `Conditional`, `WillSupply` or `HoldPlaced`.
     pub fn is_end(&self) -> bool
         ensures { result ≡ is_end self.now }
     {
@@ -88,7 +88,7 @@ impl Body {
         }
     }
 
-    /// Returns the due date that the APDU states, of a Shipped, an Overdue or a Renew-Answer yes, or `None`.
+    /// Returns the due date that a Shipped, an Overdue or a Renew-Answer yes states, and `None` for any other APDU.
     pub fn date(&self) -> Option<Day>
         ensures { result ≡ date_in self.now }
     {

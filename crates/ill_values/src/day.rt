@@ -58,6 +58,7 @@ impl Day {
     }
 
     /// Returns the day with the eight ASCII digits `text`, as `20250315`. The fault of any other text is `NotDigits`.
+    /// If the digits give no day, the fault is that of `new`.
     pub fn read(text: &[u8]) -> Result<Day, DayFault>
         ensures { result ≡ read_date text.now }
     {
@@ -142,7 +143,8 @@ impl Day {
         civil::date(self.year as i16, self.month as i8, self.day as i8)
     }
 
-    /// Returns a date of jiff as a day, or `OutOfRange` if its year is not from 1900 to 9999.
+    /// Returns `date`, a date of jiff, as a day, or `OutOfRange` if its year is not from 1900 to 9999. The year may not
+    /// be negative.
     fn from_civil(date: civil::Date) -> Result<Day, DayFault>
         requires { pos 0 ≤ℤ date.year }
         ensures { result ≡ date_of (unsigned_abs date.year) date.month date.day }
@@ -175,7 +177,7 @@ impl fmt::Display for Day {
     }
 }
 
-/// Returns true if the calendar has this day. The year is at most 9999.
+/// Returns true if the calendar has this day. `year` must be at most 9999, but may be before 1900.
 fn is_in_calendar(year: u16, month: u8, day: u8) -> bool
     requires { year ≤ 9999 }
     ensures { result ≡ is_in_year year month day }
@@ -205,7 +207,7 @@ fn is_digits(text: &[u8]) -> bool
     text.iter().all(|byte| byte.is_ascii_digit())
 }
 
-/// Returns the value of the two digits of `text` from index `place` on.
+/// Returns the value of the two digits of `text` from index `place` on. `text` must be eight ASCII digits.
 fn two_digits(text: &[u8], place: usize) -> u8
     requires place { place < 7 }
     requires length { length text.now ≡ 8 }

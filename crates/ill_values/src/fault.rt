@@ -6,7 +6,8 @@ ghost use Rattle.ill_values.specs.declared.fault.TextFault.TheVariants.{OutOfMem
 use std::alloc::{AllocError, AllocFailed};
 use thiserror::Error;
 
-/// A fault of bytes that are not a qualifier or not an item. If there are several, it is the first in this order.
+/// The reason why bytes gave no qualifier or no item. It is a fault of the bytes, or memory ran out. Of several faults
+/// of one text it is the first in this order.
 #[derive(Clone, Copy, Debug, PartialEq, Eq, Hash, Error)]
 pub enum TextFault {
     /// The text has no bytes.
@@ -23,26 +24,27 @@ pub enum TextFault {
     OutOfMemory,
 }
 
-/// A fault of a day that does not exist. If there are several, it is the first in this order.
+/// The reason why a text, or numbers, gave no `Day`. The day may not exist, or may be out of the range of `Day`. Of
+/// several faults it is the first in this order.
 #[derive(Clone, Copy, Debug, PartialEq, Eq, Hash, Error)]
 pub enum DayFault {
     /// The text is not exactly eight ASCII digits. Only `Day::read` and `Day::from_str` return this.
     #[error("a date is eight digits")]
     NotDigits,
-    /// The year is not from 1900 to 9999, or a later day is after 31 December 9999.
+    /// The year is not from 1900 to 9999, or `Day::after` would lead past 31 December 9999.
     #[error("the years are 1900 to 9999")]
     OutOfRange,
-    /// The calendar has no such day.
+    /// The year is in range, but has no day with this month and this day of the month.
     #[error("the calendar has no such day")]
     NotADate,
 }
 
-/// A text that names no value of its type.
+/// The fault of a text that is not the name of a value of the type that is read.
 #[derive(Clone, Copy, Debug, PartialEq, Eq, Hash, Error)]
 #[error("the text is no name")]
 pub struct UnknownName;
 
-/// The number 0, which no message has.
+/// The fault of the value 0, which is the number of no message.
 #[derive(Clone, Copy, Debug, PartialEq, Eq, Hash, Error)]
 #[error("a number is 1 to 255")]
 pub struct NotANumber;

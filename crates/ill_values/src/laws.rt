@@ -40,7 +40,7 @@ pub fn equal_days()
     ensures { (a b : Date) → IsTrue (⟦<Day as PartialEq>⟧.eq a b) ↔ (a ≡ b) }
 {}
 
-/// One day is less than another if, and only if, it comes before it in the calendar.
+/// A day `a` is less than a day `b` if, and only if, `a` is before `b` in the calendar.
 pub fn ordered_days()
     ensures { (a b : Date) → (⟦<Day as Ord>⟧.cmp a b ≡ Ordering.Less) ↔ IsBefore a b }
 {}
@@ -70,14 +70,15 @@ pub fn text_sizes()
     ensures item { (text : List ℕ) → IsItem text → (1 ≤ length text) × (length text ≤ 200) }
 {}
 
-/// The date text of a day is read as that day. Any text that is read as a day is its date text.
+/// The date text of a day is read as that day. Any text that is read as a day is the date text of that day.
 pub fn date_texts()
     ensures encoded { (d : Date) → IsDate d → read_date (date_text d) ≡ Ok d }
     ensures read { (text : List ℕ) (d : Date) → read_date text ≡ Ok d →
         IsDate d × (text ≡ date_text d) }
 {}
 
-/// If each name is read as its value, a text is read as a value if, and only if, it is its name.
+/// Let the name of each value be read as that value. Then a text is read as a value if, and only if, the text is the
+/// name of that value.
 pub fn names_are_read<A>()
     ensures { (name_of : A → List ℕ) (all : List A) →
         ((value : A) → named_by name_of all (name_of value) ≡ Some value) →

@@ -27,7 +27,7 @@ impl Model for Number {
 }
 
 impl Number {
-    /// Returns the number, or `None` for 0.
+    /// Returns the number with this value, or `None` if `value` is 0.
     pub fn new(value: u8) -> Option<Number>
         ensures numbers { IsSome result ↔ (1 ≤ value) }
         ensures value { IfSome result (λ n. n ≡ value) }

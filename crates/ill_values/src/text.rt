@@ -1,4 +1,4 @@
-//! Tests texts, without taking memory.
+//! Tests if bytes are a qualifier or an item, without taking memory.
 
 ghost use Rattle.std.specs.Prelude.{◌≡◌};
 ghost use Rattle.std.specs.List.{list_all};
@@ -43,8 +43,8 @@ pub fn check_item(text: &[u8]) -> Result<(), TextFault>
     }
 }
 
-/// Returns true if each byte is a printing character or a space. It reads all bytes, so that the compiler can compare
-/// many at once.
+/// Returns true if each byte is a printing character of ASCII or a space. It reads all bytes, so that the compiler can
+/// compare many at once.
 fn is_printable_text(text: &[u8]) -> bool
     ensures { result ≡ list_all is_printable text.now }
 {
@@ -62,7 +62,8 @@ fn is_item(text: &[u8]) -> bool
     has_no_control(text) && str::from_utf8(text).is_ok()
 }
 
-/// Returns true if no byte is a control character. It reads all bytes, so that the compiler can compare many at once.
+/// Returns true if no byte is a control character of ASCII. It reads all bytes, so that the compiler can compare many
+/// at once.
 fn has_no_control(text: &[u8]) -> bool
     ensures { result ≡ list_all is_no_control text.now }
 {

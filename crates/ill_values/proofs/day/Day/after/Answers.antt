@@ -9,7 +9,8 @@ use Rattle.jiff.proofs.SpanFacts.{date_add-days, can_add-days, signed_arith}
 use Rattle.ill_values.proofs.DaysLater.{refused_beyond, refused_too_many, reached_year, reached}
 use Rattle.ill_values.proofs.day.Day.after.Goals as goal
 
--- If `n` is at most 7,304,484, the span of jiff for `n` days has only `n` days.
+-- Let `given` be the integer `n`, and `s` the span that jiff makes of `given` days, as a 64-bit integer. If `n` is at
+-- most 7,304,484, `s` has `n` days and no other unit.
 span_of_days : (n : ℕ) (given : ℤ) (s : Span) → n ≤ 7_304_484 → given ≡ pos n → IsOnly Day (to_z w64 (of_z w64 given)) s
     → IsOnly Day (pos n) s
 span_of_days n given s few e only =

@@ -11,7 +11,8 @@ pub adds_nothing : (old new text : List ℕ) → new ≡ old → 0 < length text
 adds_nothing old new text same some =
     record { prefix = []; rest = text; parts = refl; added = same ∙ sym (append-nil old); lacks = some }
 
--- If `new` is `old` followed by a proper prefix of `first`, it is `old` followed by one of `first ++ second`.
+-- Let `new` be `old` followed by a proper prefix of `first`.
+-- Then `new` is `old` followed by a proper prefix of `first ++ second`.
 pub adds_first : (old new first second : List ℕ) → AddsPrefix old new first → AddsPrefix old new (first ++ second)
 adds_first old new first second is = record {
   prefix = is.prefix;

@@ -54,7 +54,7 @@ is_fed : (old : FeedState) (piece : List ℕ) (apdus : List Apdu) (new : FeedSta
 is_fed (Ok held) piece apdus new feeds = is_left feeds.0 new feeds.2
 is_fed (Err fault) piece apdus new feeds = subst IsFeed (sym feeds.1) tt
 
--- If `old` is closed or holds unfinished bytes, a push of no bytes gives no APDU and keeps it.
+-- If `old` is closed or holds unfinished bytes, a push of no bytes gives no APDU and keeps `old`.
 no_push : (old : FeedState) → IsFeed old → Feeds old [] [] old
 no_push (Ok held) is = (held, record { encoded = tt; parts = append-nil held }, (refl, is))
 no_push (Err fault) is = (refl, refl)
@@ -72,7 +72,7 @@ all_pushes (piece ∷ pieces) old apdus new is all =
 
 -- ---- equal results of all cuts
 
--- If `rest` leaves a feed, it has a fault.
+-- If `rest` leaves a feed, `rest` has a fault.
 has_fault : (rest : List ℕ) (new : FeedState) → Leaves rest new → (d : DerFault) × (apdu_at rest ≡ Err d)
 has_fault rest (Ok held) leaves = (Short (length rest), leaves.1)
 has_fault rest (Err fault) leaves = (fault, leaves.0)
@@ -129,7 +129,7 @@ nothing_held : IsUnfinished []
 unfolding apdu_at outer_at header_at
 nothing_held = refl
 
--- If two lists of pieces have equal bytes, an empty feed gives equal APDUs for both and becomes equal feeds.
+-- Let two lists of pieces have equal bytes. Pushed into empty feeds, both give equal APDUs and leave equal feeds.
 pub any_cut : AgainLaw → (pieces others : List (List ℕ)) (first second : List Apdu) (a b : FeedState)
     → concat pieces ≡ concat others → FeedsAll (Ok []) pieces first a → FeedsAll (Ok []) others second b
     → (first ≡ second) × (a ≡ b)

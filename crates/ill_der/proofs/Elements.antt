@@ -32,7 +32,7 @@ record TakesContents (bytes inside rest : List ℕ) : Type 0 where
   rest-is : drop (octets + n) bytes ≡ rest
 
 -- Let `form` be the length with which `left` begins. If `contents_by` gives `inside` and `rest`, `left` is a definite
--- length, its contents `inside`, and `rest`.
+-- length, its contents `inside`, and `rest`. By `there` no contents are missing.
 contents_found : (form : LengthForm) (left inside rest : Cursor) → length_of left.bytes ≡ form
     → contents_by form left ≡ Ok (inside, rest) → TakesContents left.bytes inside.bytes rest.bytes
 contents_found Truncated left inside rest f e = absurd cc

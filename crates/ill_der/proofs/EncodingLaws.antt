@@ -39,7 +39,7 @@ one_apdu again a b first second e =
     (sym (read_alone again a first) ∙ ap apdu_at e ∙ read_alone again b second) in
     ap (λ (x : Apdu × List ℕ). x.0) both
 
--- If the encoding of `b` is that of `a` and then `rest`, `rest` is empty.
+-- If the encoding of `b` is the encoding of `a` followed by `rest`, `rest` is empty.
 pub no_prefix : ReadsAgain → (a b : Apdu) (rest : List ℕ) → IsApdu a → IsApdu b → encoding b ≡ encoding a ++ rest → rest ≡ []
 no_prefix again a b rest first second e =
     let both : (a, rest) ≡ (b, []) =
@@ -65,7 +65,7 @@ encoded_shorter values apdu is other =
 -- ---- bytes of any kind
 
 -- If `apdu_at bytes` is `read`, `bytes` begins with exactly the APDU of `read`, or with none if `read` is a fault.
--- By `apdu_takes` an APDU that is read is there. By `apdu_again` an APDU that is there is read, so no other is there.
+-- By `apdu_takes` the APDU that is read begins `bytes`. By `apdu_again` each APDU that begins `bytes` is read.
 begins_with_one : Values → (bytes : List ℕ) (read : Result (Apdu × List ℕ) DerFault) → IsBytes bytes
     → apdu_at bytes ≡ read → BeginsWithOne bytes read
 begins_with_one values bytes (Ok found) fits e =
@@ -83,7 +83,7 @@ begins_with_one values bytes (Err fault) fits e = (
 pub prefix_or_fault : Values → (bytes : List ℕ) → IsBytes bytes → BeginsWithOne bytes (apdu_at bytes)
 prefix_or_fault values bytes fits = begins_with_one values bytes (apdu_at bytes) fits refl
 
--- ---- a longest APDU
+-- ---- a longest APDU, and a longest APDU that is no ILL-Request
 
 -- An item of 200 bytes, the maximum of an item.
 longest_item : List ℕ

@@ -177,7 +177,7 @@ holds_nothing buffer = record { most = omega arith; unfinished = refl }
 pub holds : (size : ℕ) (buffer prefix : List ℕ) → size ≤ 358 → take size buffer ≡ prefix → IsUnfinished prefix → Holds size buffer
 holds size buffer prefix few is unfinished = record { most = few; unfinished = subst IsUnfinished (sym is) unfinished }
 
--- The law of short bytes: the number of Short is that of all bytes, and at most 358.
+-- The law of short bytes: the number in Short is the number of all bytes, and at most 358.
 abbrev pub ShortLaw : Type 0
 ShortLaw = (bytes : List ℕ) (n : ℕ) → apdu_at bytes ≡ Err (Short n) → (n ≡ length bytes) × (n ≤ 358)
 
@@ -234,7 +234,8 @@ short_held law old new piece size filled fault fills none e =
     let all = all_filled old new piece size filled fills few in
     (record { most = few; unfinished = short.0 }, all, subst IsUnfinished all short.0)
 
--- If `rest` has a fault that closes no feed, a fill from 0 copies all of it. The buffer holds it, and it is unfinished.
+-- If `rest` has a fault that closes no feed, a fill from 0 copies all of `rest`. The new buffer then holds `rest`,
+-- which is unfinished.
 pub rest_held : ShortLaw → (old new rest : List ℕ) (filled : ℕ) (fault : DerFault) → Fills old new 0 rest filled
     → None ≡ closing fault → apdu_at rest ≡ Err fault
     → Holds filled new × (take filled new ≡ rest) × IsUnfinished rest
@@ -280,7 +281,7 @@ ends_after again held more prefix size apdu unfinished parts within begins =
     ]
 
 -- If `prefix` is `held` followed by a prefix of `piece`, and begins with `apdu`, `held ++ piece` begins with `apdu`.
--- The rest is `piece` without the bytes that belong to `apdu`.
+-- The rest is `piece` without the bytes that belong to `apdu`. There are `at` of them, and by `there` at most `k`.
 begins_held : (held piece prefix : List ℕ) (k size : ℕ) (apdu : Apdu) → k ≤ length piece → prefix ≡ held ++ take k piece
     → length held ≤ size → size ≤ length prefix
     → Begins prefix (apdu ∷ []) (drop size prefix) → Begins (held ++ piece) (apdu ∷ []) (drop (size - length held) piece)
@@ -333,8 +334,8 @@ push_after_first handles held piece later apdu before now after (Err fault) new 
     (on.0, fails_later handles (held ++ piece) later before now after apdu fault begins first on.1)
 
 -- If the first APDU of the filled bytes was handled, handling the rest has the outcome of a push of `piece`.
--- `begun` says that `held ++ piece` begins with this APDU. `on_rest` is `on`, with the slice of `piece` as a `drop`,
--- and `on_held` is that with the held bytes of `old`.
+-- `begun` says that `held ++ piece` begins with this APDU. `on` says that the rest was handled. `on_rest` is `on` with
+-- the slice of `piece` as a `drop`. `on_held` is `on_rest` with the held bytes of `old`.
 pub push_after_filled : {S F : Type 0} (handles : Handles S F) → AgainLaw
     → (old new piece : List ℕ) (size filled end : ℕ) (before now after : S) (was : FeedState)
     (result : Result (Option DerFault) F)

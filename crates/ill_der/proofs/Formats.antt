@@ -203,7 +203,7 @@ followed_takes {E} {V} {W} P Q F G f g fs gs left v rest fits e =
     subst (λ (x : (V × W) × Cursor). Takes (followed_by f g) (Both P Q) left.bytes x.0 x.1.bytes) both
     (parts, (first.1, second.1), second.2)
 
--- If `f` and `g` obey `IsCodec`, and `g` may follow `f`, `followed_by f g` obeys it.
+-- If `f` and `g` obey `IsCodec`, and each encoding by `g` may follow `f`, `followed_by f g` obeys `IsCodec`.
 pub followed_codec : {E V W : Type 0} (P : V → Type 0) (Q : W → Type 0) (F G : List ℕ → Type 0) (f : Codec E V) (g : Codec E W)
     → IsCodec P F f → IsCodec Q G g
     → ((w : W) (more : List ℕ) → Q w → F (g.encode w ++ more)) → IsCodec (Both P Q) G (followed_by f g)
@@ -228,7 +228,7 @@ followed_faults P Q F G m n f g fs gs left d e =
       ]
     ]
 
--- If `f` and `g` obey `IsFormat`, and `g` may follow `f`, `followed_by f g` obeys it.
+-- If `f` and `g` obey `IsFormat`, and each encoding by `g` may follow `f`, `followed_by f g` obeys `IsFormat`.
 pub followed_is : {V W : Type 0} (P : V → Type 0) (Q : W → Type 0) (F G : List ℕ → Type 0) (m n : ℕ) (f : Format V) (g : Format W)
     → IsFormat P F m f → IsFormat Q G n g
     → ((w : W) (more : List ℕ) → Q w → F (g.encode w ++ more)) → IsFormat (Both P Q) G (m + n) (followed_by f g)
@@ -289,7 +289,7 @@ where_again Q P G yes_no field qs fs each (Some v) at more p follows =
     let second = fs.again v first.0 more p follows in
     (second.0, rw (append_assoc (yes_no.encode true) (field.encode v) more, first.1, second.1) refl)
 
--- If `yes_no` and `field` obey `IsCodec`, and yes and no are in range, `where_yes` obeys it.
+-- If `yes_no` and `field` obey `IsCodec`, and yes and no are in range, `where_yes` of both obeys `IsCodec`.
 pub where_codec : {E V : Type 0} (Q : Bool → Type 0) (P : V → Type 0) (G : List ℕ → Type 0) (yes_no : Codec E Bool)
     (field : Codec E V)
     → IsCodec Q Any yes_no → IsCodec P G field
@@ -328,7 +328,7 @@ where_faults {V} Q P F G m n yes_no field qs fs left d e =
           ]
     ]
 
--- If `yes_no` and `field` obey `IsFormat`, and yes and no are in range, `where_yes` obeys it.
+-- If `yes_no` and `field` obey `IsFormat`, and yes and no are in range, `where_yes` of both obeys `IsFormat`.
 pub where_is : {V : Type 0} (Q : Bool → Type 0) (P : V → Type 0) (G : List ℕ → Type 0) (m n : ℕ) (yes_no : Format Bool)
     (field : Format V)
     → IsFormat Q Any m yes_no → IsFormat P G n field

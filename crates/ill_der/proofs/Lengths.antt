@@ -161,19 +161,22 @@ few_chosen : (b : Bool) (x y : LengthForm) (bytes : ℕ) → IsFew x bytes → I
 few_chosen true x y bytes hx hy = hx
 few_chosen false x y bytes hx hy = hy
 
--- If 81 and `rest` begin with a definite length, it has at most three octets. If it is truncated, they are at most two.
+-- Let 81 and `rest` begin with a length. If it is definite, it has at most three octets. If it is truncated, 81 and
+-- `rest` are at most two octets.
 one_few : (rest : List ℕ) → IsFew (one_octet_length rest) (suc (length rest))
 one_few [] = omega arith
 one_few (n ∷ rest) = few_chosen (nat_lt n 128) Invalid (Definite n 2) (suc (suc (length rest))) tt (omega arith)
 
--- If 82 and `rest` begin with a definite length, it has at most three octets. If it is truncated, they are at most two.
+-- Let 82 and `rest` begin with a length. If it is definite, it has at most three octets. If it is truncated, 82 and
+-- `rest` are at most two octets.
 two_few : (rest : List ℕ) → IsFew (two_octet_length rest) (suc (length rest))
 two_few [] = omega arith
 two_few (high ∷ []) = omega arith
 two_few (high ∷ low ∷ rest) =
     few_chosen (eqb high 0) Invalid (Definite (256 * high + low) 3) (suc (suc (suc (length rest)))) tt (omega arith)
 
--- If `bytes` begins with a definite length, it has at most three octets. If it is truncated, `bytes` has at most two.
+-- Let `bytes` begin with a length. If it is definite, it has at most three octets. If it is truncated, `bytes` has at
+-- most two.
 pub length_few : (bytes : List ℕ) → IsFew (length_of bytes) (length bytes)
 unfolding length_of
 length_few [] = omega arith

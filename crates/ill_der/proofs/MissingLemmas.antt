@@ -227,13 +227,13 @@ most_missing (first ∷ bytes) some =
       most_of (type_with first) bytes (subst (λ (k : ℕ). 0 < k) (missing_is first bytes) some),
     )
 
--- ---- a read of at most the missing bytes
+-- ---- a read of at most the missing bytes, and the buffer that takes them
 
 -- If `bytes` lacks a byte, it is unfinished.
 pub unfinished_alone : (bytes : List ℕ) → 0 < missing_of bytes → IsUnfinished bytes
 unfinished_alone bytes some = subst IsUnfinished (append-nil bytes) (unfinished_with_fewer bytes [] some)
 
--- Let `prefix` have unfinished proper prefixes, and `more` at most the bytes that it lacks.
+-- Let the proper prefixes of `prefix` be unfinished, and let `more` have at most as many bytes as `prefix` lacks.
 -- Then the proper prefixes of `prefix ++ more` are unfinished.
 pub read_on : (prefix more : List ℕ) → AreUnfinished prefix → length more ≤ missing_of prefix → AreUnfinished (prefix ++ more)
 read_on prefix more prefixes few size lt =
@@ -249,7 +249,8 @@ read_on prefix more prefixes few size lt =
           (omega (arith, few, fewer, length-take-le k more (omega (arith, fewer)))))
     ]
 
--- The first `size + count` bytes after a put at `size` are `size` old ones and `count` of `buffer`.
+-- Let `put_mid` replace the `k` bytes of `bytes` from the offset `size` on by `buffer`. The result begins with the
+-- first `size` bytes of `bytes` and the first `count` bytes of `buffer`.
 pub filled : (size k count : ℕ) (bytes buffer : List ℕ) → size ≤ length bytes → count ≤ length buffer
     → take (size + count) (put_mid size k bytes buffer) ≡ take size bytes ++ take count buffer
 filled size k count bytes buffer fits few =
@@ -264,7 +265,7 @@ filled size k count bytes buffer fits few =
     (omega (arith, long, few, length-append prefix buffer))
     ∙ ap (λ (m : ℕ). take (m + count) (prefix ++ buffer)) (sym long) ∙ take-append-add prefix buffer count
 
--- If `buffer` fits into `bytes` at `size`, putting it there keeps the length of `bytes`.
+-- If `buffer` has `k` bytes and fits into `bytes` from the offset `size` on, `put_mid` keeps the length of `bytes`.
 pub filled_length : (size k : ℕ) (bytes buffer : List ℕ) → length buffer ≡ k → size + k ≤ length bytes
     → length (put_mid size k bytes buffer) ≡ length bytes
 filled_length size k bytes buffer room fits =

@@ -138,7 +138,8 @@ made_takes P F n f make apdu_type fs encodes ranges types left body rest fits e 
     subst (λ (x : Body × Cursor). TakesBody apdu_type left.bytes x.0 x.1.bytes) both
     (parts, ranges fields.value.0 taken.1, types fields.value.0, taken.2)
 
--- If `make` is in range and has no further fields, reading it takes no bytes, so `rest` is `left`.
+-- Let the body `make` be in range and have no further fields. If `make` is `body`, and `left` is `rest`, `TakesBody`
+-- holds: `left` is no fields followed by `rest`.
 plain_takes : (make body : Body) (apdu_type : ApduType) (left rest : Cursor) → encode_body make ≡ [] → IsBody make
     → type_of make ≡ apdu_type → IsBytes left.bytes
     → done {E = DerFault} {A = Body × Cursor} (make, left) ≡ done (body, rest)
@@ -385,7 +386,7 @@ inside_faults values apdu_type left d e =
       ]
     ]
 
--- ---- the identifier and the length of an APDU
+-- ---- the identifier, the length and the unread contents of an APDU
 
 -- If `type_with` finds `apdu_type` by `identifier`, that is the identifier octet of `apdu_type`.
 identifier_with : (identifier : ℕ) (apdu_type : ApduType) → type_with identifier ≡ Some apdu_type
@@ -717,7 +718,7 @@ final_after_two_octets false true two x y z w final = refl
 final_after_two_octets false false true x y z w final = absurd final
 final_after_two_octets false false false x y z w final = refl
 
--- If `bytes` begins with a final length, `bytes ++ more` begins with an equal one.
+-- If `bytes` begins with a final length, `bytes ++ more` begins with an equal length.
 pub length_more : (bytes more : List ℕ) → IsFinal (length_of bytes) → length_of (bytes ++ more) ≡ length_of bytes
 unfolding length_of
 length_more [] more final = absurd final
@@ -729,7 +730,8 @@ length_more (first ∷ second ∷ []) more final =
     (two_octet_length (second ∷ more)) Invalid final
 length_more (first ∷ second ∷ third ∷ rest) more final = refl
 
--- If `bytes` has all `n` contents octets after `octets` length octets, `bytes ++ more` has equal ones there.
+-- Let `bytes` have all `n` contents octets after `octets` length octets. Then `bytes ++ more` has equal contents octets
+-- after its length octets.
 same_contents : (n octets : ℕ) (bytes more : List ℕ) → octets + n ≤ length bytes
     → take n (drop octets (bytes ++ more)) ≡ take n (drop octets bytes)
 same_contents n octets bytes more enough =

@@ -19,8 +19,8 @@ pub record Begins (bytes : List ℕ) (apdus : List Apdu) (rest : List ℕ) : Typ
 abbrev pub FeedState : Type 0
 FeedState = Result (List ℕ) DerFault
 
--- If `rest` follows the APDUs of a push, the push leaves this feed.
--- An unfinished `rest` is held. Any fault of `rest` other than Short closes the feed.
+-- If the bytes `rest` are left after the APDUs of a push, the push leaves this feed.
+-- The feed is open and holds an unfinished `rest`, or a fault of `rest` other than Short closed it.
 abbrev pub Leaves : List ℕ → FeedState → Type 0
 Leaves rest (Ok held) = (held ≡ rest) × IsUnfinished rest
 Leaves rest (Err fault) = (apdu_at rest ≡ Err fault) × IfShort fault ⊥
@@ -56,7 +56,7 @@ abbrev pub end_of : FeedState → Result (Unit {0}) DerFault
 end_of (Ok held) = if length held == 0 then Ok tt else Err (Short (length held))
 end_of (Err fault) = Err fault
 
--- Pushes of the pieces, one after another, give `apdus` in all, and leave the feed `new`.
+-- Pushes of the pieces into the feed `old`, one after another, give `apdus` in all, and leave the feed `new`.
 abbrev pub FeedsAll : FeedState → List (List ℕ) → List Apdu → FeedState → Type 0
 FeedsAll old [] apdus new = (apdus ≡ []) × (new ≡ old)
 FeedsAll old (piece ∷ pieces) apdus new =

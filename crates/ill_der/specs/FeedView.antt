@@ -16,7 +16,7 @@ abbrev pub held_of : Option DerFault → List ℕ → FeedState
 held_of None bytes = Ok bytes
 held_of (Some fault) bytes = Err fault
 
--- Returns the fault that closes a feed, if its unread bytes have this fault. Short closes no feed.
+-- Returns the fault if it closes a feed whose unread bytes have it. Returns `None` for Short, which closes no feed.
 abbrev pub closing : DerFault → Option DerFault
 closing (Short n) = None
 closing fault = Some fault
@@ -34,7 +34,8 @@ pub record Fills (old new : List ℕ) (size : ℕ) (piece : List ℕ) (filled : 
   pub count : filled ≡ min 359 (size + length piece)
   pub parts : take filled new ≡ take size old ++ take (filled - size) piece
 
--- The first APDU of `bytes` was handled and has this size, or `bytes` has this fault, or handling failed.
+-- The first APDU of `bytes` was handled and has `size` bytes, or it was handled and failed with `fault`. Or `bytes`
+-- begins with no APDU and has `fault`. This led from the state `before` to the state `after`.
 abbrev pub HandlesFirst : {S F : Type 0} → Handles S F → List ℕ → S → Result (Result ℕ DerFault) F → S → Type 0
 HandlesFirst handles bytes before (Ok (Ok size)) after =
     (0 < size) × (size ≤ length bytes)
@@ -45,7 +46,8 @@ HandlesFirst handles bytes before (Err fault) after =
     (apdu : Apdu) × (rest : List ℕ) × Begins bytes (apdu ∷ []) rest
     × handles before apdu (Err fault) after
 
--- The APDUs of `bytes` before the offset `at` were handled, and the rest has `fault`, or handling failed.
+-- The APDUs of `bytes` before the offset `at` were handled, and the rest has `fault`. Or the handling of an APDU of
+-- `bytes` failed with `fault`. This led from the state `before` to the state `after`.
 abbrev pub HandlesAll : {S F : Type 0} → Handles S F → List ℕ → S → Result (ℕ × DerFault) F → S → Type 0
 HandlesAll handles bytes before (Ok (at, fault)) after =
     (at ≤ length bytes) × (apdu_at (drop at bytes) ≡ Err fault)
@@ -53,7 +55,7 @@ HandlesAll handles bytes before (Ok (at, fault)) after =
 HandlesAll handles bytes before (Err fault) after = FailsIn handles bytes before fault after
 
 -- `bytes`, the rest of a piece after the APDU that the held bytes began, were handled as by an empty feed.
--- If handling failed, the feed is `old`, as before the handling of the rest.
+-- If handling failed, the feed `new` is `old`, the feed before `bytes` was handled.
 abbrev pub HandlesRest : {S F : Type 0} → Handles S F → FeedState × S → List ℕ → Result (Option DerFault) F →
     FeedState × S → Type 0
 HandlesRest handles (old, before) bytes (Ok fault) (new, after) =

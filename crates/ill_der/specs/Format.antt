@@ -21,12 +21,12 @@ length_octets n =
     if nat_lt n 128 then n ∷ []
     else (if nat_lt n 256 then 0x81 ∷ n ∷ [] else 0x82 ∷ n / 256 ∷ n % 256 ∷ [])
 
--- Returns the length after the octet 81: one octet, whose value is at least 128.
+-- Returns the length that 81 and then the octets give. After 81 comes one octet, whose value is at least 128.
 abbrev pub one_octet_length : List ℕ → LengthForm
 one_octet_length [] = Truncated
 one_octet_length (n ∷ rest) = if nat_lt n 128 then Invalid else Definite n 2
 
--- Returns the length after the octet 82: two octets, whose value is at least 256.
+-- Returns the length that 82 and then the octets give. After 82 come two octets, whose value is at least 256.
 abbrev pub two_octet_length : List ℕ → LengthForm
 two_octet_length [] = Truncated
 two_octet_length (high ∷ []) = Truncated
@@ -41,7 +41,7 @@ length_of (first ∷ rest) =
     else (if first == 0x81 then one_octet_length rest
     else (if first == 0x82 then two_octet_length rest else Invalid))
 
--- If the length with which `bytes` bytes begin is truncated, they are at most two.
+-- Let a list of `bytes` bytes begin with this length. If the length is truncated, the list has at most two bytes.
 -- If it is definite, it has at most three octets.
 abbrev pub IsFew : LengthForm → ℕ → Type 0
 IsFew Truncated bytes = bytes ≤ 2
@@ -63,7 +63,8 @@ pub record Cursor : Type 0 where
 abbrev pub cursor_at : ℕ → List ℕ → Cursor
 cursor_at at bytes = record { at = at; bytes = bytes }
 
--- Splits the bytes after an identifier into the contents of its element and the bytes after the element.
+-- Splits the bytes `left` after an identifier into the contents of its element and the bytes after the element.
+-- If the length is not definite, or contents are missing, the fault is Length.
 abbrev pub contents_by : LengthForm → Cursor → Result (Cursor × Cursor) DerFault
 contents_by (Definite n octets) left =
     if nat_lt (length left.bytes) (octets + n) then Err (Length left.at)

@@ -133,13 +133,13 @@ unfoldable pub header_at : List ℕ → Result Header DerFault
 header_at [] = Err (Short 0)
 header_at (first ∷ bytes) = header_of (type_with first) bytes
 
--- A complete APDU: its type, its contents, and the number of its bytes.
+-- An APDU whose bytes are all present: its type, its contents, which are not read yet, and the number of its bytes.
 pub record Outer : Type 0 where
   pub apdu_type : ApduType
   pub inside : Cursor
   pub size : ℕ
 
--- Splits off the contents of the APDU with this `header`. If some are missing, the fault is Short.
+-- Splits the contents of the APDU with this header from `bytes`. If contents are missing, the fault is Short.
 abbrev pub outer_by : Header → List ℕ → Result Outer DerFault
 outer_by header bytes =
     if nat_lt (length bytes) header.size then Err (Short (length bytes))

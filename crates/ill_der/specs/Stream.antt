@@ -61,13 +61,15 @@ IsJudged bytes (Err (faults.Bytes fault)) = (apdu_at bytes ≡ Err fault) × IfS
 IsJudged bytes (Err faults.Read) = ⊥
 IsJudged bytes (Err faults.OutOfMemory) = EncodesOne bytes
 
--- Returns the least number of bytes that an APDU of `size` bytes lacks, from its header or the fault.
+-- Let `size` bytes have this header, or this fault of their header. Returns the least number of bytes that they lack to
+-- be an APDU.
 abbrev pub missing_by : Result Header DerFault → ℕ → ℕ
 missing_by (Ok header) size = header.size - size
 missing_by (Err (Short at)) size = 1
 missing_by (Err other) size = 0
 
--- Returns the least number of bytes that the APDU lacks: 0 if it is complete or already invalid.
+-- Returns the least number of bytes that `bytes` lacks to be an APDU. It is 0 if the APDU has its whole size, or if its
+-- header is invalid.
 unfoldable pub missing_of : List ℕ → ℕ
 missing_of bytes = missing_by (header_at bytes) (length bytes)
 

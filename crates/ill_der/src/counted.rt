@@ -14,7 +14,7 @@ pub trait CountedRead {
     /// The bytes that are left to read, if they are known.
     ghost remaining: { Self → Option (List ℕ) };
 
-    /// Reads once, and counts the read.
+    /// Reads once into `buffer`, adds one to `steps`, and returns the number of bytes that were read.
     fn read_once<L: Ledger>(&mut self, buffer: &mut [u8], steps: &mut Steps<L>) -> io::Result<usize>
         ensures count { steps.new ≡ steps.old + 1 }
         ensures bound { ReadsAtMost result buffer.new }
@@ -39,7 +39,7 @@ pub trait CountedWrite {
     /// The bytes that the writer holds, if they are known.
     ghost contents: { Self → Option (List ℕ) };
 
-    /// Writes once, and counts the write.
+    /// Writes `bytes` once, adds one to `steps`, and returns the number of bytes that the writer took.
     fn write_once<L: Ledger>(&mut self, bytes: &[u8], steps: &mut Steps<L>) -> io::Result<usize>
         ensures count { steps.new ≡ steps.old + 1 }
         ensures bound { WritesAtMost result bytes.now }

@@ -27,8 +27,8 @@ impl<'a> Model for Cursor<'a> {
     ghost invariant = { λ c. c.at + length c.bytes.now ≤ 359 };
 }
 
-/// Reads fields, one after another. By `Reads` each reader gives the value and the cursor of its description in
-/// `specs/Format.antt`, or its fault.
+/// Reads fields, one after another. `identifier` is the identifier octet of the field that is read. By `Reads` a reader
+/// gives the value and the cursor, or the fault, that the field's description in `specs/Format.antt` gives.
 impl<'a> Cursor<'a> {
     /// Returns a cursor over `bytes`. The first of them has the offset `at` in the APDU.
     pub fn new(at: u16, bytes: &'a [u8]) -> Cursor<'a>
@@ -146,7 +146,7 @@ impl<'a> Cursor<'a> {
         result_from(inside.bytes).ok_or(DerFault::Field(inside.at))
     }
 
-    /// Reads a yes or no.
+    /// Reads a yes or no. Returns true for a yes.
     pub fn yes_no(&mut self, identifier: u8) -> Result<bool, DerFault>
         ensures { Reads (λ b. b) result self.new ((required identifier yes_no).read self.old) }
     {

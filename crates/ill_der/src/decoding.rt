@@ -16,7 +16,7 @@ use crate::{laws, tags};
 use ill_values::{Apdu, ApduType, BodyView, Day, Number};
 use std::alloc::Global;
 
-/// A complete APDU: its type, its contents, and its size in bytes.
+/// An APDU whose bytes are all present: its type, its contents, which are not read yet, and its size in bytes.
 #[derive(Drop)]
 struct Outer<'a> {
     apdu_type: ApduType,
@@ -58,7 +58,8 @@ pub fn view(bytes: &[u8]) -> Result<(ApduView<'_>, usize), DerFault>
     }
 }
 
-/// Splits off the identifier and the length, and checks that all contents are present.
+/// Returns the type, the contents and the size of the APDU with which `bytes` begins. It reads none of the contents.
+/// The fault is that of the header, or `Short` if contents are missing.
 #[tactic(auto, unfolding(crate::specs::ShortForm::outer_at))]
 fn outer_at(bytes: &[u8]) -> Result<Outer<'_>, DerFault>
     ensures read { DecodesAs outer_view result (outer_at bytes.now) }
@@ -79,7 +80,7 @@ fn outer_at(bytes: &[u8]) -> Result<Outer<'_>, DerFault>
     })
 }
 
-/// Returns a view of the APDU of this type whose contents are all of `inside`.
+/// Returns a view of the APDU of this type whose contents are all of `inside`, or the first fault.
 #[tactic(auto, unfolding(crate::specs::ShortForm::inside_of))]
 fn inside_of<'a>(apdu_type: ApduType, inside: &mut Cursor<'a>) -> Result<ApduView<'a>, DerFault>
     ensures { DecodesAs (λ apdu. apdu) result (inside_of apdu_type inside.old) }
@@ -101,7 +102,7 @@ fn inside_of<'a>(apdu_type: ApduType, inside: &mut Cursor<'a>) -> Result<ApduVie
     }
 }
 
-/// Returns a view of the body of this type whose further fields are all of `inside`.
+/// Returns a view of the body of this type whose further fields are all of `inside`, or the first fault.
 #[tactic(auto, unfolding(crate::specs::ShortForm::body_of))]
 fn body_of<'a>(apdu_type: ApduType, inside: &mut Cursor<'a>) -> Result<BodyView<'a>, DerFault>
     ensures read { DecodesAs body_in result (body_of apdu_type inside.old) }
@@ -170,7 +171,7 @@ fn read_reply(inside: &mut Cursor<'_>) -> Result<(Number, bool), DerFault>
     Ok((answers, yes))
 }
 
-/// Reads yes or no, and after a yes the new due date.
+/// Reads yes or no, and after a yes the new due date. Returns `None` for a no.
 fn read_granted(inside: &mut Cursor<'_>) -> Result<Option<Day>, DerFault>
     ensures { Reads (λ found. found) result inside.new
         ((where_yes (required 0x84 yes_no) (required 0x85 date)).read inside.old) }

@@ -44,8 +44,8 @@ pub fn encode_onto(bytes: &mut Vec<u8>, apdu: &Apdu) -> Result<(), OutOfMemory>
     push_body(bytes, &apdu.body)
 }
 
-/// Appends the fields that each APDU has. If memory runs out here or in a function below, a proper prefix of its bytes
-/// was appended (`prefix`). If it succeeds, the values are in range (`range`).
+/// Appends the fields that each APDU has. If memory runs out in this function or one below, it has appended a proper
+/// prefix of its bytes (`prefix`). If it succeeds, the values are in range (`range`).
 fn push_head(bytes: &mut Vec<u8>, apdu: &Apdu) -> Result<(), OutOfMemory>
     ensures bytes { OnOk result (bytes.new.items ≡ bytes.old.items ++ head_of apdu.now) }
     ensures prefix { OnErr result (AddsPrefix bytes.old.items bytes.new.items (head_of apdu.now)) }
@@ -159,7 +159,7 @@ fn push_number(bytes: &mut Vec<u8>, identifier: u8, number: Number) -> Result<()
     }
 }
 
-/// Appends the element of `identifier` and `contents` (X.690 8.1.1).
+/// Appends the element of `identifier` and `contents`, which has fewer than 65536 octets (X.690 8.1.1).
 #[tactic(auto, unfolding(crate::specs::Format::element))]
 fn push_element(bytes: &mut Vec<u8>, identifier: u8, contents: &[u8]) -> Result<(), OutOfMemory>
     requires { length contents.now < 65536 }

@@ -10,17 +10,19 @@ ghost use Rattle.ill_der.specs.declared.fault.WriteFault.TheVariants as writes;
 use std::alloc::{AllocError, AllocFailed};
 use thiserror::Error;
 
-/// The first fault of bytes that do not begin with an APDU. Offsets are in bytes from the first byte
-/// of the APDU.
+/// The first fault of bytes that do not begin with an APDU. For bytes that begin with one it says that memory ran out.
+/// Offsets are in bytes from the first byte of the APDU.
 #[derive(Clone, Copy, Debug, PartialEq, Eq, Hash, Error)]
 pub enum DerFault {
     /// The bytes end before the APDU does. The field is the number of the bytes.
     #[error("short at {0}")]
     Short(u16),
-    /// The identifier at this offset is not the expected one, or a field is missing there.
+    /// The identifier at this offset is not the expected one, or a field is missing at this offset. Or bytes follow the
+    /// last field, and the first of them has this offset.
     #[error("tag at {0}")]
     Tag(u16),
-    /// The length at this offset is not in its shortest form, or is too large.
+    /// The length at this offset is not in its shortest form. Or it is too large for an APDU or for the element around
+    /// it. Or the end of the element around it cuts it off.
     #[error("length at {0}")]
     Length(u16),
     /// The contents at this offset encode no value of their field.

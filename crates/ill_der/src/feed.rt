@@ -84,7 +84,7 @@ impl Feed {
     }
 
     /// Pushes `piece`. Hands each APDU that it completes before the first fault to `handler`, one after
-    /// another, and returns that fault. Allocates nothing itself. Copies no APDU that lies wholly in `piece`.
+    /// another, and returns that fault. Allocates nothing itself. Views an APDU that lies wholly in `piece` there.
     ///
     /// After a fault, hands on no APDU and returns that fault. If handling fails, the feed is unchanged. A
     /// second push of `piece` would then hand on its first APDUs again.
@@ -155,8 +155,8 @@ impl Feed {
         }
     }
 
-    /// Hands on the APDUs with which `bytes` begins, and then replaces the held bytes by the rest. If
-    /// handling fails, the feed is unchanged.
+    /// Hands on the APDUs with which `bytes` begins. Then the rest replaces the held bytes, or its fault closes the
+    /// feed and is returned. If handling fails, the feed is unchanged.
     fn hand_on<C, H: Handler<C>>(
         &mut self,
         bytes: &[u8],
@@ -174,8 +174,8 @@ impl Feed {
         }
     }
 
-    /// Replaces the held bytes by `rest` if its fault is `Short`. Otherwise closes the feed and returns the
-    /// fault.
+    /// Takes `rest`, whose fault is `fault`. If that is `Short`, `rest` replaces the held bytes, and the result is
+    /// `None`. Any other fault closes the feed and is returned.
     fn leave(&mut self, rest: &[u8], fault: DerFault) -> Option<DerFault>
         requires opened { IsOk self.old }
         requires fault { apdu_at rest.now ≡ Err fault }
@@ -196,7 +196,7 @@ impl Feed {
     }
 }
 
-/// Returns the fault that closes a feed, if its unread bytes have `fault`. `Short` closes no feed.
+/// Returns `fault` if it closes a feed whose unread bytes have it. Returns `None` for `Short`, which closes no feed.
 fn closing(fault: DerFault) -> Option<DerFault>
     ensures { result ≡ closing fault }
 {

@@ -29,7 +29,8 @@ pub trait Handler<C> {
         ensures { handles (self.old, context.old) apdu.now result (self.new, context.new) };
 }
 
-/// Handles the APDU with which `bytes` begins, and returns its size, or the fault of `bytes`.
+/// Handles the APDU with which `bytes` begins, and returns its size, or the fault of `bytes`. The outer error is the
+/// fault of a failed handling.
 pub fn handle_first<C, H: Handler<C>>(
     alloc: Global,
     bytes: &[u8],
@@ -50,7 +51,7 @@ pub fn handle_first<C, H: Handler<C>>(
 }
 
 /// Handles the APDUs with which `bytes` begins, one after another. Returns the offset after the last of
-/// them, and the fault of the bytes from there on.
+/// them, and the fault of the bytes from that offset on. The error is the fault of a failed handling.
 pub fn handle_all<C, H: Handler<C>>(
     alloc: Global,
     bytes: &[u8],

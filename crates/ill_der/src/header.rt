@@ -26,7 +26,7 @@ pub struct Header {
     pub size: u16,
 }
 
-/// Returns the header with which `bytes` begins, or its fault: `Short` if `bytes` ends within it.
+/// Returns the header with which `bytes` begins, or its fault. The fault is `Short` if `bytes` ends within the header.
 #[tactic(auto, unfolding(crate::specs::ShortForm::header_at))]
 pub fn header_at(bytes: &[u8]) -> Result<Header, DerFault>
     ensures read { result ≡ header_at bytes.now }

@@ -5,7 +5,7 @@ ghost use Rattle.ill_der.specs.Types.{identifier_of, type_with};
 
 use ill_values::ApduType;
 
-/// Returns the type that has this identifier octet: a constructed application tag (X.690 8.1.2).
+/// Returns the type that has this identifier octet, a constructed application tag (X.690 8.1.2), or `None`.
 pub fn type_with(identifier: u8) -> Option<ApduType>
     ensures { result ≡ type_with identifier }
 {

@@ -58,7 +58,8 @@ pub fn shorter()
     ill_values::laws::text_sizes();
 }
 
-/// Bytes either begin with the encoding of exactly one APDU, or begin with none and have a fault.
+/// Bytes begin with the encoding of exactly one APDU, which is read from them. Or they begin with none and have a
+/// fault, which is not `OutOfMemory`.
 pub fn prefix_or_fault()
     ensures { (bytes : List ℕ) → IsBytes bytes → BeginsWithOne bytes (apdu_at bytes) }
 {
@@ -88,7 +89,7 @@ pub fn two_pushes()
         Feeds old (prefix ++ piece) (first ++ more) new }
 {}
 
-/// For all ways to cut bytes into pieces, an empty feed gives equal APDUs and becomes equal feeds.
+/// Let two lists of pieces have equal bytes. Pushed into empty feeds, both give equal APDUs and leave equal feeds.
 pub fn any_cut()
     ensures { (pieces others : List (List ℕ)) (a b : List Apdu) (x y : FeedState) →
         concat pieces ≡ concat others → FeedsAll (Ok []) pieces a x → FeedsAll (Ok []) others b y →
@@ -97,7 +98,7 @@ pub fn any_cut()
     read_again();
 }
 
-/// A feed holds at most 358 bytes, fewer than the longest APDU has.
+/// After any pushes into an empty feed, the feed holds at most 358 bytes, fewer than the longest APDU has.
 pub fn few_are_held()
     ensures { (pieces : List (List ℕ)) (apdus : List Apdu) (held : List ℕ) →
         FeedsAll (Ok []) pieces apdus (Ok held) → length held ≤ 358 }

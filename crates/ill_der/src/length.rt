@@ -34,7 +34,7 @@ pub fn length_of(bytes: &[u8]) -> LengthForm
     }
 }
 
-/// Returns the length after the octet 81: one octet, whose value is at least 128.
+/// Returns the length that the octet 81 and then `bytes` give. After 81 comes one octet, whose value is at least 128.
 fn one_octet_length(bytes: &[u8]) -> LengthForm
     ensures value { result ≡ one_octet_length bytes.now }
     ensures few { IsFew result (length bytes.now) }
@@ -51,7 +51,7 @@ fn one_octet_length(bytes: &[u8]) -> LengthForm
     }
 }
 
-/// Returns the length after the octet 82: two octets, of which the first is not 0.
+/// Returns the length that the octet 82 and then `bytes` give. After 82 come two octets, of which the first is not 0.
 fn two_octet_length(bytes: &[u8]) -> LengthForm
     ensures value { result ≡ two_octet_length bytes.now }
     ensures few { IsFew result (length bytes.now) }

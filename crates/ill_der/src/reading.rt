@@ -83,7 +83,8 @@ fn read_counted<R: CountedRead, L: Ledger>(
     unreachable!()
 }
 
-/// Returns the least number of bytes that the APDU lacks: 0 if it is complete or already invalid.
+/// Returns the least number of bytes that `bytes` lacks to be an APDU. It is 0 if the APDU has its whole size, or if
+/// its header is invalid.
 #[tactic(auto, unfolding(crate::specs::Stream::missing_of))]
 fn missing(bytes: &[u8]) -> usize
     ensures { result ≡ missing_of bytes.now }
@@ -95,7 +96,8 @@ fn missing(bytes: &[u8]) -> usize
     }
 }
 
-/// Returns the APDU of `bytes`, or their fault. `bytes` must lack no byte, and its proper prefixes must be unfinished.
+/// Returns the APDU of `bytes`, or their fault, and never `None`. `bytes` must lack no byte, and its proper prefixes
+/// must be unfinished.
 fn judge(alloc: Global, bytes: &[u8]) -> Result<Option<Apdu>, ReadFault>
     requires unfinished { AreUnfinished bytes.now }
     requires enough { missing_of bytes.now ≡ 0 }

@@ -19,8 +19,8 @@ pub fn size(apdu: &Apdu) -> usize
     element_size(contents_size(apdu))
 }
 
-/// Returns the number of bytes of an element with `contents` contents octets. It is at most 2 more below 128, at most 3
-/// more below 256, and at most 4 more for all.
+/// Returns the number of bytes of an element with `contents` contents octets. The identifier and the length add at most
+/// 4. They add at most 3 to fewer than 256 octets, and at most 2 to fewer than 128.
 fn element_size(contents: usize) -> usize
     requires { contents < 65536 }
     ensures value { result ≡ 1 + length (length_octets contents) + contents }
@@ -84,7 +84,8 @@ pub fn qualifiers_size(id: &TxnId) -> usize
     element_size(id.group().len()) + element_size(id.transaction().len())
 }
 
-/// Returns the number of bytes of the element of a number. It is the same for each identifier, so the clause has 0.
+/// Returns the number of bytes of the element of a number. It does not depend on the identifier, which is 0 in the
+/// clause `value`.
 #[tactic(auto, unfolding(crate::specs::Format::element, crate::specs::Format::length_octets))]
 fn number_size(number: Number) -> usize
     ensures value { result ≡ length (element 0 (number_octets number)) }

@@ -55,7 +55,8 @@ returns-in-Err-clause-read g c =
     let alone = unfinished_alone prefix (omega (arith, c.missing-missing.ensures, c.if-missing-eq0.false)) in
     (prefix, Consumes-kept _ _ _ prefix c.loop.invariant.read c.in-Err.ensures.bytes, alone)
 
--- A read of `count` bytes, at least one and at most the missing ones, keeps the invariant. They are `more`.
+-- A read of `count` bytes, at least one and at most the missing ones, keeps the invariant. These bytes are `more`, and
+-- by `now` they follow `prefix` in the buffer.
 pub loop-preserved : goal.loop-preserved
 loop-preserved g c =
     let remaining = g.R.CountedRead.remaining in

@@ -182,7 +182,7 @@ torn_is_made path some bytes d after crash = record {
 
 -- ---- a disk with its past, when memory runs out
 
--- If a call that makes `change` fails on a whole disk, and `new` is `old`, it answers as it says (`Answers`).
+-- If a call that makes `change` fails on a whole disk, and `new` is `old`, `Answers` holds for the call.
 pub no_change : {E : Type 0} {change : Disk → Disk} {old new : DiskOverTime} {answer : Result (Unit {0}) E} → IsErr answer →
     IsWhole old.disk → new ≡ old → Answers (Changes change) (past_state old) answer (past_state new)
 no_change {answer = Ok done} is whole same = absurd (true≢false (sym is))
@@ -193,7 +193,7 @@ no_change {answer = Err fault} is whole same = record {
   honest = refl;
 }
 
--- If `create_new` fails on a whole disk, and `new` is `old`, it answers as it says (`Answers`): there is no new file.
+-- If `create_new` fails on a whole disk, and `new` is `old`, `Answers` holds for the call: there is no new file.
 pub no_file : {E : Type 0} {path bytes : List ℕ} {old new : DiskOverTime} {answer : Result (Unit {0}) E} → IsErr answer →
     IsWhole old.disk → new ≡ old → Answers (Creates path bytes) (past_state old) answer (past_state new)
 no_file {answer = Ok done} is whole same = absurd (true≢false (sym is))
@@ -204,7 +204,7 @@ no_file {answer = Err fault} is whole same = record {
   honest = refl;
 }
 
--- If a read of `path` fails on a whole disk, and `new` is `old`, it answers as it says (`Answers`).
+-- If a read of `path` fails on a whole disk, and `new` is `old`, `Answers` holds for the read.
 pub no_read : {X E : Type 0} {bytes_of : X → List ℕ} {path : List ℕ} {old new : DiskOverTime}
     {answer : Result (Option X) E} → IsErr answer → IsWhole old.disk → new ≡ old →
     Answers (Reads bytes_of path) (past_state old) answer (past_state new)

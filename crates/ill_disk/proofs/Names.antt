@@ -18,11 +18,12 @@ same_path path = (bytes_eq-Decides path path).1 refl
 pub other_path : (p q : List ℕ) → (p ≡ q → ⊥) → bytes_eq p q ≡ false
 other_path p q differ = ⊎_elim (λ same. absurd (differ ((bytes_eq-Decides p q).0 same))) (λ is. is) (true_or_false (bytes_eq p q))
 
--- If `file` is put at `path`, it is found there.
+-- If `file` is put at `path`, it is found at `path`.
 pub found_with : (path : List ℕ) (file : ℕ) (names : List Name) → found_at path (with_name path file names) ≡ Some file
 found_with path file names = ap (λ (b : Bool). if b then Some file else found_at path (without path names)) (same_path path)
 
--- If `path` is removed from `names`, nothing is found there. The cases are: the first name is at `path`, and it is not.
+-- If `path` is removed from `names`, nothing is found at `path`. The cases are: the first name is at `path`, and it is
+-- not.
 pub found_without : (path : List ℕ) (names : List Name) → found_at path (without path names) ≡ None
 found_without path [] = refl
 found_without path (name ∷ names) = ⊎_elim

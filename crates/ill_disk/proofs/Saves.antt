@@ -38,7 +38,8 @@ module _ (aside path bytes : List ℕ) (d : Disk) (whole : IsWhole d) (differ : 
   replaced_disk = after_rename aside path flushed_disk
 
   -- Let `names` be a list that may stand on `d`, and let a crash leave the files of `after` once the new file is made.
-  -- If `path` gives one file in `names` and `after`, a crash of `d` may leave the content that `after` has at `path`.
+  -- Let `path` give the same file in `names` and in `after`. Then a crash of `d` may leave the content of `after` at
+  -- `path`.
   old_content : (after : Disk) (names : List Name) → In d.may_stand names →
       found_at path after.names ≡ found_at path names → AreLeft (d.files ++ new_file ∷ []) after.files →
       Leaves d path (content path after)
@@ -66,7 +67,7 @@ module _ (aside path bytes : List ℕ) (d : Disk) (whole : IsWhole d) (differ : 
   found_aside : found_at aside flushed_disk.names ≡ Some (length d.files)
   found_aside = found_with aside (length d.files) d.names
 
-  -- The flush of the file at `aside` is that of the last file.
+  -- The flush of the file at `aside` is the flush of the last file.
   is_flushed : flushed_disk.files ≡ flush_found created_disk.files (Some (length d.files))
   is_flushed = ap (flush_found created_disk.files) (found_with aside (length d.files) d.names)
 
@@ -96,7 +97,7 @@ module _ (aside path bytes : List ℕ) (d : Disk) (whole : IsWhole d) (differ : 
       ∙ found_moved aside path (length d.files) flushed_disk.names (found_at aside flushed_disk.names) found_aside) crash.files
 
   -- If P holds for the content at `path` of each disk that a crash of `x` may leave, it holds for each content `found`
-  -- that a crash of `x` may leave there.
+  -- that a crash of `x` may leave at `path`.
   from_content : (P : Option (List ℕ) → Type 0) (x : Disk) → ((after : Disk) → Crash x after → P (content path after)) →
       (found : Option (List ℕ)) → Leaves x path found → P found
   from_content P x each found left = subst P left.2 (each left.0 left.1)
@@ -223,7 +224,7 @@ pub remove_elsewhere : (path other : List ℕ) (d : Disk) → (path ≡ other �
     content other (after_remove path d) ≡ content other d
 remove_elsewhere path other d differ = ap (bytes_of d.files) (found_without_other other path d.names differ)
 
--- If a file stands at `from`, the content at `to` after the rename is that at `from` before.
+-- If a file stands at `from`, the content at `to` after the rename is the content at `from` before it.
 pub rename_is_read : (from to : List ℕ) (d : Disk) (file : ℕ) → found_at from d.names ≡ Some file →
     content to (after_rename from to d) ≡ content from d
 rename_is_read from to d file found =

@@ -1,5 +1,5 @@
--- These are crashes that no disk may have, and calls that lose what a crash may leave. Each case has its own fault. By
--- the laws the definitions of `Disk` exclude them all.
+-- These are crashes that no disk may have, half renames, and changes that lose names which may stand. Each case has its
+-- own fault. By the laws the definitions of `Disk` exclude them all.
 use Rattle.std.specs.Prelude.{◌≡◌, ℕ, true, false, List, length, slice_get, Some, None}
 use Rattle.ill_disk.specs.Disk.{In, File, Name, Disk, found_at}
 
@@ -14,14 +14,15 @@ pub data IsBadCrash (before after : Disk) : Type 0 where
       IsBadCrash before after
   other_count : (length after.files ≡ length before.files → ⊥) → IsBadCrash before after
 
--- `names` are not those after a rename of `file`. The cases are: `from` still gives a file, `to` gives none, and `to`
--- gives another file.
+-- `names` are not the names after a rename of `file` from `from` to `to`. The cases are: `from` still gives a file,
+-- `to` gives none, and `to` gives another file.
 pub data IsHalfRenamed (from to : List ℕ) (file : ℕ) (names : List Name) : Type 0 where
   still_there : (other : ℕ) → found_at from names ≡ Some other → IsHalfRenamed from to file names
   not_there : found_at to names ≡ None → IsHalfRenamed from to file names
   other_file : (other : ℕ) → found_at to names ≡ Some other → (other ≡ file → ⊥) → IsHalfRenamed from to file names
 
--- A change of names has lost a list that might stand, with the change or without it.
+-- A list of names that may stand on the disk `old` may not stand on the disk `new`. The cases are: the list without
+-- `change`, and the list with it.
 pub data LosesNames (change : List Name → List Name) (old new : Disk) : Type 0 where
   without_change : (names : List Name) → In old.may_stand names → (In new.may_stand names → ⊥) →
       LosesNames change old new

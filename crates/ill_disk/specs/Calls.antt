@@ -37,12 +37,12 @@ abbrev pub Creates : {E : Type 0} → List ℕ → List ℕ → Disk → Result 
 Creates path bytes old (Ok done) new = new ≡ after_create path bytes old
 Creates path bytes old (Err fault) new = (new ≡ old) ⊎ ((some : List ℕ) × (new ≡ after_create path some old))
 
--- The past has gained the disk `old`. A call that changes nothing may add nothing.
+-- The past has gained the disk of the state `old`. A call that changes nothing may add nothing to the past.
 abbrev pub Passes : DiskState → DiskState → Type 0
 Passes old new = (new.past ≡ followed_by old.past (old.now ∷ [])) ⊎ ((new.past ≡ old.past) × (new.now ≡ old.now))
 
--- The disk answers a call, and is in the state `new` after it. An honest disk is whole, does what the call does, and
--- keeps its past.
+-- The disk answers a call in the state `old`, and is in the state `new` after it. An honest disk is whole, changes as
+-- `does` says, and keeps its past. Each disk keeps its honesty.
 pub record Answers {A E : Type 0} (does : Disk → Result A E → Disk → Type 0) (old : DiskState) (answer : Result A E)
     (new : DiskState) : Type 0 where
   pub whole : old.is_honest ≡ true → IsWhole old.now

@@ -91,7 +91,8 @@ after_flush_names d = record d { may_stand = d.names ∷ [] }
 
 -- ---- crashes
 
--- A crash leaves `after` of the file `before`. If it was flushed, it has its bytes. Else it may have any.
+-- A crash may leave the file `after` of the file `before`. If `before` was flushed, `after` has its bytes. Else it may
+-- have any. All that a crash leaves is flushed.
 pub record IsLeft (before after : File) : Type 0 where
   pub bytes : before.is_flushed ≡ true → after.bytes ≡ before.bytes
   pub flushed : after.is_flushed ≡ true
@@ -103,7 +104,8 @@ AreLeft [] (g ∷ after) = ⊥
 AreLeft (f ∷ before) [] = ⊥
 AreLeft (f ∷ before) (g ∷ after) = IsLeft f g × AreLeft before after
 
--- A crash of the disk `before` may leave the disk `after`. Its names are one of the lists that may stand.
+-- A crash of the disk `before` may leave the disk `after`. The names of `after` are one of the lists that may stand on
+-- `before`. No other list may stand on `after`. Each file of `after` is one that a crash may leave.
 pub record Crash (before after : Disk) : Type 0 where
   pub names : In before.may_stand after.names
   pub only : after.may_stand ≡ after.names ∷ []
@@ -120,7 +122,7 @@ abbrev pub AreMade : ℕ → List Name → Type 0
 AreMade count [] = Unit {0}
 AreMade count (name ∷ names) = (name.file < count) × AreMade count names
 
--- Each file that a name gives was made. The names now may stand after a crash.
+-- In each list that may stand, each name gives a file that was made. The names now are one of these lists.
 pub record IsWhole (d : Disk) : Type 0 where
   pub made : (names : List Name) → In d.may_stand names → AreMade (length d.files) names
   pub now : In d.may_stand d.names

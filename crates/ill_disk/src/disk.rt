@@ -55,9 +55,9 @@ impl From<io::Error> for DiskFault {
 
 /// A disk that may lose its power. It is one folder: a path is a name in it.
 ///
-/// A call that is done has changed the disk as its clause says. A call that failed has done so too, or has changed
-/// nothing. `Crash` of the disk now is what a crash may leave. The disk is whole at each call. The clauses say this of
-/// an honest disk alone.
+/// A call that is done has changed the disk as its clause says. A call that failed has made the same change, or has
+/// changed nothing. But `create_new` may fail and make a file of other bytes. A crash may leave each disk that `Crash`
+/// allows after the disk now. The disk is whole at each call. The clauses say this of an honest disk alone.
 pub trait Disk {
     /// Returns the state: the disk now, and the disks that it was. Its part `is_honest` is true if the disk does as it
     /// answers.
@@ -80,7 +80,8 @@ pub trait Disk {
     fn look_up(&mut self, path: &[u8]) -> Result<(), DiskFault>
         ensures { Answers (Changes unchanged) (state self.old) result (state self.new) };
 
-    /// Makes a new file of `bytes` at a path where none stands. If it fails, a file with any bytes may stand there.
+    /// Makes a new file of `bytes` at `path`, and is done only if no file stands at `path`. If it fails, it may have
+    /// made a file with any bytes.
     fn create_new(&mut self, path: &[u8], bytes: &[u8]) -> Result<(), DiskFault>
         ensures creates { Answers (Creates path.now bytes.now) (state self.old) result (state self.new) }
         ensures free { WantsNoFile path.now (state self.old) result };
@@ -90,7 +91,7 @@ pub trait Disk {
         ensures changes { Answers (Changes (after_flush path.now)) (state self.old) result (state self.new) }
         ensures found { WantsFile path.now (state self.old) result };
 
-    /// Renames the file at `from` to `to`, over what stands there. `NotFound` if there is none.
+    /// Renames the file at `from` to `to`, over what stands at `to`. `NotFound` if no file stands at `from`.
     fn rename(&mut self, from: &[u8], to: &[u8]) -> Result<(), DiskFault>
         ensures changes { Answers (Changes (after_rename from.now to.now)) (state self.old) result (state self.new) }
         ensures found { WantsFile from.now (state self.old) result };
@@ -100,7 +101,7 @@ pub trait Disk {
         ensures changes { Answers (Changes (after_remove path.now)) (state self.old) result (state self.new) }
         ensures found { WantsFile path.now (state self.old) result };
 
-    /// Flushes the names.
+    /// Flushes the names, so that each crash leaves them.
     fn flush_names(&mut self) -> Result<(), DiskFault>
         ensures { Answers (Changes after_flush_names) (state self.old) result (state self.new) };
 }

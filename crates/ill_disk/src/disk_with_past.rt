@@ -17,7 +17,7 @@ pub struct DiskWithPast {
     past: Vec<MemoryDisk>,
 }
 
-/// In proofs it is the disk now, and the disks that it was.
+/// In proofs a `DiskWithPast` is the disk now, and the disks that it was.
 impl Model for DiskWithPast {
     ghost Value = { DiskOverTime };
 
@@ -25,7 +25,7 @@ impl Model for DiskWithPast {
 }
 
 impl DiskWithPast {
-    /// Returns the disk, without a past.
+    /// Returns `disk` with an empty past. The past takes its memory from `alloc`.
     pub fn new(alloc: Global, disk: MemoryDisk) -> DiskWithPast
         ensures { result ≡ record { disk = disk; past = [] } }
     {
@@ -43,7 +43,7 @@ impl DiskWithPast {
         &self.disk
     }
 
-    /// Returns the disks that it was, the first one first.
+    /// Returns the disks that this disk was before each call, the first one first.
     pub fn past(&self) -> &[MemoryDisk]
         ensures { result.now ≡ self.now.past }
     {
@@ -61,7 +61,8 @@ impl DiskWithPast {
     }
 }
 
-/// Each call but `look_up` first adds the disk before it to the past. If memory runs out for that, it changes nothing.
+/// Each call but `look_up` first adds the disk before it to the past. If memory runs out for the past, the call fails
+/// with `OutOfMemory` and changes nothing.
 impl Disk for DiskWithPast {
     ghost state = { past_state };
 

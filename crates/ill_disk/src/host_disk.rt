@@ -1,4 +1,5 @@
-//! A record in a file of the host's, as a disk: the only place here that names the files of the host.
+//! A record in a file of the host's, as a disk. In this crate only this module and `regular_file` use the files of the
+//! host.
 
 ghost use Rattle.std.specs.Prelude.{◌≡◌, ◌≤◌, ◌++◌, codes, length, IfOk, IfSome, string_bytes};
 ghost use Rattle.ill_disk.specs.HostDisk.{HostDiskOf, folder_of, host_state};
@@ -28,7 +29,7 @@ pub struct HostDisk<'a, R: Files> {
     path: String,
     /// The path of the new file beside it.
     new_path: String,
-    /// The file of the record that was last read, or renamed over it.
+    /// The file from which the record was last read, or which was last renamed over the record.
     known: Known,
     /// The file of the record that `look_up` found.
     found: Option<Metadata>,
@@ -50,7 +51,8 @@ enum Known {
 }
 
 impl Known {
-    /// Returns true if `found` may be the known file, or if there is no file and none was known.
+    /// Returns true if `found` is the known file, or if `found` and the known file are both none. Also returns true if
+    /// the record was neither read nor replaced.
     fn fits(self, found: Option<&Metadata>) -> bool {
         match (self, found) {
             (Known::Nothing, _) | (Known::Absent, None) => true,
@@ -80,11 +82,11 @@ enum OpenOne<F> {
     Record(F),
     /// The new file, which was made.
     New(F),
-    /// The new file, which was flushed.
+    /// The identity of the new file, which was flushed and closed.
     Flushed(Identity),
 }
 
-/// In proofs it is the path of the record alone. The path of the new file is that with `.new`.
+/// In proofs a `HostDisk` is the path of the record alone. The path of the new file is this path followed by `.new`.
 impl<'a, R: Files> Model for HostDisk<'a, R> {
     ghost Value = { HostDiskOf };
 
@@ -144,7 +146,8 @@ impl<'a, R: Files> HostDisk<'a, R> {
         }
     }
 
-    /// Reads the record, and keeps its file open.
+    /// Reads the record, and keeps its file open. Returns `None` if there is no file. More than `limit` bytes are
+    /// `TooLarge`.
     fn read_record(&mut self, alloc: Global, limit: usize) -> Result<Option<Vec<u8>>, DiskFault>
         ensures { IfOk result (λ found. IfSome found (λ b. length b.items ≤ limit)) }
     {
@@ -219,7 +222,7 @@ impl<'a, R: Files> HostDisk<'a, R> {
         Ok(())
     }
 
-    /// Opens the folder that holds the record.
+    /// Opens the folder that holds the record. It is `Hidden` if this user may not read it.
     fn open_folder(&self) -> io::Result<OpenFolder<R::File>> {
         match fs::open(self.rt, folder_of(self.path.as_str())) {
             Ok(folder) => Ok(OpenFolder::Open(folder)),
@@ -228,8 +231,8 @@ impl<'a, R: Files> HostDisk<'a, R> {
         }
     }
 
-    /// Flushes the names in the folder. They count as flushed if this user may not read it, or if the file system has no
-    /// such call. A folder that does not exist has no names.
+    /// Flushes the names in the folder. They count as flushed if this user may not read the folder, or if the file
+    /// system lacks the call. They also do if there was no record, and there is no folder.
     fn flush_folder(&mut self) -> io::Result<()> {
         let folder = match mem::replace(&mut self.folder, OpenFolder::Closed) {
             OpenFolder::Closed => match self.open_folder() {
@@ -256,7 +259,7 @@ fn flush_if_supported<F: OpenFile>(opened: &F) -> io::Result<()> {
     }
 }
 
-/// Returns the folder that holds the file at a path.
+/// Returns the folder that holds the file at a path, or `.` if the path names no folder.
 fn folder_of(path: &str) -> &str
     ensures { result.now ≡ folder_of path.now }
 {
@@ -282,7 +285,7 @@ fn fault_of(error: &io::Error) -> DiskFault {
     }
 }
 
-/// Returns the answer of a call for that of the host.
+/// Returns the answer of a call, for the answer of the host.
 fn answer_of(answer: io::Result<()>) -> Result<(), DiskFault> {
     match answer {
         Ok(()) => Ok(()),
@@ -303,8 +306,8 @@ fn read_all<F: Read + Drop>(alloc: Global, file: F, limit: usize) -> Result<(Vec
     }
 }
 
-/// Each call is that of the system, but for these. A path is looked up before it is opened, so no link is followed. A new
-/// file is shared as the record is.
+/// Each call is that of the system, but for two things. A path is looked up before it is opened, so no link is
+/// followed. The new file beside the record gets the record's group, permissions and owner.
 impl<'a, R: Files> Disk for HostDisk<'a, R> {
     ghost state = { host_state };
 

@@ -7,8 +7,9 @@ ghost use Rattle.ill_disk.specs.BadCalls.{IsBadAnswer, IsBadFinding, IsBadRead, 
 ghost use Rattle.ill_disk.specs.declared.disk.DiskFault.{DiskFault};
 ghost use Rattle.ill_disk.specs.BadDisk.{IsBadCrash, IsHalfRenamed, LosesNames};
 
-/// A new file gives its bytes, and a removed path gives nothing. After a rename the new path gives what the old one
-/// gave, and the old path gives nothing. No other path changes, and a flush changes nothing that is read.
+/// A new file gives its bytes, and a removed path gives nothing. After a rename of a file the new path gives what the
+/// old path gave. The old path, if it is another, then gives nothing. On a whole disk no other path changes. A flush
+/// changes nothing that is read.
 #[tactic(auto, using(crate::proofs::Saves::create_is_read, crate::proofs::Saves::create_elsewhere, crate::proofs::Saves::remove_is_read, crate::proofs::Saves::remove_elsewhere, crate::proofs::Saves::rename_is_read, crate::proofs::Saves::rename_is_gone, crate::proofs::Saves::rename_elsewhere, crate::proofs::Crashes::flush_is_not_read))]
 pub fn reads_follow_calls()
     ensures created { (path bytes : List ℕ) (d : Disk) → content path (after_create path bytes d) ≡ Some bytes }
@@ -39,7 +40,8 @@ pub fn disks_stay_whole()
     ensures crashed { (d after : Disk) → Crash d after → IsWhole d → IsWhole after }
 {}
 
-/// Each crash after a flush of a file and a flush of names leaves the names of now and the bytes of this file.
+/// Each crash after a flush of names leaves exactly these names. If a file was flushed before the names, the crash
+/// leaves its bytes, too.
 #[tactic(auto, using(crate::proofs::Crashes::names_left))]
 pub fn what_is_flushed_lasts()
     ensures names { (d after : Disk) → Crash (after_flush_names d) after → after.names ≡ d.names }
@@ -82,8 +84,8 @@ pub fn no_crash_is_bad()
     ensures { (before after : Disk) → Crash before after → IsBadCrash before after → ⊥ }
 {}
 
-/// A crash during a save leaves what one before it might have left, or the new record whole. Each crash after the save
-/// leaves the new record, and a read gives it.
+/// A crash during a save leaves what a crash before the save might have left, or the new record whole. Each crash after
+/// the save leaves the new record, and a read gives it.
 #[tactic(auto, using(crate::proofs::Saves::save_is_read))]
 pub fn a_save_is_old_or_new()
     ensures moments { (aside path bytes : List ℕ) (d moment : Disk) (found : Option (List ℕ)) → IsWhole d →
@@ -108,15 +110,15 @@ pub fn each_flush_of_a_save_counts()
         Leaves (after_rename aside path (after_flush aside (after_create aside bytes d))) path found }
 {}
 
-/// A record that is old or new is no third one: on the empty disk it is the new one.
+/// On the empty disk there is no old record. So a record that is old or new (`IsOldOr`) is the new one, and no third.
 #[tactic(auto, using(crate::proofs::Saves::empty_is_new))]
 pub fn no_third_record_is_old_or_new()
     ensures { (path bytes other : List ℕ) → IsOldOr path empty_disk bytes (Some other) → other ≡ bytes }
 {}
 
-/// An honest disk that is done with a change has made it. One that failed has made it, or has changed nothing. It is
-/// whole, and keeps its past. A read gives the bytes at the path, and changes nothing. No call makes a disk honest, or
-/// dishonest.
+/// An honest disk that is done with a change has made it. If the call failed, the disk has made the change, or none. An
+/// honest disk is whole, and keeps its past. A read gives the bytes at the path, and changes nothing. No call makes a
+/// disk honest, or dishonest.
 #[tactic(auto, using(crate::proofs::Moments::no_bad_answer, crate::proofs::Moments::no_bad_read))]
 pub fn no_answer_is_bad()
     ensures changes { (change : Disk → Disk) (old : DiskState) (answer : Result (Unit {0}) DiskFault) (new : DiskState) →
@@ -125,8 +127,8 @@ pub fn no_answer_is_bad()
         Answers (Reads (λ b. b) path) old answer new → IsBadRead (λ b. b) path old answer new → ⊥ }
 {}
 
-/// An honest disk is done with a call on a file only if it stands, and answers `NotFound` only if none stands. A read
-/// answers `TooLarge` only if the file is longer than the limit.
+/// An honest disk is done with a call on a file only if a file stands at the path. It answers `NotFound` only if none
+/// stands there. A read answers `TooLarge` only if the file is longer than the limit.
 #[tactic(auto, using(crate::proofs::Moments::no_bad_finding, crate::proofs::Moments::no_bad_size))]
 pub fn no_fault_is_false()
     ensures finding { (path : List ℕ) (old : DiskState) (answer : Result (Unit {0}) DiskFault) →
@@ -140,8 +142,8 @@ pub fn no_moment_is_left_out()
     ensures { (old new : DiskState) (d : Disk) → Throughout (λ e. e ≡ d → ⊥) old new → IsMoment old new d → ⊥ }
 {}
 
-/// A crash while a new file is written leaves what one after it may leave. So each moment within a call is one between
-/// two calls.
+/// A crash while a new file is written leaves only what a crash after it was written may leave. So a moment within this
+/// call needs no case of its own.
 pub fn a_torn_file_is_no_further_case()
     ensures { (path some bytes : List ℕ) (d after : Disk) → Crash (after_create path some d) after →
         Crash (after_create path bytes d) after }

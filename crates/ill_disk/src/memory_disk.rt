@@ -40,11 +40,11 @@ impl Model for MemoryName {
 /// A change of names.
 #[derive(Clone, Copy)]
 enum Change<'a> {
-    /// A file is made at a path.
+    /// A file is made at a path. The number is its place in the list of all files.
     Make(&'a [u8], usize),
     /// A path is removed.
     Remove(&'a [u8]),
-    /// A path is renamed to another, which then gives this file.
+    /// The first path is renamed to the second. The number is the place of the file in the list of all files.
     Rename(&'a [u8], &'a [u8], usize),
 }
 
@@ -141,7 +141,7 @@ impl MemoryName {
     }
 }
 
-/// Returns the file that `names` give at `path`, if there is one.
+/// Returns the file that `names` give at `path`, if any, as a place in the list of all files.
 fn find(names: &[MemoryName], path: &[u8]) -> Option<usize>
     ensures { result ≡ found_at path.now names.now }
 {
@@ -167,7 +167,7 @@ fn add_names(
     Ok(())
 }
 
-/// Appends copies of `names` without the one of `path` to `all`.
+/// Appends copies of `names` without the one of `path` to `all`. If memory runs out, some may have been appended.
 fn add_without(
     alloc: Global,
     all: &mut Vec<MemoryName>,
@@ -311,7 +311,7 @@ fn flush_at(files: &mut [MemoryFile], file: usize)
     }
 }
 
-/// Returns a file as a crash leaves it.
+/// Returns `file` as a crash may leave it: flushed, with its bytes if it was flushed before, and else with none.
 fn crash_file(alloc: Global, file: &MemoryFile) -> Result<MemoryFile, AllocError>
     ensures { IfOk result (λ after. after ≡ file_after_crash file.now) }
 {
@@ -337,7 +337,7 @@ fn copy_files(alloc: Global, files: &[MemoryFile]) -> Result<Vec<MemoryFile>, Al
     Ok(copies)
 }
 
-/// Returns the files as a crash leaves them.
+/// Returns the files as a crash may leave them, each by `crash_file`.
 fn crash_files(alloc: Global, files: &[MemoryFile]) -> Result<Vec<MemoryFile>, AllocError>
     ensures { IfOk result (λ after. after.items ≡ map file_after_crash files.now) }
 {
@@ -422,7 +422,7 @@ impl MemoryDisk {
         })
     }
 
-    /// Changes the names, or nothing if memory runs out.
+    /// Changes the names, or nothing if memory runs out. The file of `change` must be a place in the list of all files.
     fn change(&mut self, change: Change<'_>) -> Result<(), AllocError>
         requires { IsMadeBy (length self.old.files) change }
         ensures done { OnOk result (self.new ≡ after_change (names_after change.entry) self.old) }

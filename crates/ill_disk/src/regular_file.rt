@@ -36,8 +36,8 @@ impl Identity {
     }
 }
 
-/// Looks up the regular file at a path, if there is one. Anything else at the path is a fault. A pipe would block
-/// when it is opened, and a link would give one file two names.
+/// Looks up the regular file at a path, and returns `None` if there is nothing. Anything else at the path is a fault.
+/// A pipe would block when it is opened, and a link would give one file two names.
 pub fn find<R: Files>(rt: &R, path: &str) -> io::Result<Option<Metadata>> {
     match fs::symlink_metadata(rt, path) {
         Ok(found) if found.is_file() => Ok(Some(found)),
@@ -50,8 +50,8 @@ pub fn find<R: Files>(rt: &R, path: &str) -> io::Result<Option<Metadata>> {
 /// The maximum number of attempts to look up and open a file, if another file replaces it in between.
 const LOOKUPS: u32 = 10;
 
-/// Opens the regular file at a path for reading, if there is one. If another file has replaced it since the lookup,
-/// it is looked up again, so no link is followed.
+/// Opens the regular file at a path for reading, if there is one, and returns it with its identity. If another file has
+/// replaced it since the lookup, it is looked up again, so no link is followed. After `LOOKUPS` lookups it fails.
 pub fn open<R: Files>(rt: &R, path: &str) -> io::Result<Option<(R::File, Identity)>> {
     for _ in 0..LOOKUPS {
         let Some(found) = find(rt, path)? else {
@@ -94,7 +94,8 @@ pub fn share_like<R: Files>(
     Ok(())
 }
 
-/// Gives the file at a path an owner or a group, and returns true if the system allows it.
+/// Gives the file at a path an owner or a group, and returns true if the system allows it. `None` keeps the present
+/// owner or group.
 fn give<R: Files>(rt: &R, path: &str, owner: Option<u32>, group: Option<u32>) -> io::Result<bool> {
     match lchown(rt, path, owner, group) {
         Ok(()) => Ok(true),

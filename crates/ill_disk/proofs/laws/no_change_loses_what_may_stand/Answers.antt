@@ -10,7 +10,8 @@ pub returns-clause-created : goal.returns-clause-created
 returns-clause-created c path bytes d lost =
     none_lost (with_name path (length d.files))
     (record d { files = d.files ++ record { bytes = bytes; is_flushed = false } ∷ [] }) (still lost) where
-      -- `d` with the new file has the lists of names of `d`, so what `d` loses, it loses too.
+      -- `d` with the new file has the lists of names of `d`. So a list that `d` loses is one that `d` with the new file
+      -- loses.
       still : LosesNames (with_name path (length d.files)) d (after_create path bytes d) →
           LosesNames (with_name path (length d.files))
           (record d { files = d.files ++ record { bytes = bytes; is_flushed = false } ∷ [] }) (after_create path bytes d)

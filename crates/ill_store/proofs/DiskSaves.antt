@@ -47,15 +47,16 @@ none_lasts path d whole none found left = go (found_at path d.names) refl where
   go (Some k) is = absurd (made_has_bytes d.files k
       (made_found (length d.files) path d.names k (whole.made d.names whole.now) is) (sym (ap (bytes_of d.files) is) ∙ none))
 
--- Each crash leaves what each crash of its own disk leaves.
+-- The disk `d` satisfies `LeavesOld` with itself.
 pub old_left : (path : List ℕ) (d : Disk) → LeavesOld path d d
 old_left path d found left = left
 
--- A crash before a flush of a file may leave all that a crash after it leaves.
+-- Let each crash of `d` leave what a crash of `old` might have left. So does each crash after a flush of a file of `d`.
 pub flush_leaves : (path flushed : List ℕ) (old d : Disk) → LeavesOld path old d → LeavesOld path old (after_flush flushed d)
 flush_leaves path flushed old d lefts found left = lefts found (left.0, flush_left flushed d left.0 left.1, left.2)
 
--- A crash before a flush of the names of a whole disk may leave all that a crash after it leaves.
+-- Let each crash of the whole disk `d` leave what a crash of `old` might have left. So does each crash after a flush of
+-- the names of `d`.
 pub names_leave : (path : List ℕ) (old d : Disk) → IsWhole d → LeavesOld path old d → LeavesOld path old (after_flush_names d)
 names_leave path old d whole lefts found left = lefts found (
   left.0,
@@ -67,7 +68,7 @@ names_leave path old d whole lefts found left = lefts found (
   left.2,
 )
 
--- A crash before another path was removed may leave all that a crash after it leaves at this path.
+-- After `aside` is removed, each crash leaves at `path`, another path, what a crash of `d` might have left.
 pub remove_leaves : (aside path : List ℕ) (d : Disk) → (aside ≡ path → ⊥) → LeavesOld path d (after_remove aside d)
 remove_leaves aside path d differ found left = ⊎_elim
     (λ stands. (left.0, record { names = stands; only = left.1.only; files = left.1.files }, left.2))
@@ -81,14 +82,14 @@ remove_leaves aside path d differ found left = ⊎_elim
 
 -- ---- a load
 
--- If a path has its old record, it has this after a flush of its file, done or failed.
+-- If the disk `read` satisfies `IsOld`, so does the disk after a flush of the record's file, done or failed.
 pub flush_keeps : {E : Type 0} (path : List ℕ) (old read flushed : Disk) (result : Result (Unit {0}) E) →
     IsOld path old read → Changes (after_flush path) read result flushed → IsOld path old flushed
 flush_keeps path old read flushed result kept changes =
     after_call (IsOld path old) (after_flush path) read flushed result changes kept
     (flush_is_not_read path path read ∙ kept.0, flush_leaves path path old read kept.1)
 
--- If a path has its old record, it has this after `flush_names` too, whether that succeeds or fails.
+-- If the whole disk `flushed` satisfies `IsOld`, so does the disk after a flush of the names, done or failed.
 pub names_keep : {E : Type 0} (path : List ℕ) (old flushed last : Disk) (result : Result (Unit {0}) E) → IsWhole flushed →
     IsOld path old flushed → Changes after_flush_names flushed result last → IsOld path old last
 names_keep path old flushed last result whole kept changes =
@@ -102,7 +103,7 @@ load_lasts path old read flushed last same flush names =
     subst (λ (d : Disk). Lasts path d (content path old)) (sym (names ∙ ap after_flush_names flush))
     (λ found left. flushes_last path read found left ∙ ap (content path) same)
 
--- If there is no record, none lasts after the names were flushed.
+-- If there is no record, each crash after a flush of the names leaves none.
 pub no_load_lasts : (path : List ℕ) (old read last : Disk) → read ≡ old → IsWhole read → content path old ≡ None →
     last ≡ after_flush_names read → Lasts path last (content path old)
 no_load_lasts path old read last same whole none names =
@@ -240,8 +241,9 @@ module _ (aside path bytes : List ℕ) (first d : Disk) (whole : IsWhole d) (dif
 
 -- ---- a new record is placed
 
--- Each disk on the way of a placing has the record of before, or the new one.
+-- On a whole disk `d` the new record `bytes` is placed: a file is made at `aside`, flushed, and renamed to `path`.
 module _ (aside path bytes : List ℕ) (d : Disk) (differ : aside ≡ path → ⊥) (whole : IsWhole d) where
+  -- Each disk on the way of a save has the old record or the new one.
   on_way : (last : Disk) → In (on_the_way aside path bytes d) last → IsOldOrNew path bytes d last
   on_way last is = way_fine aside path bytes d d whole differ refl (old_left path d) last is
 
@@ -257,7 +259,8 @@ module _ (aside path bytes : List ℕ) (d : Disk) (differ : aside ≡ path → �
       on_way flushed (after_call (In (on_the_way aside path bytes d)) (after_flush aside) made flushed result changes
       (inr (inl is)) (inr (inr (inl (ap (after_flush aside) is)))))
 
-  -- The disk after the new file was renamed, or was not, has the old record or the new one.
+  -- The disk after the new file was renamed, or was not, has the old record or the new one. By `here` the disk
+  -- `flushed` is the third on the way.
   pub after_renaming : {E : Type 0} (made flushed renamed : Disk) (result : Result (Unit {0}) E) →
       made ≡ after_create aside bytes d → flushed ≡ after_flush aside made →
       Changes (after_rename aside path) flushed result renamed → IsOldOrNew path bytes d renamed
@@ -301,7 +304,7 @@ pub record HasSaved (path bytes : List ℕ) (old new : DiskState) : Type 0 where
 -- A new file was made, or was not.
 module _ {E : Type 0} {aside path bytes : List ℕ} {old made : DiskState} {making : Result (Unit {0}) E}
     (differ : aside ≡ path → ⊥) (creates : Answers (Creates aside bytes) old making made) where
-  -- The disk has the old record after the new file was made, or was not.
+  -- `HasSaved` holds up to the making of the new file, done or failed.
   so_made : HasSaved path bytes old made
   so_made = record {
     moments = λ h. one_more_call {now = old} (throughout_nothing {old = old} (inl refl, λ found left. inl left)) (creates.past h)
@@ -309,7 +312,7 @@ module _ {E : Type 0} {aside path bytes : List ℕ} {old made : DiskState} {maki
     honest = creates.honest;
   }
 
-  -- A placing that ends here, because the making of the new file failed, satisfies `DiskPlaces`.
+  -- A placing that ends because the making of the new file failed satisfies `DiskPlaces`.
   pub making_fails : {answer : Result (Unit {0}) E} → IsErr answer → DiskPlaces aside path bytes old answer made
   making_fails {answer = Ok done} is = absurd (true≢false (sym is))
   making_fails {answer = Err fault} is = record {
@@ -323,7 +326,7 @@ module _ {E : Type 0} {aside path bytes : List ℕ} {old made : DiskState} {maki
 module _ {E : Type 0} {aside path bytes : List ℕ} {old made flushed : DiskState} {flushing : Result (Unit {0}) E}
     {one : Unit {0}} (differ : aside ≡ path → ⊥) (creates : Answers {E = E} (Creates aside bytes) old (Ok one) made)
     (flushes : Answers (Changes (after_flush aside)) made flushing flushed) where
-  -- The disk has the old record after the new file was flushed, or was not.
+  -- `HasSaved` holds up to the flush of the new file, done or failed.
   so_flushed : HasSaved path bytes old flushed
   so_flushed =
       let before : HasSaved path bytes old made = so_made differ creates in record {
@@ -333,7 +336,7 @@ module _ {E : Type 0} {aside path bytes : List ℕ} {old made flushed : DiskStat
         honest = flushes.honest ∙ creates.honest;
       }
 
-  -- A placing that ends here, because the flush of the new file failed, satisfies `DiskPlaces`.
+  -- A placing that ends because the flush of the new file failed satisfies `DiskPlaces`.
   pub flushing_fails : {answer : Result (Unit {0}) E} → IsErr answer → DiskPlaces aside path bytes old answer flushed
   flushing_fails {answer = Ok done} is = absurd (true≢false (sym is))
   flushing_fails {answer = Err fault} is = record {
@@ -436,7 +439,7 @@ module _ {E : Type 0} {aside path bytes : List ℕ} {old cleared placed : DiskSt
   was_honest : old.is_honest ≡ true → cleared.is_honest ≡ true
   was_honest h = so_far.honest ∙ h
 
-  -- The disk has the old record or the new one after the new one was placed, or was not.
+  -- `HasSaved` holds up to the placing of the new record, done or failed.
   so_placed : HasSaved path bytes old placed
   so_placed = record {
     moments = λ h. joins (holds_too (old_is_fine path bytes old.now) (so_far.moments h))
@@ -483,7 +486,8 @@ save_ends {aside = aside} {path = path} {bytes = bytes} {old = old} {cleared = c
 
 -- ---- a store that answers as its disk did
 
--- If paths and disks are equal, a load done at one is done at the other, with any type of faults.
+-- Let the paths `p` and `q`, the disks `a` and `b`, and the disks `d` and `e` be equal.
+-- A load that is done at `p`, from `a` to `d`, is also one at `q`, from `b` to `e`. The type of the faults may differ.
 pub done_load_at : {X E F : Type 0} {bytes_of : X → List ℕ} {p q : List ℕ} {a b d e : DiskState} {found : Option X} →
     p ≡ q → a ≡ b → d ≡ e → DiskLoads {E = E} bytes_of p a (Ok found) d → DiskLoads {E = F} bytes_of q b (Ok found) e
 done_load_at {F = F} {bytes_of = bytes_of} {p = p} {a = a} {b = b} {e = e} {found = found} path old new loads =
@@ -496,7 +500,8 @@ done_load_at {F = F} {bytes_of = bytes_of} {p = p} {a = a} {b = b} {e = e} {foun
       honest = loads.honest;
     })))
 
--- If paths and disks are equal, a load that failed at one failed at the other, with any fault.
+-- Let the paths `p` and `q`, the disks `a` and `b`, and the disks `d` and `e` be equal.
+-- A load that failed at `p`, from `a` to `d`, is also one at `q`, from `b` to `e`. The fault may be any (`other`).
 pub failed_load_at : {X E F : Type 0} {bytes_of : X → List ℕ} {p q : List ℕ} {a b d e : DiskState} {fault : E}
     {other : F} → p ≡ q → a ≡ b → d ≡ e → DiskLoads bytes_of p a (Err fault) d → DiskLoads bytes_of q b (Err other) e
 failed_load_at {bytes_of = bytes_of} {p = p} {a = a} {b = b} {e = e} {other = other} path old new loads =
@@ -509,7 +514,8 @@ failed_load_at {bytes_of = bytes_of} {p = p} {a = a} {b = b} {e = e} {other = ot
       honest = loads.honest;
     })))
 
--- If paths and disks are equal, a save that is done at one is done at the other, with any type of faults.
+-- Let the paths `p` and `q`, the disks `a` and `b`, and the disks `d` and `e` be equal.
+-- A save that is done at `p`, from `a` to `d`, is also one at `q`, from `b` to `e`. The type of the faults may differ.
 pub done_save_at : {E F : Type 0} {p q bytes : List ℕ} {a b d e : DiskState} {done : Unit {0}} → p ≡ q → a ≡ b → d ≡ e →
     DiskSaves {E = E} p bytes a (Ok done) d → DiskSaves {E = F} q bytes b (Ok done) e
 done_save_at {F = F} {p = p} {bytes = bytes} {a = a} {b = b} {e = e} {done = done} path old new saves =
@@ -522,7 +528,8 @@ done_save_at {F = F} {p = p} {bytes = bytes} {a = a} {b = b} {e = e} {done = don
       honest = saves.honest;
     })))
 
--- If paths and disks are equal, a save that failed at one failed at the other, with any fault.
+-- Let the paths `p` and `q`, the disks `a` and `b`, and the disks `d` and `e` be equal.
+-- A save that failed at `p`, from `a` to `d`, is also one at `q`, from `b` to `e`. The fault may be any (`other`).
 pub failed_save_at : {E F : Type 0} {p q bytes : List ℕ} {a b d e : DiskState} {fault : E} {other : F} → p ≡ q →
     a ≡ b → d ≡ e → DiskSaves p bytes a (Err fault) d → DiskSaves q bytes b (Err other) e
 failed_save_at {p = p} {bytes = bytes} {a = a} {b = b} {e = e} {other = other} path old new saves =

@@ -15,7 +15,7 @@ as_read : (found : Option (List ℕ)) → option_map (λ (b : List ℕ). b) foun
 as_read None = refl
 as_read (Some bytes) = refl
 
--- If a load of the honest disk `later` is done, it gives what a read of `path` there would give.
+-- If a load from the honest disk `later` is done, it gives what a read of `path` from `later` gives.
 read_is : {E : Type 0} (path : List ℕ) (later last : DiskState) (again : Result (Option (List ℕ)) E)
     (read : Option (List ℕ)) → later.is_honest ≡ true → DiskLoads (λ b. b) path later again last → again ≡ Ok read →
     read ≡ content path later.now

@@ -1,13 +1,13 @@
--- These are loads and saves that no store on an honest disk may make. Each case has its own fault. By the laws the
--- definitions of `DiskStore` exclude them all.
+-- These are loads and saves that no store on an honest disk may make. Then come losses of records that no honest store
+-- may have. Each case has its own fault. By the laws the definitions of `DiskStore` and of `Store` exclude them all.
 use Rattle.std.specs.Prelude.{◌≡◌, ℕ, true, List, Option, Some, Result, Ok, Err}
 use Rattle.ill_disk.specs.Disk.{Disk, Leaves, content}
 use Rattle.ill_disk.specs.Calls.{DiskState, IsMoment}
 use Rattle.ill_store.specs.declared.store.StoreFault.{StoreFault}
 
--- A load at this path cannot answer so, and leave the disk in the state `new`. It gives another record than a read
--- would, or a crash loses the record, later or meanwhile. Or a read meanwhile gives another record, or the honesty
--- changes.
+-- `answer` and `new` are wrong for a load at `path` from the disk `old`. The load gives another record than a read. Or
+-- a crash after it loses the record. Or a crash meanwhile leaves what none might have left before. Or a read meanwhile
+-- gives another record. Or the honesty of the disk changes.
 pub data IsBadLoad {E : Type 0} (path : List ℕ) (old : DiskState) (answer : Result (Option (List ℕ)) E) (new : DiskState)
     : Type 0 where
   other_record : (found : Option (List ℕ)) → old.is_honest ≡ true → answer ≡ Ok found →
@@ -20,8 +20,9 @@ pub data IsBadLoad {E : Type 0} (path : List ℕ) (old : DiskState) (answer : Re
       (content path d ≡ content path old.now → ⊥) → IsBadLoad path old answer new
   turned : (new.is_honest ≡ old.is_honest → ⊥) → IsBadLoad path old answer new
 
--- A save of these bytes at this path cannot answer so, and leave the disk in the state `new`. A read does not give the
--- bytes, or a later crash loses them. Or a crash or a read meanwhile gives a third record, or the honesty changes.
+-- `answer` and `new` are wrong for a save of `bytes` at `path` of the disk `old`. A read after the save does not give
+-- `bytes`. Or a crash after it loses them. Or a crash or a read meanwhile gives a third record. Or the honesty of the
+-- disk changes.
 pub data IsBadSave {E : Type 0} (path bytes : List ℕ) (old : DiskState) (answer : Result (Unit {0}) E) (new : DiskState)
     : Type 0 where
   not_saved : (done : Unit {0}) → old.is_honest ≡ true → answer ≡ Ok done → (content path new.now ≡ Some bytes → ⊥) →
@@ -36,8 +37,9 @@ pub data IsBadSave {E : Type 0} (path bytes : List ℕ) (old : DiskState) (answe
 
 -- ---- what a loss of power leaves
 
--- A loss of power cannot leave such a record after a load with this answer. After `Ok` it is not the landed one, and
--- after `Err` it is none that might have been left before.
+-- A loss of power after a load with this answer may leave a wrong record. `before` and `after` hold of the records that
+-- may be left before and after the load. After `Ok` the wrong record is not the landed one. After `Err` it is none that
+-- might have been left before.
 pub data LosesLoaded {X : Type 0} (landed : Option (List ℕ)) (before : Option (List ℕ) → Type 0)
     (answer : Result X StoreFault) (after : Option (List ℕ) → Type 0) : Type 0 where
   not_the_landed : (found : X) (left : Option (List ℕ)) → answer ≡ Ok found → after left → (left ≡ landed → ⊥) →
@@ -45,8 +47,9 @@ pub data LosesLoaded {X : Type 0} (landed : Option (List ℕ)) (before : Option 
   none_of_before : (fault : StoreFault) (left : Option (List ℕ)) → answer ≡ Err fault → after left → (before left → ⊥) →
       LosesLoaded landed before answer after
 
--- A loss of power cannot leave such a record after a save of `bytes` with this answer. After `Ok` it is not `bytes`.
--- After `Err` it is neither `bytes` nor one that might have been left before.
+-- A loss of power after a save of `bytes` with this answer may leave a wrong record. `before` and `after` hold of the
+-- records that may be left before and after the save. After `Ok` the wrong record is not `bytes`. After `Err` it is
+-- neither `bytes` nor one that might have been left before.
 pub data LosesSaved (bytes : List ℕ) (before : Option (List ℕ) → Type 0) (answer : Result (Unit {0}) StoreFault)
     (after : Option (List ℕ) → Type 0) : Type 0 where
   not_the_saved : (done : Unit {0}) (left : Option (List ℕ)) → answer ≡ Ok done → after left → (left ≡ Some bytes → ⊥) →

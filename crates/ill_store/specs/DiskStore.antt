@@ -42,12 +42,13 @@ LeavesOldOr path bytes old new = (left : Option (List ℕ)) → Leaves new path 
 abbrev pub ReadsOldOr : List ℕ → List ℕ → Disk → Disk → Type 0
 ReadsOldOr path bytes old new = (content path new ≡ content path old) ⊎ (content path new ≡ Some bytes)
 
--- A read of the disk `d`, and each crash of it, give what they gave, or might have given, on the disk `old`.
+-- A read of the disk `d` gives what it gave on the disk `old`. Each crash of `d` leaves what a crash of `old` might
+-- have left.
 abbrev pub IsOld : List ℕ → Disk → Disk → Type 0
 IsOld path old d = (content path d ≡ content path old) × LeavesOld path old d
 
--- A read of the disk `d`, and each crash of it, give what they gave, or might have given, on the disk `old`, or these
--- bytes.
+-- A read of the disk `d` gives what it gave on the disk `old`, or `bytes`. Each crash of `d` leaves what a crash of
+-- `old` might have left, or `bytes`.
 abbrev pub IsOldOrNew : List ℕ → List ℕ → Disk → Disk → Type 0
 IsOldOrNew path bytes old d = ReadsOldOr path bytes old d × LeavesOldOr path bytes old d
 

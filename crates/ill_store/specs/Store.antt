@@ -114,16 +114,15 @@ pub record StoreSaves (bytes : List ℕ) (old : StoreState) (answer : Result (Un
 
 -- ---- a loss of power
 
--- `after` holds of each record that a loss of power may leave after a load, and `before` of each that one might have left
--- before it. After a load that is done, it is the landed record. After one that failed, it is one of those before.
+-- `before` and `after` hold of the records that a loss of power may leave before and after a load. If the load is done,
+-- each record of `after` is the landed one. If it failed, each record of `after` is one of `before`.
 abbrev pub LoadLasts : {X : Type 0} → Option (List ℕ) → (Option (List ℕ) → Type 0) → Result X StoreFault →
     (Option (List ℕ) → Type 0) → Type 0
 LoadLasts landed before (Ok found) after = (left : Option (List ℕ)) → after left → left ≡ landed
 LoadLasts landed before (Err fault) after = (left : Option (List ℕ)) → after left → before left
 
--- `after` holds of each record that a loss of power may leave after a save of `bytes`, and `before` of each that one might
--- have left before it. After a save that is done, it is `bytes`. After one that failed, it is `bytes`, or one of those
--- before.
+-- `before` and `after` hold of the records that a loss of power may leave before and after a save. If the save is done,
+-- each record of `after` is `bytes`. If it failed, each record of `after` is `bytes` or one of `before`.
 abbrev pub SaveLasts : List ℕ → (Option (List ℕ) → Type 0) → Result (Unit {0}) StoreFault → (Option (List ℕ) → Type 0)
     → Type 0
 SaveLasts bytes before (Ok done) after = (left : Option (List ℕ)) → after left → left ≡ Some bytes
@@ -152,7 +151,7 @@ fuse_state state fuse = record (state fuse.inner) {
 abbrev pub fuse_after_failure : {S : Type 0} → FuseOf S → FuseOf S
 fuse_after_failure fuse = record fuse { failures = one_more fuse.failures }
 
--- If the fuse has calls left, the inner store answers, and the fuse has one call less left.
+-- If the fuse has calls left, the inner store answers as `calls` says, and the fuse spends one.
 -- If it has none left, the call answers `Failed`, and the inner store is unchanged.
 abbrev pub FuseCalls : {S A : Type 0} → (S → StoreState) → (StoreState → Result A StoreFault → StoreState → Type 0) →
     FuseOf S → Result A StoreFault → FuseOf S → Type 0

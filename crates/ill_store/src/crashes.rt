@@ -25,12 +25,12 @@ fn disk_with(alloc: Global, bytes: &[u8]) -> Result<MemoryDisk, Fail> {
     Ok(store.close())
 }
 
-/// Returns true if these bytes were found.
+/// Returns true if `found` is a record of these bytes.
 pub fn is_found(found: &Option<Vec<u8>>, bytes: &[u8]) -> bool {
     matches!(found, Some(record) if record.as_slice() == bytes)
 }
 
-/// Returns true if each crash of this disk leaves the record `one` or `two`.
+/// Returns true if each disk that `after_crash` gives for this disk has the record `one` or `two`.
 fn leaves_one_or_two(alloc: Global, disk: &MemoryDisk) -> Result<bool, Fail> {
     for which in 0..disk.count_lists() {
         let found = loaded(alloc, disk.after_crash(alloc, which)?)?;

@@ -13,8 +13,9 @@ use ill_values::OutOfMemory;
 use std::alloc::Global;
 use std::marker::Model;
 
-/// A store of one record in a file of a disk. The file whose name ends with `.new` belongs to the store. So both calls
-/// fail if the path ends so, or as the file of a lock does, with `.lck`.
+/// A store of one record in a file of a disk. The file beside the record whose name ends with `.new` belongs to the
+/// store. So `load` and `save` fail if the path of the record ends with `.new`. They also fail if it ends with `.lck`,
+/// as the path of a lock does.
 ///
 /// Each crash of an honest disk leaves the record that a load gave. It leaves the record of a save that is done, too.
 #[derive(Drop)]
@@ -26,8 +27,8 @@ pub struct DiskStore<D: Disk> {
     failures: u64,
 }
 
-/// The value of a store is its disk, its path, its limit and its count of failures. The path `aside` is that of the
-/// record with `.new` at its end.
+/// The value of a store is its disk, its path, its limit and its count of failures. The path `aside` is the path of the
+/// record followed by `.new`.
 impl<D: Disk> Model for DiskStore<D> {
     ghost Value = { DiskStoreOf D };
 
@@ -86,7 +87,7 @@ impl<D: Disk> DiskStore<D> {
         regular_file::is_reserved(&self.path)
     }
 
-    /// Fails this call, and counts the failure.
+    /// Counts a failure, and returns `Failed`.
     fn fail(&mut self) -> StoreFault
         ensures fault { result ≡ Failed }
         ensures counted { self.new ≡ record self.old { failures = one_more self.old.failures } }

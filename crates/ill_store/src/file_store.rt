@@ -11,14 +11,14 @@ use std::alloc::Global;
 use std::marker::Model;
 use std::rt::Files;
 
-/// A store in a file, for a record that outlives the program. It is a `DiskStore` over the files of the host, and does
-/// what that does.
+/// A store in a file, for a record that outlives the program. Its calls are those of a `DiskStore` over the files of
+/// the host.
 ///
 /// No contract states the content of a file, so this store is not honest. If the host does what docs/STORES.md says of
 /// each of its calls, the store keeps the contract of `DiskStore`, whenever the power goes.
 ///
-/// A save fails if another program has replaced or changed the file since this store loaded or saved it. It finds
-/// most such changes, but may miss a change during the save. So hold a lock if you share a file.
+/// A save fails if another program has replaced or changed the file since this store loaded or saved it. The save
+/// finds most such changes, but may miss one that is made during the save. So hold a lock if you share a file.
 #[derive(Drop)]
 pub struct FileStore<'a, R: Files> {
     store: DiskStore<HostDisk<'a, R>>,

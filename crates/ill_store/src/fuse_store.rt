@@ -8,7 +8,7 @@ use crate::store::{Store, StoreFault};
 use std::alloc::Global;
 use std::marker::Model;
 
-/// A store that passes its first calls of `load` and `save` on to an inner store. Each later call fails, and
+/// A store that passes a given number of calls of `load` and `save` on to an inner store. Each later call fails, and
 /// never reaches the inner store.
 #[derive(Debug, Drop)]
 pub struct FuseStore<S: Store> {
@@ -43,7 +43,7 @@ impl<S: Store> FuseStore<S> {
         self.inner
     }
 
-    /// Fails this call, and counts the failure.
+    /// Counts a failure, and returns `Failed`.
     fn fail(&mut self) -> StoreFault
         ensures fault { result ≡ Failed }
         ensures counted { self.new ≡ fuse_after_failure self.old }

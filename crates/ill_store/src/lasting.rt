@@ -6,7 +6,8 @@ ghost use Rattle.ill_store.specs.DiskStore.{DiskLoads, DiskPlaces, DiskSaves};
 use ill_disk::{Disk, DiskFault};
 use std::alloc::Global;
 
-/// Loads the record at `path`, of at most `limit` bytes. From then on each crash of an honest disk leaves it.
+/// Loads the record at `path`, or `None` if no file stands there. From then on each crash of an honest disk leaves it.
+/// More than `limit` bytes are `TooLarge`.
 ///
 /// Flushes its file, if there is one, and then the names.
 pub fn load<D: Disk>(
@@ -31,8 +32,8 @@ pub fn load<D: Disk>(
     }
 }
 
-/// Saves `bytes` at `path`. Once it is done, each crash of an honest disk leaves them. If it fails, a crash leaves what
-/// one before it might have left, or these bytes.
+/// Saves `bytes` at `path`. Once it is done, each crash of an honest disk leaves `bytes`. If it fails, a crash leaves
+/// what a crash before the save might have left, or `bytes`. `aside` must be another path than `path`.
 ///
 /// Looks up the record, and removes what an earlier save has left at `aside`. Places the new record, and flushes the
 /// names. If the new record cannot be placed, removes what stands at `aside`.

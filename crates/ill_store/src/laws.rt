@@ -10,7 +10,8 @@ ghost use Rattle.ill_store.specs.BadStore.{IsBadLoad, IsBadSave, LosesLoaded, Lo
 
 use crate::store::Store;
 
-/// If the power goes at any moment of a load, done or failed, the next load gives the record that lasted before.
+/// Let the power go at any moment of a load, done or failed. The next load that is done gives the record that lasted
+/// before.
 pub fn a_load_that_is_cut_keeps_the_record()
     ensures { (path : List ℕ) (old new later last : DiskState) (moment : Disk) (lasted read : Option (List ℕ))
         (answer again : Result (Option (List ℕ)) StoreFault) → old.is_honest ≡ true → Lasts path old.now lasted →
@@ -18,8 +19,8 @@ pub fn a_load_that_is_cut_keeps_the_record()
         later.is_honest ≡ true → DiskLoads (λ b. b) path later again last → again ≡ Ok read → read ≡ lasted }
 {}
 
-/// If the power goes at any moment of a save, done or failed, the next load gives the record that lasted before, or the
-/// new one whole.
+/// Let the power go at any moment of a save, done or failed. The next load that is done gives the record that lasted
+/// before, or the new one whole.
 pub fn a_save_that_is_cut_leaves_one_record_whole()
     ensures { (path bytes : List ℕ) (old new later last : DiskState) (moment : Disk) (lasted read : Option (List ℕ))
         (answer : Result (Unit {0}) StoreFault) (again : Result (Option (List ℕ)) StoreFault) → old.is_honest ≡ true →
@@ -40,8 +41,9 @@ pub fn no_save_is_bad()
         DiskSaves path bytes old answer new → IsBadSave path bytes old answer new → ⊥ }
 {}
 
-/// After a load that is done, a loss of power leaves the landed record, and after a save that is done its bytes. After one
-/// that failed it leaves no record but these and those before. This binds each honest store.
+/// After a load that is done, a loss of power leaves the landed record. After a load that failed, it leaves what it
+/// might have left before. After a save that is done, it leaves the saved bytes. After a save that failed, it leaves
+/// these or what it might have left before. This binds each honest store.
 #[tactic(auto, using(crate::proofs::Moments::none_loses_loaded, crate::proofs::Moments::none_loses_saved))]
 pub fn no_store_loses_its_record<S: Store>(before: &S, after: &S)
     ensures loads { (answer : Result (Option (List ℕ)) StoreFault) →

@@ -59,7 +59,7 @@ impl MemoryStore {
         plan
     }
 
-    /// Fails this call, and counts the failure.
+    /// Counts a failure, spends the plan, and returns `Failed`.
     fn fail(&mut self) -> StoreFault
         ensures fault { result ≡ Failed }
         ensures counted { self.new ≡ failed self.old }

@@ -3,7 +3,7 @@ use Rattle.std.proofs.Common.{◌≡◌, rules, refl}
 use Rattle.ill_store.proofs.DiskSaves.{done_save_at, failed_save_at, no_call_saves}
 use Rattle.ill_store.proofs.disk_store.DiskStoreStore.save.Goals as goal
 
--- The save of the disk is done, and so is that of the store.
+-- The save on the disk is done, and so is the save of the store.
 pub returns-in-Ok-clause-lasts : goal.returns-in-Ok-clause-lasts
 returns-in-Ok-clause-lasts g c =
     let path : c.deref.result.now ≡ c.args.self.now.path = search rules in

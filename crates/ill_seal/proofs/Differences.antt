@@ -10,7 +10,7 @@ use Rattle.std.proofs.lemmas.Slice.Eq.{bytes_eq-Decides}
 use Rattle.ill_seal.specs.Letter.{difference}
 use lib.Bits.{xor_assoc}
 
--- If no bit is in two numbers together, both are 0.
+-- If the bitwise or of two numbers is 0, both are 0.
 or_is_zero : (a b : ℕ) → bit_or a b ≡ 0 → (a ≡ 0) × (b ≡ 0)
 or_is_zero a b e =
     let left = le_or_l a b in
@@ -23,7 +23,8 @@ xor_is_zero a b e =
     sym (xor_zero_r a) ∙ ap (λ (x : ℕ). bit_xor a x) (sym (xor_self b)) ∙ sym (xor_assoc a b b)
     ∙ ap (λ (x : ℕ). bit_xor x b) e ∙ xor_zero_l b
 
--- If lists of one length differ in no bit, they are equal, and there were no bits before.
+-- Let two lists of one length have the `difference` 0, together with the bits `so_far`. Then `so_far` is 0, and the
+-- lists are equal.
 none_differs : (so_far : ℕ) (xs ys : List ℕ) → length xs ≡ length ys → difference so_far xs ys ≡ 0 → (so_far ≡ 0) × (xs ≡ ys)
 unfolding difference
 none_differs so_far [] [] size e = (e, refl)
@@ -34,7 +35,7 @@ none_differs so_far (x ∷ xs) (y ∷ ys) size e =
 none_differs so_far [] (y ∷ ys) size e = absurd (omega (arith, size))
 none_differs so_far (x ∷ xs) [] size e = absurd (omega (arith, size))
 
--- A list differs from itself in no bit.
+-- A list differs from itself in no bit, so only the bits `so_far` are left.
 itself_differs : (so_far : ℕ) (xs : List ℕ) → difference so_far xs xs ≡ so_far
 unfolding difference
 itself_differs so_far [] = refl
@@ -42,7 +43,8 @@ itself_differs so_far (x ∷ xs) =
     ap (λ (bits : ℕ). difference bits xs xs) (ap (λ (bits : ℕ). bit_or so_far bits) (xor_self x) ∙ or_zero_r so_far)
     ∙ itself_differs so_far xs
 
--- If two lists have one length, the test for no difference is the test for equal bytes.
+-- If two lists have one length, the test for no difference gives what the test for equal bytes gives.
+-- By `here` equal lists pass the first test.
 pub differs_is_eq : (xs ys : List ℕ) → length xs ≡ length ys → (difference 0 xs ys == 0) ≡ bytes_eq xs ys
 differs_is_eq xs ys size =
     elim (cases_Bool (difference 0 xs ys == 0)) [

@@ -79,7 +79,7 @@ spaces_left_out place (digit ∷ rest) =
           ap (λ (b : Bool). digits_of (cond b (32 ∷ digit ∷ []) (digit ∷ []) ++ grouped (place + 1) rest)) inside ∙ more
     ]
 
--- The digits of two lists are those of the first and then those of the second.
+-- The digits of `xs ++ ys` are the digits of `xs` and then the digits of `ys`. `table` has the 16 digits.
 digits_append : (table xs ys : List ℕ) → encode_with table (xs ++ ys) ≡ encode_with table xs ++ encode_with table ys
 unfolding encode_with
 digits_append table [] ys = refl

@@ -82,8 +82,8 @@ split_five (a ∷ b ∷ c ∷ []) long = absurd (omega (arith, long))
 split_five (a ∷ b ∷ c ∷ d ∷ []) long = absurd (omega (arith, long))
 split_five (a ∷ b ∷ c ∷ d ∷ e ∷ rest) long = refl
 
--- Bytes that open are the sealed letter of the text that they give. They have passed each test of `opened`, so their
--- parts are known, and are joined.
+-- Bytes that open are the sealed letter of the text that they give. By `long`, `begun`, `named` and `closed` they have
+-- passed each test of `opened`. So their parts are known, and are joined.
 pub only : (key : List ℕ) (sender : Sender) (letter text : List ℕ) → opened key sender letter ≡ Ok text
     → letter ≡ sealed key sender text
 unfolding opened sealed
@@ -114,7 +114,7 @@ only key sender letter text e =
     let whole : letter ≡ body ++ hmac key body = sym halves ∙ ap (λ (x : List ℕ). body ++ x) seal in
     subst (λ (x : List ℕ). letter ≡ x ++ hmac key x) prefix whole
 
--- A letter of the responder does not open as one of the requester, and its fault is its sender.
+-- A letter of the responder does not open as a letter of the requester. The fault is Sender.
 pub not_of_requester : (key other text : List ℕ) → opened key Requester (sealed other Responder text) ≡ Err faults.Sender
 unfolding opened sealed
 not_of_requester key other text =
@@ -127,7 +127,7 @@ not_of_requester key other text =
     let long : ltb (length letter) 37 ≡ false = le-ltb (length letter) 37 (omega (arith, size, all, five)) in
     rw long refl
 
--- A letter of the requester does not open as one of the responder, and its fault is its sender.
+-- A letter of the requester does not open as a letter of the responder. The fault is Sender.
 pub not_of_responder : (key other text : List ℕ) → opened key Responder (sealed other Requester text) ≡ Err faults.Sender
 unfolding opened sealed
 not_of_responder key other text =
@@ -152,7 +152,8 @@ ends_alike xs ys x y size e =
       sym (drop_at xs x (length xs) refl) ∙ ap (drop (length xs)) e ∙ drop_at ys y (length xs) (sym fronts),
     )
 
--- The last 32 bytes of a letter that opens are the HMAC of all others.
+-- If a letter of `body` and the 32 bytes `seal` opens, `seal` is the HMAC of `body`. And `body` is all of the sealed
+-- letter of the text but its seal.
 pub seal_fits : (key : List ℕ) (sender : Sender) (body seal text : List ℕ) → length seal ≡ 32
     → opened key sender (body ++ seal) ≡ Ok text → (body ≡ unsealed sender text) × (seal ≡ hmac key body)
 unfolding sealed
@@ -162,14 +163,14 @@ seal_fits key sender body seal text size e =
     let both = ends_alike body (unsealed sender text) seal (hmac key (unsealed sender text)) (omega (arith, size, long)) is in
     (both.0, both.1 ∙ ap (hmac key) (sym both.0))
 
--- If bytes open before a change and after it, and the seal is the same, both have one HMAC.
+-- If `body` and `changed` both open with the same `seal`, they have one HMAC under the key.
 pub one_seal : (key : List ℕ) (sender : Sender) (body changed seal text other : List ℕ) → length seal ≡ 32
     → opened key sender (body ++ seal) ≡ Ok text → opened key sender (changed ++ seal) ≡ Ok other
     → hmac key body ≡ hmac key changed
 one_seal key sender body changed seal text other size before after =
     sym (seal_fits key sender body seal text size before).1 ∙ (seal_fits key sender changed seal other size after).1
 
--- If a letter that `by` has sealed opens as one of `sender`, that sender has sealed the text.
+-- If a letter that `by` has sealed opens as a letter of `sender`, `sender` has sealed its text.
 is_of : (key : List ℕ) (texts : Sender → List (List ℕ)) (sender by : Sender) (text other : List ℕ)
     → opened key sender (sealed key by other) ≡ Ok text → Contains (texts by) other → Contains (texts sender) text
 is_of key texts Requester Requester text other e has =
@@ -179,13 +180,13 @@ is_of key texts Responder Responder text other e has =
 is_of key texts Requester Responder text other e has = absurd (no_text _ text (sym (not_of_requester key key other) ∙ e))
 is_of key texts Responder Requester text other e has = absurd (no_text _ text (sym (not_of_responder key key other) ∙ e))
 
--- A sealed letter is all before its seal, and the seal.
+-- A sealed letter is `unsealed` of its text, followed by the HMAC of these bytes.
 sealed_is : (key : List ℕ) (sender : Sender) (bytes text : List ℕ) → bytes ≡ sealed key sender text
     → bytes ≡ unsealed sender text ++ hmac key (unsealed sender text)
 unfolding sealed
 sealed_is key sender bytes text is = is
 
--- If nobody else seals, each text that opens was sealed by its sender.
+-- If nobody else seals, and bytes that came open as a letter of `sender`, `sender` has sealed their text.
 pub forged_by_nobody : (key : List ℕ) (texts : Sender → List (List ℕ)) (came : List (List ℕ)) (sender : Sender)
     (bytes text : List ℕ) → NobodyElseSeals key texts came → Contains came bytes → opened key sender bytes ≡ Ok text
     → Contains (texts sender) text

@@ -11,11 +11,11 @@ filled bytes = bytes ++ replicate (64 - length bytes) 0
 abbrev pub masked : ℕ → List ℕ → List ℕ
 masked mask bytes = map (λ byte. bit_xor byte mask) bytes
 
--- Returns the block, made from `key`, that comes before the text.
+-- Returns the masked block of `key` that stands before the text.
 abbrev pub inner : List ℕ → List ℕ
 inner key = masked 0x36 (filled key)
 
--- Returns the block of a key that stands before the inner digest.
+-- Returns the masked block of `key` that stands before the inner digest.
 abbrev pub outer : List ℕ → List ℕ
 outer key = masked 0x5C (filled key)
 
@@ -23,6 +23,6 @@ outer key = masked 0x5C (filled key)
 abbrev pub short_hmac : List ℕ → List ℕ → List ℕ
 short_hmac key text = sha256 (outer key ++ sha256 (inner key ++ text))
 
--- Returns the HMAC-SHA256 of a text under a key. One of more than 64 bytes counts by its digest.
+-- Returns the HMAC-SHA256 of a text under a key. A key of more than 64 bytes counts by its digest.
 unfoldable pub hmac : List ℕ → List ℕ → List ℕ
 hmac key text = short_hmac (if nat_lt 64 (length key) then sha256 key else key) text

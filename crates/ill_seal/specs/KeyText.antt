@@ -12,7 +12,7 @@ use Rattle.ill_seal.specs.declared.fault.KeyFault.TheVariants as faults
 abbrev pub check_of : List ℕ → List ℕ
 check_of key = take 2 (sha256 key)
 
--- Returns true if a group of four begins at `place`, but for the first one.
+-- Returns true if a group of four, but not the first one, begins at `place`.
 abbrev pub begins_group : ℕ → Bool
 begins_group place = (place % 4 == 0) && not (place == 0)
 
@@ -30,22 +30,23 @@ key_text key = grouped 0 (encode_lower (key ++ check_of key))
 abbrev pub is_white : ℕ → Bool
 is_white byte = (byte == 32) || (byte == 9) || (byte == 10) || (byte == 13)
 
--- Returns all bytes of a text that are not white.
+-- Returns all bytes of a text that are not white space.
 abbrev pub digits_of : List ℕ → List ℕ
 digits_of text = filter (λ byte. not (is_white byte)) text
 
--- Returns the key, if the bytes that were read check it.
+-- The parameters are the key and its check, as decoded from their digits. Returns the key if the check fits it.
+-- If one of them has a fault, the fault is Digits. If the check does not fit, it is Check.
 abbrev pub checked : Result (List ℕ) FromHexError → Result (List ℕ) FromHexError → Result (List ℕ) KeyFault
 checked (Ok key) (Ok check) = if bytes_eq check (check_of key) then Ok key else Err faults.Check
 checked (Ok key) (Err fault) = Err faults.Digits
 checked (Err fault) check = Err faults.Digits
 
--- Returns the key that 68 digits are, or the first fault.
+-- Returns the key that 68 digits give, or the first fault. They are 64 digits of the key and 4 of its check.
 abbrev pub key_of : List ℕ → Result (List ℕ) KeyFault
 key_of digits =
     if length digits == 68 then checked (decode_sized (take 64 digits) 32) (decode_sized (drop 64 digits) 2)
     else Err faults.Digits
 
--- Returns the key whose text is read, or the first fault. Small and large letters are digits alike.
+-- Returns the key that a text gives, or the first fault. Small and large letters are digits alike.
 abbrev pub key_in : List ℕ → Result (List ℕ) KeyFault
 key_in text = key_of (digits_of text)

@@ -23,7 +23,7 @@ pub enum SealFault {
     Seal,
 }
 
-/// The first fault of a text that is no key.
+/// The reason why a text gave no key: the first fault of the text, or that memory ran out.
 #[derive(Clone, Copy, Debug, PartialEq, Eq, Error)]
 pub enum KeyFault {
     /// The text has anything but 68 hexadecimal digits, besides white space.

@@ -12,10 +12,10 @@ use std::fmt;
 use std::fmt::{Debug, Formatter, Write};
 use std::marker::Model;
 
-/// The digits of a key, and those of its check.
+/// The number of digits of a key and of its check, together.
 const DIGITS: usize = 68;
 
-/// The digits of a key alone.
+/// The number of digits of a key alone.
 const KEY_DIGITS: usize = 64;
 
 /// A key of 32 bytes, which two libraries hold and nobody else. `Debug` writes one text of all keys.
@@ -67,8 +67,8 @@ impl Key {
         grouped(alloc, digits.as_bytes())
     }
 
-    /// Reads a key from its text, or returns the first fault. White space may stand anywhere, and letters may be large.
-    /// A slip in the text is found but for one in 65,536.
+    /// Reads a key from its text, or returns the first fault or `OutOfMemory`. White space may stand anywhere, and
+    /// letters may be large. Of 65,536 slips in the digits about one is not found.
     pub fn parse(alloc: Global, text: &[u8]) -> Result<Key, KeyFault>
         ensures key { IfOk result (λ key. key_in text.now ≡ Ok key) }
         ensures fault { IfErr result (λ fault. (fault ≡ OutOfMemory) ⊎ (key_in text.now ≡ Err fault)) }
@@ -78,7 +78,7 @@ impl Key {
     }
 }
 
-/// Returns the bytes of `text` that are not white.
+/// Returns the bytes of `text` that are not white space.
 fn digits_of(alloc: Global, text: &[u8]) -> Result<Vec<u8>, AllocError>
     ensures { IfOk result (λ digits. digits.items ≡ digits_of text.now) }
 {
@@ -98,7 +98,7 @@ fn is_white(byte: u8) -> bool
     byte == b' ' || byte == b'\t' || byte == b'\n' || byte == b'\r'
 }
 
-/// Returns the key that `digits` are.
+/// Returns the key that `digits` give, or the first fault. They must be 64 digits of the key and 4 of its check.
 fn key_of(digits: &[u8]) -> Result<Key, KeyFault>
     ensures key { IfOk result (λ key. key_of digits.now ≡ Ok key) }
     ensures fault { IfErr result (λ fault. key_of digits.now ≡ Err fault) }
@@ -120,7 +120,7 @@ fn key_of(digits: &[u8]) -> Result<Key, KeyFault>
     }
 }
 
-/// Returns the two bytes that check a key.
+/// Returns the two bytes that check a key: the first two of its SHA-256.
 fn check_of(bytes: &[u8; 32]) -> [u8; 2]
     ensures { result ≡ check_of bytes.now }
 {
@@ -143,7 +143,7 @@ fn grouped(alloc: Global, digits: &[u8]) -> Result<Vec<u8>, AllocError>
     Ok(text)
 }
 
-/// Returns true if a group begins at `place`, but for the first one.
+/// Returns true if a group of four, but not the first one, begins at `place`.
 fn begins_group(place: usize) -> bool
     ensures { result ≡ begins_group place }
 {

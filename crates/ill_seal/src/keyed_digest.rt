@@ -6,7 +6,7 @@ ghost use Rattle.ill_seal.specs.Hmac.{hmac, short_hmac, filled, masked};
 
 use sha2::{Digest, Sha256};
 
-/// A key fills one block of SHA-256.
+/// The number of bytes of a block of SHA-256. A key, with zeros after it, fills one block.
 const BLOCK: usize = 64;
 
 /// The mask of the block that stands before the text.
@@ -47,7 +47,8 @@ fn digest_of(first: &[u8], second: &[u8]) -> [u8; 32]
     hasher.finalize()
 }
 
-/// Returns the block of `key`: zeros follow it, and each byte is combined with `mask` by exclusive or.
+/// Returns the masked block of `key`, which has at most 64 bytes. Zeros follow the key up to 64 bytes, and each byte is
+/// combined with `mask` by exclusive or.
 fn masked(mask: u8, key: &[u8]) -> [u8; 64]
     requires { length key.now ≤ 64 }
     ensures { result ≡ masked mask (filled key.now) }

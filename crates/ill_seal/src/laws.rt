@@ -20,7 +20,8 @@ pub fn what_opens_was_sealed()
     ensures size { (key text : List ℕ) (sender : Sender) → length (sealed key sender text) ≡ length text + 37 }
 {}
 
-/// No key opens a letter that is turned round. So no library takes its own letter for one of its partner.
+/// No key opens a letter that one role has sealed as a letter of the other role: the fault is `Sender`. So no library
+/// takes its own letter for one of its partner.
 #[tactic(auto, using(crate::proofs::Letters::not_of_requester, crate::proofs::Letters::not_of_responder))]
 pub fn no_letter_is_turned_round()
     ensures responders { (key other text : List ℕ) →
@@ -29,8 +30,8 @@ pub fn no_letter_is_turned_round()
         opened key Responder (sealed other Requester text) ≡ Err faults.Sender }
 {}
 
-/// Bytes open only if their last 32 are the HMAC of all others. So if they open after a change before their seal too,
-/// two texts have one HMAC under the key.
+/// Bytes open only if their last 32, the seal, are the HMAC of all others. If the others are changed and still open
+/// with this seal, the change has kept their HMAC under the key.
 #[tactic(auto, using(crate::proofs::Letters::seal_fits, crate::proofs::Letters::one_seal))]
 pub fn a_change_needs_a_seal()
     ensures fits { (key body seal text : List ℕ) (sender : Sender) → length seal ≡ 32 →
@@ -49,7 +50,7 @@ pub fn nobody_forges_a_letter()
         Contains (texts sender) text }
 {}
 
-/// A key is read from its text.
+/// Each key of 32 bytes is read from its text.
 #[tactic(auto, using(crate::proofs::KeyTexts::key_read_again))]
 pub fn a_key_is_read_from_its_text()
     ensures { (key : List ℕ) → length key ≡ 32 → IsBytes key → key_in (key_text key) ≡ Ok key }

@@ -13,10 +13,10 @@ use std::alloc::{AllocError, Global};
 /// Each sealed letter begins with these octets.
 const MARK: &[u8; 4] = b"ILLS";
 
-/// A text begins after the mark and the sender.
+/// The offset of the text, which begins after the mark and the octet of the sender.
 const TEXT: usize = 5;
 
-/// The size of a seal.
+/// The number of bytes of a seal.
 const SEAL: usize = 32;
 
 /// Returns the letter in which `sender` has sealed `text` with `key`. The text may be any bytes.
@@ -33,7 +33,7 @@ pub fn seal(alloc: Global, key: &Key, sender: Sender, text: &[u8]) -> Result<Vec
     Ok(letter)
 }
 
-/// Returns the text of `letter`, if `sender` has sealed it with `key`. Allocates nothing.
+/// Returns the text of `letter`, if `sender` has sealed it with `key`, and else the first fault. Allocates nothing.
 #[tactic(auto, unfolding(crate::specs::Letter::opened))]
 pub fn unseal<'a>(key: &Key, sender: Sender, letter: &'a [u8]) -> Result<&'a [u8], SealFault>
     ensures text { IfOk result (λ text. opened key.now sender letter.now ≡ Ok text.now) }

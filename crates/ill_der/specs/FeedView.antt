@@ -34,8 +34,8 @@ pub record Fills (old new : List ℕ) (size : ℕ) (piece : List ℕ) (filled : 
   pub count : filled ≡ min 359 (size + length piece)
   pub parts : take filled new ≡ take size old ++ take (filled - size) piece
 
--- The first APDU of `bytes` was handled and has `size` bytes, or it was handled and failed with `fault`. Or `bytes`
--- begins with no APDU and has `fault`. This led from the state `before` to the state `after`.
+-- The first APDU of `bytes` was handled and has `size` bytes, or handling it failed with `fault`. Or `bytes` begins
+-- with no APDU and has `fault`. This led from the state `before` to the state `after`.
 abbrev pub HandlesFirst : {S F : Type 0} → Handles S F → List ℕ → S → Result (Result ℕ DerFault) F → S → Type 0
 HandlesFirst handles bytes before (Ok (Ok size)) after =
     (0 < size) × (size ≤ length bytes)

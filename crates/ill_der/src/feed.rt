@@ -84,7 +84,8 @@ impl Feed {
     }
 
     /// Pushes `piece`. Hands each APDU that it completes before the first fault to `handler`, one after
-    /// another, and returns that fault. Allocates nothing itself. Views an APDU that lies wholly in `piece` there.
+    /// another, and returns that fault. Allocates nothing itself. An APDU that lies wholly in `piece` is viewed without
+    /// a copy.
     ///
     /// After a fault, hands on no APDU and returns that fault. If handling fails, the feed is unchanged. A
     /// second push of `piece` would then hand on its first APDUs again.

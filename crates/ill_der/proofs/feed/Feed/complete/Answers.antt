@@ -22,7 +22,7 @@ returns-then-self-eq0 g c =
     opened none
     c.hand_on.ensures
 
--- The first APDU contains all held bytes, so `end` is at least `size`.
+-- By `there` the first APDU contains all held bytes, so `end` is at least `size`.
 pub overflow_sub-after : goal.overflow_sub-after
 overflow_sub-after g c =
     let handles = g.H.Handler.handles in

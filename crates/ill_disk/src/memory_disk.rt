@@ -15,6 +15,7 @@ use std::marker::Model;
 #[derive(Drop)]
 struct MemoryFile {
     bytes: Vec<u8>,
+    /// If true, each crash leaves the bytes.
     is_flushed: bool,
 }
 
@@ -28,6 +29,7 @@ impl Model for MemoryFile {
 #[derive(Drop)]
 struct MemoryName {
     path: Vec<u8>,
+    /// The place of the file in the list of all files.
     file: usize,
 }
 

@@ -40,12 +40,13 @@ filed_with txn (e ∷ entries) keyed =
     ap (λ id. cond (is_same_txn txn id) (Some e.1) (lookup (is_same_txn txn) entries)) first
     ∙ ap (λ found. cond (is_same_txn txn (txn_of e.1)) (Some e.1) found) (filed_with txn entries others)
 
--- If a search finds nothing, the first side fails the test, and nothing is found among the others.
+-- If a search finds nothing, the first side fails the test (`is`), and nothing is found among the others (`found`).
 not_first : (is : Bool) (side : Side) (found : Option Side) → cond is (Some side) found ≡ None → (is ≡ false) × (found ≡ None)
 not_first true side found none = absurd (true≢false (ap is_some none))
 not_first false side found none = (refl, none)
 
--- If `new` is empty whenever `old` is empty, a search that finds nothing with `old` finds nothing with `new`.
+-- If `new` is empty whenever `old` is empty, a search that finds nothing with `old` finds nothing with `new`. The
+-- search tests `side` first (`is`), and goes on to `old` or `new`.
 none_after : (is : Bool) (side : Side) (old new : Option Side) → is_none (cond is (Some side) old) ≡ true
     → (is_none old ≡ true → is_none new ≡ true)
     → is_none (cond is (Some side) new) ≡ true
@@ -147,7 +148,8 @@ module _ (role : Role) (entries : List (Qualifiers × Side)) (side : Side)
   pub is_new : (key : Qualifiers) → key ≡ txn_of side → lookup (is_same_txn key) entries ≡ None
   is_new key same = ap (λ t. lookup (is_same_txn t) entries) same ∙ filed_with (txn_of side) entries filed.keys ∙ new_there
 
-  -- If an entry of `side` with its transaction is appended, the entries are filed.
+  -- If an entry of `side` with its transaction is appended, the entries are filed. `held` says that the old sides may
+  -- be held together. `stands` says that `side` is of the role and not idle, and `all` that each side is.
   put_there : (new : List (Qualifiers × Side)) → new ≡ entries ++ (txn_of side, side) ∷ []
       → AreFiled (keys_of new) (record { role = role; sides = values_of new })
   put_there new put =
@@ -177,7 +179,7 @@ module _ (role : Role) (entries : List (Qualifiers × Side)) (side : Side)
       → AreFiled (keys_of new) (record { role = role; sides = values_of new })
   filed_still new same = subst (λ es. AreFiled (keys_of es) (record { role = role; sides = values_of es })) (sym same) filed
 
--- ---- a change of one filed side
+-- ---- the transactions of sides, and filed entries after one side changes
 
 -- The idle side of a side has the transaction of the side.
 pub idle_txn : (side : Side) → txn_of (idle_of side) ≡ txn_of side
@@ -294,7 +296,7 @@ module _ (role : Role) (entries : List (Qualifiers × Side))
             ∙ length-map (put_by txn_of after (values_of entries)) txn_of) filed.few;
       })
 
--- ---- a change of one side or of none
+-- ---- a call that changes one side by a transition, or no side
 
 -- An action leads to the new side by a transition, or the side is unchanged.
 pub acts_row : (old new : Side) (action : Action) (answer : Result (Unit {0}) Refusal) → Acts old action answer new

@@ -36,6 +36,7 @@ use Rattle.ill_record.proofs.Steps.{IsBytes-take, IsBytes-rest}
 
 -- The laws of the crates below on dates, qualifiers and APDUs.
 -- A valid date is read from its text, and an APDU from its encoding. A qualifier has 1 to 64 bytes.
+-- If a text is read as a date, it is the date's text. If an APDU is read, the bytes begin with its encoding.
 pub record Below : Type 0 where
   pub day_encoded : (d : Date) → IsDate d → read_date (date_text d) ≡ Ok d
   pub day_read : (text : List ℕ) (d : Date) → read_date text ≡ Ok d → IsDate d × (text ≡ date_text d)
@@ -78,7 +79,7 @@ pub record IsSized {V : Type 0} (P : V → Type 0) (n : ℕ) (contents : Content
   pub again : (v : V) → P v → (contents.read (contents.encode v) ≡ Some v) × (length (contents.encode v) ≡ n)
 
 -- If a field of `n` bytes reads a value, the bytes read are its encoding. The contents are the first `n` bytes, and
--- obey `IsSized`.
+-- obey `IsSized`. `part` is these bytes with the cursor after them, and `found` the value that they encode.
 sized_takes : {V : Type 0} (P : V → Type 0) (n : ℕ) (contents : Contents V) → IsSized P n contents
     → (left : Cursor) (v : V) (rest : Cursor) → IsBytes left.bytes → (sized n contents).read left ≡ Ok (v, rest)
     → Takes (sized n contents) P left.bytes v rest.bytes
@@ -155,7 +156,7 @@ pub count_is : IsField (λ n. n < 256) count
 count_is = octet_is (λ n. n < 256) (λ n. n) Some (λ n v small e. (same_Some n v e, subst (λ m. m < 256) (same_Some n v e) small))
     (λ v p. refl)
 
--- If an octet is read as an optional number, it is the octet of that optional number.
+-- If an octet is read as an optional number, it is the octet of that optional number. The number is in range.
 number_takes : (n : ℕ) (o : Option ℕ) → n < 256 → Some (cond (eqb n 0) None (Some n)) ≡ Some o
     → (n ≡ number_octet o) × IfSome o IsNumber
 number_takes n o small e = search rules
@@ -339,7 +340,8 @@ apdu_is below = record {
 abbrev pub IsRequest : Apdu → Type 0
 IsRequest a = IsApdu a × (is_ill_request a.body ≡ true)
 
--- If an ILL-Request is read, the bytes read are its encoding, and it is in range.
+-- If an ILL-Request is read, the bytes read are its encoding, and it is in range. `found` is the APDU that was read,
+-- and `is` says that it is an ILL-Request. By `taken` its encoding was read.
 request_takes : Below → (left : Cursor) (v : Apdu) (rest : Cursor) → IsBytes left.bytes
     → ill_request.read left ≡ Ok (v, rest) → Takes ill_request IsRequest left.bytes v rest.bytes
 request_takes below left v rest fits e =
@@ -367,10 +369,10 @@ pub marked_is : {V : Type 0} (P : V → Type 0) (f : Field V) → IsField P f �
 marked_is P f fs =
     field_of (λ o. IfSome o P) (marked f) (where_codec Any P Any mark f (codec_of Any mark mark_is) (codec_of P f fs) (λ b. tt))
 
--- ---- `n` values of a field
+-- ---- a list of values, alone and after its length
 
--- If `n` values are read, the bytes read are their encodings, and each value satisfies `P`. The value `first` is read,
--- and then the `others`.
+-- If `n` values are read, the bytes read are their encodings, each value satisfies `P`, and there are `n`. The value
+-- `first` is read, and then the `others`.
 all_takes : {V : Type 0} (P : V → Type 0) (f : Field V) → IsField P f
     → (n : ℕ) (left : Cursor) (vs : List V) (rest : Cursor) → IsBytes left.bytes → read_all f n left ≡ Ok (vs, rest)
     → (left.bytes ≡ encode_all f.encode vs ++ rest.bytes) × Each P vs × (length vs ≡ n)
@@ -410,7 +412,8 @@ all_again P f fs (v ∷ vs) at more p =
 abbrev pub CountedBy : {V : Type 0} → (ℕ → Type 0) → (V → Type 0) → List V → Type 0
 CountedBy Q P vs = Each P vs × Q (length vs)
 
--- If a list is read after its length, the bytes read are its encoding.
+-- If a list is read after its length, the bytes read are its encoding. `n` is the length that was read. `first` says
+-- that its encoding was read, and `others` that the encodings of the values were.
 counted_takes : {V : Type 0} (Q : ℕ → Type 0) (P : V → Type 0) (size : Field ℕ) (f : Field V) → IsField Q size
     → IsField P f → (left : Cursor) (vs : List V) (rest : Cursor) → IsBytes left.bytes
     → (counted_by size f).read left ≡ Ok (vs, rest) → Takes (counted_by size f) (CountedBy Q P) left.bytes vs rest.bytes

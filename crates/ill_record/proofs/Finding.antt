@@ -170,6 +170,7 @@ module _ {X : Type 0} (key : X → Qualifiers) where
   put_length new x items found = sym (length-map (put_by key new items) key) ∙ ap length (keys_put new x items found)
       ∙ length-map items key
 
+-- Below, `of_x` and `of_y` give the transaction of an item, and `f` keeps it (premise `keeps`).
 module _ {X Y : Type 0} (of_x : X → Qualifiers) (of_y : Y → Qualifiers) (f : X → Y) (keeps : (x : X) → of_y (f x) ≡ of_x x) where
   -- Mapping commutes with a search whose first item is `x`.
   mapped_first : (txn : Qualifiers) (x : X) (rest : Option X) (same : Bool)
@@ -177,15 +178,13 @@ module _ {X Y : Type 0} (of_x : X → Qualifiers) (of_y : Y → Qualifiers) (f :
   mapped_first txn x rest true = refl
   mapped_first txn x rest false = refl
 
-  -- If `f` keeps the transaction, a search among the mapped items gives the mapped result of the search.
+  -- A search among the mapped items gives the mapped result of the search.
   pub found_mapped : (txn : Qualifiers) (xs : List X) → found_by of_y txn (map f xs) ≡ option_map f (found_by of_x txn xs)
   found_mapped txn [] = refl
   found_mapped txn (x ∷ xs) =
       ap (λ t. cond (is_same_txn txn t) (Some (f x)) (found_by of_y txn (map f xs))) (keeps x)
       ∙ ap (λ o. cond (is_same_txn txn (of_x x)) (Some (f x)) o) (found_mapped txn xs)
       ∙ mapped_first txn x (found_by of_x txn xs) (is_same_txn txn (of_x x))
-
-  -- Below, `f` keeps the transaction of an item (premise `keeps`).
 
   -- If `put_mapped` holds for the other items, it holds with `x` before them.
   put_first : (new x : X) (xs : List X) (same : Bool) → map f (put_by of_x new xs) ≡ put_by of_y (f new) (map f xs)
@@ -194,7 +193,7 @@ module _ {X Y : Type 0} (of_x : X → Qualifiers) (of_y : Y → Qualifiers) (f :
   put_first new x xs true further = refl
   put_first new x xs false further = ap (λ ys. f x ∷ ys) further
 
-  -- If `f` keeps the transaction, mapping after putting `new` is putting the mapped `new` among the mapped items.
+  -- Mapping after putting `new` is putting the mapped `new` among the mapped items.
   pub put_mapped : (new : X) (xs : List X) → map f (put_by of_x new xs) ≡ put_by of_y (f new) (map f xs)
   unfolding put_by
   put_mapped new [] = refl

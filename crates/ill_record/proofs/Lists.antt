@@ -60,7 +60,8 @@ all_read : {V : Type 0} (field : Field V) (values : List V) (left : Cursor)
     → after values (read_all field 0 left) ≡ Ok (values, left)
 all_read field values left = ap (after values) (read_none field left) ∙ ap (λ vs. Ok (vs, left)) (append-nil values)
 
--- A loop that reads `count` values: reading those from index `counter` on, with `values` before them, gives `whole`.
+-- Below, a loop reads `count` values. After `counter` turns it has read `values`, and `left` is its cursor. Reading the
+-- values that are left, with `values` before them, gives `whole` (premise `reads`).
 module _ {V : Type 0} (field : Field V) (values : List V) (count counter : ℕ) (left : Cursor)
     (whole : Result (List V × Cursor) LayoutFault)
     (reads : after values (read_all field (count - counter) left) ≡ whole) where

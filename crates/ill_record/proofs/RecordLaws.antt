@@ -88,7 +88,7 @@ due_again below (Some d) p =
 due_is : Below → IsField (λ o. IfSome o IsDate) due
 due_is below = sized_is (λ o. IfSome o IsDate) 8 _ (record { takes = due_takes below; again = due_again below })
 
--- ---- whole records
+-- ---- the fields of a record, and whole records
 
 -- The state is among `states`, and both texts are qualifiers.
 abbrev HeadingParts : List State → State × (List ℕ × List ℕ) → Type 0
@@ -165,8 +165,9 @@ request_is txn (Some a) of p = (p, (and_parts (is_same_txn a.txn txn) (is_ill_re
 abbrev ReadsSide : Role → Cursor → Side → Cursor → Type 0
 ReadsSide r left side rest = (role_of side ≡ r) × (left.bytes ≡ encode_fields side ++ rest.bytes) × IsInRange side
 
--- If the fields of a requester are read, they are the encoding of its side, which is in range. `from_held` to
--- `from_issued` say that the fields from these on are in range.
+-- If the fields of a requester are read, they are the encoding of its side, which is in range. `fields` is the
+-- reading of the fields, and `is` what `IsField` says of it. `heading` and `txn` say that these are in range.
+-- `from_held` to `from_issued` say that the fields from these on are in range.
 requester_takes : Below → (left : Cursor) (side : Side) (rest : Cursor) → IsBytes left.bytes
     → read_requester left ≡ Ok (side, rest) → ReadsSide roles.Requester left side rest
 requester_takes below left side rest fits e =
@@ -194,8 +195,9 @@ requester_takes below left side rest fits e =
       },
     )
 
--- If the fields of a responder are read, they are the encoding of its side, which is in range. `from_accepted` to
--- `from_issued` say that the fields from these on are in range.
+-- If the fields of a responder are read, they are the encoding of its side, which is in range. `fields` is the
+-- reading of the fields, and `is` what `IsField` says of it. `heading` and `txn` say that these are in range.
+-- `from_accepted` to `from_issued` say that the fields from these on are in range.
 responder_takes : Below → (left : Cursor) (side : Side) (rest : Cursor) → IsBytes left.bytes
     → read_responder left ≡ Ok (side, rest) → ReadsSide roles.Responder left side rest
 responder_takes below left side rest fits e =
@@ -238,8 +240,9 @@ ends : (left : Cursor) (x : Unit {0}) → ended left ≡ Ok x → left.bytes ≡
 ends left x e = nil_from_length left.bytes
     (eqb-true (length left.bytes) 0 (passed (eqb (length left.bytes) 0) (Ok tt) (Bad left.at) x e).0)
 
--- If all of the bytes are read as a side, they are its encoding, and it is in range. The start is read first, then the
--- fields of its role, and no byte is left.
+-- If all of the bytes are read as a side, they are its encoding, and it is in range. First the start is read
+-- (`begun`), then the fields of its role (`found`), and then no byte is left (`last`). `first` and `fields` say that
+-- the bytes read are encodings.
 pub side_takes : Below → (bytes : List ℕ) (side : Side) → IsBytes bytes → side_encoded bytes ≡ Ok side
     → (bytes ≡ record_encoding side) × IsInRange side
 unfolding side_encoded record_encoding
@@ -271,7 +274,8 @@ responder_state_is : (state : State) → is_among (Pending ∷ Received ∷ NotR
 responder_state_is Idle role = refl
 responder_state_is state role = search rules
 
--- A consistent side in range is read from the encoding of its fields, whatever bytes `more` follow.
+-- A consistent side in range is read from the encoding of its fields, whatever bytes `more` follow. `range` says that
+-- the side is in range, and `read` that the fields are read again.
 fields_again : Below → (side : Side) (at : ℕ) (more : List ℕ) → IsSide side
     → (after : ℕ) × (read_fields (role_of side) (cursor_at at (encode_fields side ++ more)) ≡ Ok (side, cursor_at after more))
 fields_again below (sides.Requester x) at more is =

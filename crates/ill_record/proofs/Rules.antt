@@ -23,6 +23,8 @@ unfolding requester.is_consistent
 requester_state x is = not-true _ (and_parts _ _ (and_parts _ _ (and_parts _ _ is).1).0).0
 
 -- The first APDU of a consistent requester, if it has issued one, is an ILL-Request, and no other is.
+-- `landed_record` is the test of the issued APDUs, and `begins` its last part. `fits`, `types` and `request` split the
+-- rules of a consistent record, one after another.
 pub requester_request : (x : RequesterRecord) → IsRequester x → begins_with_request x.issued ≡ true
 unfolding requester.is_consistent
 requester_request x is =
@@ -43,7 +45,8 @@ responder_parts y =
 abbrev responder_issued : ResponderRecord → Bool
 responder_issued y = responder.issued_keeps_rules y.state y.accepted y.issued
 
--- If a responder is consistent, its request, its parts and its issued APDUs keep their rules.
+-- If a responder is consistent, its request, its parts and its issued APDUs keep their rules. `rest`, `asked` and
+-- `both` split the rules of a consistent record, one after another.
 each_part : (y : ResponderRecord) → IsResponder y
     → (is_request_of y.txn y.request ≡ true) × (responder_parts y ≡ true) × (responder_issued y ≡ true)
 unfolding responder.is_consistent

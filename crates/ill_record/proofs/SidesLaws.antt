@@ -1,5 +1,5 @@
 -- The laws of records of many sides. Bytes that are read as sides are their encoding.
--- Sides are read from their encoding.
+-- Sides are read from their encoding. Sides may be saved if they satisfy `AreSides`.
 use Rattle.std.proofs.Common.{◌≡◌, ℕ, ◌-◌, ◌<◌, ◌≤◌, ltb, leb, Bool, true, false, cond, not, List, [], ◌∷◌, ◌++◌, length, take}
 use Rattle.std.proofs.Common.{drop, Some, None, Result, Ok, Err, refl, sym, ap, subst, ◌∙◌, append_assoc, append-nil}
 use Rattle.std.proofs.Common.{length-append, arith}
@@ -107,7 +107,7 @@ good_at at (Ok found) x e = ap Ok (ok_is found x e)
 good_at at (Err fault) x e = absurd cc
 
 -- If a part is read, the bytes read are its encoding, and its side is consistent and in range. First `size` is read,
--- and then a record of this length.
+-- and then a record of this length. `first` and `second` say that the bytes read are encodings of these two.
 part_takes : OneRecord → (left : Cursor) (side : Side) (rest : Cursor) → IsBytes left.bytes
     → part.read left ≡ Ok (side, rest) → Takes part IsSide left.bytes side rest.bytes
 part_takes one left side rest fits e =
@@ -136,7 +136,7 @@ part_again one side at more is =
 part_is : OneRecord → IsField IsSide part
 part_is one = record { takes = part_takes one; again = part_again one }
 
--- ---- all sides
+-- ---- sides are read from their encoding
 
 -- Each side is consistent and in range, and there are at most 1,000 sides.
 abbrev ManySides : List Side → Type 0
@@ -199,7 +199,7 @@ unfolding records_at
 read_again one held are =
     rw (second held, unsealed_again held) (sides_again one held are)
 
--- ---- reading
+-- ---- bytes that are read as sides are their encoding
 
 -- If the check gives the sides `held`, its test is true, and `held` are the sides `found`.
 together_is : (keeps : Bool) (found held : SidesOf) → cond keeps (Ok found) (Err faults.Inconsistent) ≡ Ok held
@@ -220,7 +220,9 @@ judged_is (Err fault) held e = absurd cc
 ends : (left : Cursor) (x : Unit {0}) → ended left ≡ Ok x → left.bytes ≡ []
 ends left x e = nil_from_length left.bytes (eqb-true (length left.bytes) 0 (passed _ (Ok tt) (Bad left.at) x e).0)
 
--- If octets are read as sides, they are their encoding, and the sides may be saved.
+-- If octets are read as sides, they are their encoding, and the sides may be saved. By `judged` the sides were read
+-- and may be held together. `found` is this reading, after which no byte is left (`last`). By `is` the octets are
+-- encodings.
 sides_take : OneRecord → (octets : List ℕ) (held : SidesOf) → IsBytes octets → sides_at octets ≡ Ok held
     → (octets ≡ octets_of held) × AreSides held
 sides_take one octets held fits e =
@@ -270,7 +272,8 @@ unsealed_is bytes octets fits e =
     not_not true e = refl
     not_not false e = absurd cc
 
--- If bytes not of version 1 are read as sides, they are their encoding, and the sides may be saved.
+-- If bytes not of version 1 are read as sides, they are their encoding, and the sides may be saved. `octets` are the
+-- bytes between the version and the digest. `sealed` says this, and `is` that they are the encoding of the sides.
 pub encoded : OneRecord → (bytes : List ℕ) (held : SidesOf) → IsBytes bytes → is_version_1 bytes ≡ false
     → records_at bytes ≡ Ok held → (bytes ≡ sides_encoding held) × AreSides held
 unfolding records_at sides_encoding

@@ -93,7 +93,7 @@ none_requested (a ∷ apdus) role =
     let parts = and_parts (not (is_requesters a.body)) (list_all (λ a. not (is_requesters a.body)) apdus) role in
     rw (not_own a.body parts.0) (none_requested apdus parts.1)
 
--- ---- records
+-- ---- the record of one side, and its fields
 
 -- If both qualifiers have at most 64 bytes, the field of a state and the two has at most 131 bytes.
 prefix_bound : (states : List State) (state : State) (group transaction : List ℕ) → length group ≤ 64

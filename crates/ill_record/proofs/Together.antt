@@ -28,9 +28,9 @@ use Rattle.ill_der.proofs.Chains.{bind_ok}
 use Rattle.ill_record.proofs.Records.{judged_ok}
 use Rattle.ill_record.proofs.Finding.{apart_back}
 
--- ---- holding together
+-- ---- sides that one desk may hold together
 
--- If a search finds nothing, the first side fails the test, and nothing is found among the others.
+-- If a search finds nothing, the first side `x` fails the test (`is`). Nothing is found among the others (`found`).
 first_apart : (is : Bool) (found : Option Side) (x : Side) → is_none (cond is (Some x) found) ≡ true
     → (is ≡ false) × (is_none found ≡ true)
 first_apart true found x none = absurd (true≢false (sym none))
@@ -59,14 +59,16 @@ not_before (x ∷ prefix) side rest apart =
 less : (a b : ℕ) → a < b → nat_lt a b ≡ true
 less a b is = search rules
 
--- If there is room, a side is not refused if it is of the role and not idle, and its transaction is not held.
+-- If there is room, a side of the role, not idle and of a new transaction is not refused. `same` is true if the roles
+-- are equal, and `twice` if the transaction is held.
 none_refused : (same idle twice room : Bool) → same ≡ true → idle ≡ false → twice ≡ false → room ≡ true
     → (if not same then Some refusals.OtherRole else
     (if idle then Some refusals.Idle else
     (if twice then Some refusals.Twice else (if room then None else Some refusals.Full)))) ≡ None
 none_refused same idle twice room is_same no_idle once free = rw (is_same, no_idle, once, free) refl
 
--- If at most 1,000 sides may be held together, each may be put after the sides before it.
+-- If at most 1,000 sides may be held together, each may be put after the sides before it. `parts` says that each side
+-- is of the role and not idle, and that their transactions differ. `stands` and `one` say this of `side`.
 stands_last : (role : Role) (prefix : List Side) (side : Side) (rest : List Side) → length (prefix ++ side ∷ rest) ≤ most_sides
     → may_be_held (record { role = role; sides = prefix ++ side ∷ rest }) ≡ true
     → put_refusal (record { role = role; sides = prefix }) side ≡ None
@@ -111,7 +113,8 @@ ok_begins : {V W : Type 0} (r : Result V LayoutFault) (f : V → Result W Layout
 ok_begins (Ok v) f w e = refl
 ok_begins (Err fault) f w e = absurd cc
 
--- If a side of role `r` is read, the bytes begin with a state of `r` and two qualifiers.
+-- If a side of role `r` is read, the bytes begin with a state of `r` and two qualifiers. `found` is the reading of the
+-- side, and `fields` that of its fields.
 fields_begin : (r : Role) (left : Cursor) (side : Side) → side_at r left ≡ Ok side → has_prefix r left ≡ true
 fields_begin roles.Requester left side e =
     let found = bind_ok (read_fields roles.Requester left) _ side e in
@@ -122,7 +125,8 @@ fields_begin roles.Responder left side e =
     let fields = bind_ok (responder_fields.read left) _ found.value found.given in
     ok_begins ((heading responder_states).read left) _ fields.value fields.given
 
--- If bytes are read as a side, they begin as a record.
+-- If bytes are read as a side, they begin as a record. `read` says that the side was read, and `begun` is the reading
+-- of the version and the role.
 read_begins : (bytes : List ℕ) (side : Side) → record_at bytes ≡ Ok side → begins_as_record bytes ≡ true
 unfolding record_at side_encoded begins_as_record
 read_begins bytes side e =

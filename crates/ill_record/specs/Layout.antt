@@ -14,7 +14,7 @@ use Rattle.ill_record.specs.declared.fault.LayoutFault.TheVariants.{Short, Bad}
 use Rattle.ill_record.specs.declared.fault.RecordFault.{RecordFault}
 use Rattle.ill_record.specs.declared.fault.RecordFault.TheVariants as faults
 
--- Describes fields of a saved record.
+-- A field of a saved record with values of type `V`: the encoding of a value, and its reading from a cursor.
 abbrev pub Field : Type 0 → Type 0
 Field V = Codec LayoutFault V
 
@@ -137,8 +137,8 @@ abbrev pub record_fault : LayoutFault → RecordFault
 record_fault Short = faults.Short
 record_fault (Bad at) = faults.Bad at
 
--- A reader of the code gives the fault of `read`, or its value through `view` and the cursor `left` after it.
--- It may also answer that memory ran out.
+-- `read` is the result of a field. The code gives the fault of `read`, or a value whose `view` is the value of `read`.
+-- Then `left` is the cursor after the value. The code may also answer that memory ran out.
 abbrev pub ReadsInMemory : {X V : Type 0} → (X → V) → Result X RecordFault → Cursor →
     Result (V × Cursor) LayoutFault → Type 0
 ReadsInMemory view (Ok value) left read = read ≡ Ok (view value, left)

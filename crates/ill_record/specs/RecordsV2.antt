@@ -33,7 +33,7 @@ version_2 = 73 ∷ 76 ∷ 76 ∷ 50 ∷ []
 abbrev pub two_octets : Field ℕ
 two_octets = sized 2 (record { encode = to_be_bytes w16; read = λ bytes. Some (from_be_bytes w16 bytes) })
 
--- Returns `n` if a desk may hold `n` sides.
+-- Returns `n` if a desk may hold `n` sides: at most 1,000. Returns `None` otherwise.
 abbrev pub few_sides : ℕ → Option ℕ
 few_sides n = if nat_le n most_sides then Some n else None
 
@@ -75,7 +75,8 @@ sides_encoding held = body_of held ++ sha256 (body_of held)
 abbrev pub body : List ℕ → List ℕ
 body bytes = take (length bytes - 32) bytes
 
--- Returns the bytes between the version and the digest, or the first fault if one of these is wrong.
+-- Returns the bytes between the version and the digest. Fewer than 39 bytes are `Short`, bytes without `ILL2` first
+-- are `Bad 0`, and a wrong digest is `Digest`.
 unfoldable pub unsealed : List ℕ → Result (List ℕ) RecordFault
 unsealed bytes =
     if nat_lt (length bytes) 39 then Err faults.Short else
@@ -123,13 +124,13 @@ counts_any (Err fault) = false
 abbrev pub has_sides : List ℕ → Bool
 has_sides octets = counts_any ((followed_by role side_count).read (cursor_at 4 octets))
 
--- Returns true if a role and a number of sides above 0 follow the version. Version and digest must be right.
+-- Returns true if `unsealed` gave octets that begin with a role and a number of sides above 0. A fault gives false.
 abbrev pub has_sides_after : Result (List ℕ) RecordFault → Bool
 has_sides_after (Ok octets) = has_sides octets
 has_sides_after (Err fault) = false
 
--- Returns true if decoding takes memory: if the bytes begin as a record up to a number of sides above 0.
--- In version 1, the bytes must begin as a record up to its qualifiers.
+-- Returns true if decoding may take memory. In version 1, the bytes begin as a record up to its qualifiers.
+-- In version 2, length, version and digest are right. Then a role and a number of sides above 0 follow the version.
 unfoldable pub begins_as_records : List ℕ → Bool
 begins_as_records bytes =
     if is_version_1 bytes then begins_as_record bytes else has_sides_after (unsealed bytes)

@@ -1,5 +1,8 @@
 //! The unread rest of a saved record.
 //!
+//! A method fails with `Short` if the bytes end within a field. It fails with `Bad` at the first byte of a field if the
+//! bytes encode no value of that field.
+//!
 //! In the contracts, `read` names the field of `specs/` that gives the result. `room` bounds the offset before a field
 //! is read, and `near` the offset after it.
 
@@ -111,7 +114,7 @@ impl<'a> Cursor<'a> {
         Ok(usize::from(u16::from_be_bytes([octets[0], octets[1]])))
     }
 
-    /// Reads the number of sides.
+    /// Reads the number of sides, in two octets. A number over 1,000 is a fault.
     pub fn side_count(&mut self) -> Result<u16, LayoutFault>
         requires room { self.old.at ≤ 1000 }
         ensures read { Reads (λ n. n) result self.new (side_count.read self.old) }
@@ -128,7 +131,7 @@ impl<'a> Cursor<'a> {
         }
     }
 
-    /// Reads the octet `value`, and no other.
+    /// Reads the octet `value`. Any other octet is a fault.
     pub fn constant(&mut self, value: u8) -> Result<(), LayoutFault>
         requires room { self.old.at ≤ 100000000 }
         ensures read { Reads (λ v. v) result self.new ((constant value).read self.old) }
@@ -230,7 +233,7 @@ impl<'a> Cursor<'a> {
         }
     }
 
-    /// Reads the length of a qualifier, and then the qualifier.
+    /// Reads the length of a qualifier, and then the qualifier. An invalid qualifier is a fault at its own first byte.
     pub fn counted_text(&mut self) -> Result<&'a [u8], LayoutFault>
         requires room { self.old.at ≤ 1000000 }
         ensures read { Reads (λ text. text.now) result self.new (counted_text.read self.old) }
@@ -263,7 +266,7 @@ impl<'a> Cursor<'a> {
         }
     }
 
-    /// Reads eight bytes as a due date. Eight zeros are no due date.
+    /// Reads eight bytes as a due date. Eight zeros are no due date, and any other text without a date is a fault.
     pub fn due(&mut self) -> Result<Option<Day>, LayoutFault>
         requires room { self.old.at ≤ 100000000 }
         ensures read { Reads (λ d. d) result self.new (due.read self.old) }
@@ -280,7 +283,7 @@ impl<'a> Cursor<'a> {
         }
     }
 
-    /// Reads an APDU.
+    /// Reads an APDU in its short form, or fails with the lack of memory.
     pub fn apdu(&mut self, alloc: Global) -> Result<Apdu, RecordFault>
         requires room { self.old.at ≤ 100000000 }
         ensures read { ReadsInMemory (λ a. a) result self.new (apdu.read self.old) }
@@ -298,7 +301,7 @@ impl<'a> Cursor<'a> {
         }
     }
 
-    /// Reads an ILL-Request, if there is one.
+    /// Reads a mark, and then an ILL-Request if the mark is true. Returns `None` if the mark is false.
     pub fn request(&mut self, alloc: Global) -> Result<Option<Apdu>, RecordFault>
         requires room { self.old.at ≤ 1000000 }
         ensures read { ReadsInMemory (λ a. a) result self.new ((marked ill_request).read self.old) }

@@ -42,7 +42,8 @@ fn role(cursor: &mut Cursor<'_>) -> Result<Role, LayoutFault>
     cursor.role()
 }
 
-/// Decodes the rest of a record of a requester, to its end.
+/// Decodes a requester from the fields after its role, to the end of the record. Memory can run out only if a state and
+/// two qualifiers come first.
 fn requester(alloc: Global, cursor: &mut Cursor<'_>) -> Result<Side, RecordFault>
     requires room { cursor.old.at ≤ 1000 }
     ensures { Decodes (consistent_side (all_of (read_requester cursor.old)))
@@ -61,7 +62,8 @@ fn requester(alloc: Global, cursor: &mut Cursor<'_>) -> Result<Side, RecordFault
     }
 }
 
-/// Decodes the rest of a record of a responder, to its end.
+/// Decodes a responder from the fields after its role, to the end of the record. Memory can run out only if a state and
+/// two qualifiers come first.
 fn responder(alloc: Global, cursor: &mut Cursor<'_>) -> Result<Side, RecordFault>
     requires room { cursor.old.at ≤ 1000 }
     ensures { Decodes (consistent_side (all_of (read_responder cursor.old)))

@@ -24,7 +24,7 @@ const SMALLEST: usize = 39;
 
 /// Decodes a saved record of many sides, or returns the first fault. The record must take up all of the bytes.
 ///
-/// Bytes that begin with `ILL1` are a record of one side. It gives that side alone, or no side if it is idle.
+/// Bytes that begin with `ILL1` are a record of one side. The result has this side alone, or no side if it is idle.
 /// Decoding allocates as it reads: from a count above 0 on, and in version 1 from the qualifiers on.
 #[tactic(auto, unfolding(crate::specs::RecordsV2::records_at, crate::specs::RecordsV2::begins_as_records))]
 pub fn decode_record2(alloc: Global, bytes: &[u8]) -> Result<Sides, RecordFault>
@@ -49,7 +49,8 @@ fn one_side(alloc: Global, bytes: &[u8]) -> Result<Sides, RecordFault>
     Ok(sides)
 }
 
-/// Returns the octets between the version and the digest, or a fault if one of these is wrong.
+/// Returns the octets between the version and the digest. Fewer than 39 bytes are `Short`, bytes without `ILL2` first
+/// are `Bad(0)`, and a wrong digest is `Digest`.
 #[tactic(auto, unfolding(crate::specs::RecordsV2::unsealed))]
 fn unsealed(bytes: &[u8]) -> Result<&[u8], RecordFault>
     ensures octets { IfOk result (λ octets. unsealed bytes.now ≡ Ok octets.now) }
@@ -98,7 +99,8 @@ fn parts(alloc: Global, cursor: &mut Cursor<'_>, count: u16) -> Result<Vec<Side>
     Ok(sides)
 }
 
-/// Reads the length of a record, and then the record. A fault in the record is at its first byte.
+/// Reads the length of a record, and then the record. A length that is cut off is `Bad` at its offset. A record that
+/// is cut off or has a fault is `Bad` at its first byte.
 fn part(alloc: Global, cursor: &mut Cursor<'_>) -> Result<Side, RecordFault>
     requires room { cursor.old.at ≤ 70000000 }
     ensures read { ReadsInMemory (λ side. side) result cursor.new (part.read cursor.old) }
@@ -119,7 +121,7 @@ fn part(alloc: Global, cursor: &mut Cursor<'_>) -> Result<Side, RecordFault>
     }
 }
 
-/// Returns the sides of `read`, if a desk may hold them together, and otherwise `Inconsistent`.
+/// Returns the sides of `read`, if a desk of `role` may hold them together, and otherwise `Inconsistent`.
 fn held_together(alloc: Global, role: Role, read: Vec<Side>) -> Result<Sides, RecordFault>
     requires few { length read.items ≤ most_sides }
     ensures { Decodes (together (record { role = role; sides = read.items })) (nat_lt 0 (length read.items)) result }

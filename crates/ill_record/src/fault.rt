@@ -10,16 +10,18 @@ use crate::side::Side;
 use std::alloc::{AllocError, AllocFailed};
 use thiserror::Error;
 
-/// The first fault of bytes that are no saved record. Offsets are in bytes from the first byte of the record.
+/// Why decoding a saved record failed: the first fault of the bytes, or a lack of memory. Offsets are in bytes from
+/// the first byte of the record.
 #[derive(Clone, Copy, Debug, PartialEq, Eq, Hash, Error)]
 pub enum RecordFault {
-    /// The bytes end within a field, or before a field that must follow.
+    /// The bytes end within a field, or before a field that must follow. For `decode_record2`, fewer than 39 bytes that
+    /// do not begin with `ILL1` are short.
     #[error("short")]
     Short,
     /// The bytes at this offset encode no value of their field, or they follow the end of the record.
     #[error("bad at {0}")]
     Bad(u32),
-    /// Each field has a value, but no side has all these values together.
+    /// Each field has a value, but no side has all these values together. Or no desk holds all these sides together.
     #[error("inconsistent")]
     Inconsistent,
     /// Memory ran out. Later checks were not made.
@@ -48,7 +50,7 @@ impl RecordFault {
 pub enum LayoutFault {
     /// The bytes end within a field, or before a field that must follow.
     Short,
-    /// The bytes at this offset encode no value of their field.
+    /// The bytes at this offset encode no value of their field, or they follow the end of the record.
     Bad(u32),
 }
 

@@ -23,7 +23,8 @@ pub fn read_again()
     ill_der::laws::prefix_or_fault();
 }
 
-/// If bytes are read as a side, they are its encoding, even if the side is not consistent.
+/// If bytes are read as a side, they are its encoding, and the side is in range. This holds even if the side is not
+/// consistent. A side that `record_at` reads is consistent, too.
 pub fn encoded()
     ensures side { (bytes : List ℕ) (side : Side) → IsBytes bytes → record_at bytes ≡ Ok side →
         (bytes ≡ record_encoding side) × IsSide side }
@@ -70,7 +71,8 @@ pub fn sides_read_again()
     record_is_short();
 }
 
-/// If bytes are read as sides, and are no record of version 1, they are the encoding of these sides.
+/// If bytes are read as sides, and are no record of version 1, they are the encoding of these sides. One desk may hold
+/// the sides together, and each is consistent and in range.
 pub fn sides_encoded()
     ensures { (bytes : List ℕ) (held : SidesOf) → IsBytes bytes → is_version_1 bytes ≡ false →
         records_at bytes ≡ Ok held → (bytes ≡ sides_encoding held) × AreSides held }

@@ -169,7 +169,7 @@ impl Side {
         }
     }
 
-    /// Returns the day on which the item is due, if it was shipped.
+    /// Returns the day on which the item is due, if the record of this side has a due date.
     pub fn due(&self) -> Option<Day>
         ensures { result ≡ due_date_of self.now }
     {
@@ -234,7 +234,7 @@ impl Side {
         }
     }
 
-    /// Returns the standing of this side.
+    /// Returns the standing of this side. By the clause `consistent`, this side is consistent.
     pub fn standing(&self) -> Standing
         ensures value { result ≡ standing_of self.now }
         ensures consistent { IsConsistent self.now }
@@ -245,8 +245,8 @@ impl Side {
         }
     }
 
-    /// Goes back to the side with `standing` and the first `count` of the issued messages. If that side is consistent,
-    /// returns true. Otherwise returns false, and nothing changes.
+    /// Goes back to the side with `standing` and the first `count` of the issued messages, and returns true. Returns
+    /// false, and changes nothing, if `standing` is of the other role or that side is not consistent.
     pub fn go_back(&mut self, standing: &Standing, count: u8) -> bool
         ensures { GoesBack (back_to standing.now count self.old) result self.old self.new }
     {

@@ -104,7 +104,7 @@ impl Sides {
         self.map.get_index(place).map(|(_, side)| side)
     }
 
-    /// Returns the sides, in the order in which they were put.
+    /// Returns an iterator of the sides, in the order in which they were put. By `runs` it gives a reference to each.
     pub fn iter(&self) -> Values<'_, TxnId, Side>
         ensures rest { result ≡ self.now.sides }
         ensures runs { ShowsInOrder (deref {X = Side}) }
@@ -120,7 +120,8 @@ impl Sides {
         self.map.get_index_of(txn)
     }
 
-    /// Performs `action` in transaction `txn`, if its side is held.
+    /// Performs `action` in transaction `txn`, and returns the answer of its side. Returns `None` if that side is not
+    /// held. A refusal changes nothing.
     pub fn act(
         &mut self,
         alloc: Global,
@@ -134,7 +135,8 @@ impl Sides {
         act_among(&mut self.map, alloc, txn, action)
     }
 
-    /// Hands a message to the side of its transaction, if that side is held.
+    /// Hands a message to the side of its transaction, and returns the answer of that side. Returns `None` if that side
+    /// is not held. A refusal changes nothing.
     pub fn take(&mut self, alloc: Global, apdu: &Apdu) -> Option<Result<Taking, Refusal>>
         ensures { ChangesOnlySideOf (λ old answer new. Takes old apdu.now answer new) apdu.now.txn self.old result self.new }
     {
@@ -181,7 +183,7 @@ fn insert_new<V: Drop>(map: &mut IndexMap<TxnId, V>, key: TxnId, value: V) -> Re
     }
 }
 
-/// Lets the side of `txn` perform `action`, if `map` has this side.
+/// Lets the side of `txn` perform `action`, and returns its answer. Returns `None` if `map` does not have this side.
 fn act_among(
     map: &mut IndexMap<TxnId, Side>,
     alloc: Global,
@@ -196,7 +198,8 @@ fn act_among(
     }
 }
 
-/// Hands `apdu` to the side of its transaction, if `map` has this side.
+/// Hands `apdu` to the side of its transaction, and returns the answer of that side. Returns `None` if `map` does not
+/// have this side.
 fn take_among(
     map: &mut IndexMap<TxnId, Side>,
     alloc: Global,

@@ -4,7 +4,8 @@ use Rattle.std.proofs.Common.{rules, ◌≡◌, ◌++◌, ◌∷◌, ap, sym, �
 use Rattle.ill_record.proofs.Together.{put_fails}
 use Rattle.ill_record.proofs.decoding_v2.held_together.Goals as goal
 
--- If a side cannot be put, the fault is right for all sides together.
+-- If a side cannot be put, the fault is right for all sides together. `held` are the sides that were put, and `rest`
+-- the sides after the one that cannot be put.
 pub returns-in_err-put : goal.returns-in_err-put
 returns-in_err-put c =
     let held = c.loop-side.sides in

@@ -10,7 +10,8 @@ use Rattle.ill_record.proofs.Lists.{one_encoded, all_encoded, one_each, none_eac
 use Rattle.ill_record.proofs.encoding_v2.push_parts.Goals as goal
 use Rattle.ill_record.proofs.encoding_v2.push_parts.Goals.{in-Some+in_ok-push_part, in_default}
 
--- One more turn of the loop keeps the invariant. A side is at `place`, so the second branch cannot be taken.
+-- One more turn of the loop keeps the invariant. A side is at `place`, so the second branch cannot be taken. `held` are
+-- all sides, `there` says that `side` is at `place`, and `pushed` that its part was appended.
 pub loop-place-preserved : goal.loop-place-preserved
 loop-place-preserved c =
     let held = c.args.sides.now.sides in

@@ -4,7 +4,8 @@ use Rattle.ill_record.specs.Side.{GoesBack, back_to, idle_of, idle_side, standin
 use Rattle.ill_record.proofs.Transitions.{becomes_idle}
 use Rattle.ill_record.proofs.side.Side.become_idle.Goals as goal
 
--- The standing of an idle side of this role is that of the idle side of `self`.
+-- The standing of an idle side of this role is the standing of the idle side of `self` (`is`). So the side that goes
+-- back to this standing, without messages, is that idle side.
 pub returns : goal.returns
 returns c =
     let old = c.args.self.now in

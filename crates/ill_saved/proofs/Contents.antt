@@ -209,7 +209,8 @@ count_there role sides counted txn place n as_many at within counted_at =
     ∙ ap (slice_get (held_of sides counted)) (same_place (is_same_txn txn) sides counted as_many ∙ pos) ∙ there.1 in
     sym (ap (λ f. (found_or (idle_held role txn) f).released) found)
 
--- If no side is of `txn`, the number of released messages of `txn` is 0.
+-- If no side is of `txn`, the number of released messages of `txn` is 0. A search passes all sides (`past`), and stops
+-- at equal indices among sides and entries (`pos`). So it finds no entry.
 pub no_count : (role : Role) (sides : List Side) (counted : List ℕ) (txn : Qualifiers) → length counted ≡ length sides
     → None ≡ position (λ side. is_same_txn txn (txn_of side)) sides
     → 0 ≡ (held_for txn (record { role = role; held = held_of sides counted })).released
@@ -673,14 +674,14 @@ module _ (role : Role) (sides : List Side) (counted : List ℕ) (as_many : lengt
         (ap (found_or (idle_held role (txn_of side))) none_before) row backed.1),
   )
 
--- ---- a desk with all messages released
+-- ---- sides that back themselves, their counts, and the record of a desk
 
 -- An idle side is consistent.
 idle_keeps : (role : Role) (txn : Qualifiers) → IsConsistent (idle_side role txn)
 idle_keeps roles.Requester txn = idle_consistent (idle_side roles.Requester txn)
 idle_keeps roles.Responder txn = idle_consistent (idle_side roles.Responder txn)
 
--- If `side` and `found` satisfy `P`, the one that a search chooses of them satisfies it.
+-- If `side` and `found` satisfy `P`, the result of a search satisfies it: `side` if `here` is true, and else `found`.
 either_is : (P : Side → Type 0) (side : Side) (found : Option Side) (here : Bool) → P side → IfSome found P
     → IfSome (cond here (Some side) found) P
 either_is P side found true is others = is
@@ -790,8 +791,8 @@ module _ (follows : FollowsIssues) (all : SidesOf) (counted : List ℕ) (as_many
   same_or txn (Some held) = refl
   same_or txn None = refl
 
-  -- If landed sides back the desk's contents, the sides `all` of the desk back them, too. They have all messages of the
-  -- landed ones, and these have each released message.
+  -- If landed sides back the desk's contents, the sides `all` of the desk back them, too. The sides `all` have all
+  -- messages of the landed ones (`few`), and the landed ones have each released message (`was`).
   self_backed : (landed : SidesOf) → AreBackedBy landed (record { role = all.role; held = held_of all.sides counted })
       → AreBackedBy all (record { role = all.role; held = held_of all.sides counted })
   unfolding side_with
@@ -811,7 +812,7 @@ module _ (follows : FollowsIssues) (all : SidesOf) (counted : List ℕ) (as_many
         (record { consistent = is; follows = follows_itself; has-released = omega (arith, was.has-released, few) });
   }
 
-  -- The encoding of the sides is the record of a desk that holds them.
+  -- The encoding of the sides is the record of a desk that holds them, as `IsRecordOf` says.
   pub sides_record : SidesReadAgain → AreSides all → (bytes : List ℕ) (live : DeskContents) → bytes ≡ sides_encoding all
       → record { role = all.role; held = held_of all.sides counted } ≡ live → AreBackable live
       → IsRecordOf many_sides ManyBack bytes live
@@ -831,7 +832,7 @@ module _ (follows : FollowsIssues) (all : SidesOf) (counted : List ℕ) (as_many
 ok_is : {X : Type 0} (x y : X) → ◌≡◌ {A = Result X RecordFault} (Ok x) (Ok y) → x ≡ y
 ok_is x y e = search rules
 
--- ---- reading
+-- ---- sides that are read are consistent, and the sides of a desk's entries
 
 -- If a side is consistent, each side of a desk with only this side is consistent.
 each_if : (idle : Bool) (side : Side) → IsConsistent side → Each IsConsistent (cond idle [] (side ∷ []))

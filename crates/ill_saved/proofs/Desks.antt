@@ -51,7 +51,7 @@ use Rattle.ill_record.proofs.Rules.{responder_asked}
 use Rattle.ill_record.proofs.Transitions.{none_more, no_less, RowsGrow, RowsKeepRequest, prefix_of_prefix, idle_twice}
 use Rattle.ill_record.proofs.Transitions.{idle_consistent, nothing_issued}
 
--- ---- the landed side after a transition of the live one
+-- ---- the landed side, the rules and the answers after a call of the live side
 
 -- Returns a held side with its released count.
 abbrev entry : Side → ℕ → DeskEntry
@@ -114,7 +114,8 @@ responder_back s count y new txn more few stays =
 some_is : (s t : Side) → ◌≡◌ {A = Option Side} (Some s) (Some t) → s ≡ t
 some_is s t e = search rules
 
--- A side that grows and keeps its request can go back to each side to which it could go back before.
+-- Let `old` grow to `new` and keep its request. If `old` can go back to `side`, `new` can go back to it, too. `s` and
+-- `count` are the standing and the number of messages of `side`. If `side` has taken a request, `old` has taken one.
 back_on : (s : Standing) (count : ℕ) (old new side : Side) → Grows old new → KeepsRequest old new
     → count ≤ length (issued_of old) → (is_asked side ≡ true → is_asked old ≡ true)
     → back_to s count old ≡ Some side → back_to s count new ≡ Some side
@@ -129,7 +130,8 @@ back_on (standings.Responder s) count (sides.Requester x) new side grows keeps f
 back_on (standings.Requester s) count (sides.Requester x) (sides.Responder new) side grows keeps few asked e = absurd cc
 back_on (standings.Responder s) count (sides.Responder y) (sides.Requester new) side grows keeps few asked e = absurd cc
 
--- If the live side grows and keeps its request, `HoldsReleased` remains true.
+-- If the live side grows and keeps its request, `HoldsReleased` remains true. `is` says that the landed record is that
+-- of `side`, and `of` that `side` has issued exactly the released messages.
 keeps_on : (landed_record : LandedBytes) (old new : Side) (released : ℕ) → released ≤ length (issued_of old) → Grows old new
     → KeepsRequest old new → HoldsReleased landed_record old released → HoldsReleased landed_record new released
 keeps_on landed_record old new released few grows keeps (inl none) = inl none
@@ -232,7 +234,7 @@ trailing_alone bytes (Ok apdu) found less decodes =
     (one_after found.0 (drop found.1 bytes) (omega (arith, length-drop found.1 bytes, less)))
 trailing_alone bytes (Err fault) found less decodes = search rules
 
--- ---- saving
+-- ---- a side with all messages released, and its record
 
 -- The law of one record: a consistent side in range is read from its encoding.
 abbrev pub ReadsAgain : Type 0
@@ -298,7 +300,7 @@ pub next_record : {E : Type 0} → ReadsAgain → (live : Side) (released : ℕ)
 next_record again live released (Ok landed_record) is few = record_of again landed_record live released is few
 next_record again live released (Err fault) is few = tt
 
--- ---- loading
+-- ---- beginning, reading a record, and restarting
 
 -- If `first` is idle, it backs itself with no message released, as the `unsaved` side of a desk.
 pub idle_backs : (first : Side) → first ≡ idle_of first → OneBacks (one_side.unsaved (alone first)) (alone first)
@@ -329,7 +331,7 @@ back_is again landed_record released bytes old new (encoded, is, of) =
     ∙ ap (map_ok whole) (again new is.0)
 
 -- If the live side goes back to `new`, `new` satisfies its rules, and the loaded `bytes` back it. All its messages are
--- released.
+-- released. `encoded` says that `bytes` are those of `landed_record`, and `is` that this is the record of `new`.
 pub back_rules : ReadsAgain → (landed_record : LandedBytes) (released : ℕ) (bytes : List ℕ) (old new : Side)
     → GoesBackTo landed_record released bytes true old new
     → Rules landed_record new released × IsBacked one_side OneBacks (Some bytes) (entry new released)

@@ -20,7 +20,7 @@ use Rattle.ill_record.proofs.Finding.{found_mapped}
 abbrev FollowsIssues : Type 0
 FollowsIssues = (old new : Side) → IsAfterTransitions old new → IsPrefix (issued_of old) (issued_of new)
 
--- The first messages of a list are those of each prefix that has them.
+-- If `first` has at least `n` messages, message `n` of `first ++ more` is message `n` of `first`.
 in_prefix : (first more : List Apdu) (n : ℕ) → n ≤ length first → message (first ++ more) n ≡ message first n
 in_prefix first more zero few = refl
 in_prefix [] more (suc n) few = absurd (omega (arith, few))
@@ -35,13 +35,13 @@ backed_has follows landed live released number a backed is may =
     sym (in_prefix (issued_of landed) more.0 number (omega (arith, may, backed.has-released)))
     ∙ ap (λ apdus. message apdus number) (sym more.1) ∙ is
 
--- A side that is found without its count is the side that is found with it.
+-- The side of the found entry, or of the idle entry, is the found side, or the idle side.
 found_side : (role : Role) (txn : Qualifiers) (found : Option DeskEntry)
     → (found_or (idle_held role txn) found).side ≡ found_or (idle_side role txn) (option_map (λ held. held.side) found)
 found_side role txn (Some held) = refl
 found_side role txn None = refl
 
--- The side that the contents hold for `txn` is that among their sides.
+-- The side of `txn` that the contents hold with its count is the side of `txn` among `sides_held`.
 side_held : (live : DeskContents) (txn : Qualifiers) → (held_for txn live).side ≡ side_for txn (sides_held live)
 unfolding side_with
 side_held live txn =

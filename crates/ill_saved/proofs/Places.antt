@@ -125,7 +125,9 @@ ends_after prefix end bytes ends = (prefix ++ ends.0, ap (λ t. prefix ++ t) end
 ends_counted : (apdus : List Apdu) → EndsWith (encode_all encoding apdus) ((counted apdu).encode apdus)
 ends_counted apdus = (length apdus ∷ [], refl)
 
--- The record of a side ends with the encodings of its issued messages.
+-- The record of a side ends with the encodings of its issued messages. `head` is the state and the qualifiers, and
+-- `rest` the fields after them. `due` is the record from the due date on, and `request` the record from the request
+-- on.
 pub ends_with_messages : (side : Side) → EndsWith (encode_all encoding (issued_of side)) (record_encoding side)
 unfolding record_encoding
 ends_with_messages (sides.Requester x) =

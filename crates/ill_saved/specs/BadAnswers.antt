@@ -42,7 +42,7 @@ pub data CannotCreate : DeskFault → Type 0 where
   create_no_record : CannotCreate NoRecord
   create_record : (fault : RecordFault) → CannotCreate (Saved fault)
 
--- Loading may not have this fault.
+-- Loading may not have this fault. `has_digest` is true if a record ends with a digest.
 pub data CannotLoad (has_digest : Bool) : DeskFault → Type 0 where
   load_other : (fault : DeskFault) → IsOfNoRecord fault → CannotLoad has_digest fault
   load_exists : CannotLoad has_digest Exists
@@ -50,7 +50,8 @@ pub data CannotLoad (has_digest : Bool) : DeskFault → Type 0 where
   load_memory : CannotLoad has_digest (Saved records.OutOfMemory)
   load_digest : has_digest ≡ false → CannotLoad has_digest (Saved records.Digest)
 
--- Reading a record may not have this fault: loading may not, or it is a fault of the store.
+-- Reading a record may not have this fault: loading may not have it, or it is a fault of the store. `has_digest` is
+-- true if a record ends with a digest.
 pub data CannotRead (has_digest : Bool) : DeskFault → Type 0 where
   read_other : (fault : DeskFault) → CannotLoad has_digest fault → CannotRead has_digest fault
   read_store : (fault : StoreFault) → CannotRead has_digest (Store fault)

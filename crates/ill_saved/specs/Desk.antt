@@ -40,7 +40,7 @@ IsOneApdu (Ok found) answer = ⊥
 
 -- A desk with an honest store has saved `bytes`, and `new` are the landed bytes.
 -- If the save is done, `bytes` have landed. If memory ran out, nothing has changed.
--- After `Failed`, the old or the new bytes have landed.
+-- After `Failed`, the old or the new bytes have landed. Unless memory ran out, `plan` allows the store's answer.
 abbrev pub SaveLands : Option NextCall → List ℕ → Result (Unit {0}) DeskFault → Option (List ℕ) →
     Option (List ℕ) → Type 0
 SaveLands plan bytes (Ok done) old new = (new ≡ Some bytes) × Allows {X = Unit {0}} plan (Ok tt)
@@ -70,6 +70,7 @@ IsSaveFault (Err other) = ⊥
 
 -- The answer of a load from an honest store is the landed value, `None` if nothing has landed, or a fault.
 -- The fault comes from the store as planned, from reading the bytes, or from a lack of memory.
+-- `read` decodes bytes. `begins` is true of bytes if decoding them may take memory.
 abbrev pub Loads : {V : Type 0} → (List ℕ → Result V RecordFault) → (List ℕ → Bool) → Option (List ℕ) →
     Option NextCall → Result (Option V) DeskFault → Type 0
 Loads read begins None plan (Ok None) = Allows {X = Unit {0}} plan (Ok tt)
@@ -81,7 +82,7 @@ Loads read begins (Some bytes) plan (Err (Saved fault)) =
 Loads read begins landed plan (Err OutOfMemory) = Unit {0}
 Loads read begins landed plan answer = ⊥
 
--- `leaves` holds of each record that a loss of power may leave. It is the landed one alone.
+-- `leaves` holds of each record that a loss of power may leave. Each of these records is `landed`.
 abbrev pub LeavesLanded : Option (List ℕ) → (Option (List ℕ) → Type 0) → Type 0
 LeavesLanded landed leaves = (left : Option (List ℕ)) → leaves left → left ≡ landed
 
@@ -90,7 +91,8 @@ LeavesLanded landed leaves = (left : Option (List ℕ)) → leaves left → left
 abbrev pub LeavesBeforeOr : Option (List ℕ) → (Option (List ℕ) → Type 0) → (Option (List ℕ) → Type 0) → Type 0
 LeavesBeforeOr other before after = (left : Option (List ℕ)) → after left → before left ⊎ (left ≡ other)
 
--- The fault is one that loading can have: of the store, of the record, or a lack of memory.
+-- The fault is one that loading can have: of the store, of the record, or a lack of memory. `has_digest` is true if a
+-- record ends with a digest.
 abbrev pub IsLoadFault : Bool → DeskFault → Type 0
 IsLoadFault has_digest (Store stores.Failed) = Unit {0}
 IsLoadFault has_digest (Store stores.TooLarge) = Unit {0}
@@ -120,7 +122,8 @@ NothingTakesMemory old takes_memory answer =
 abbrev pub AreAllReleased : {L K : Type 0} → Effects L K → L → Type 0
 AreAllReleased effects live = live ≡ effects.saves live
 
--- After a restart that is done, all messages are released. After a fault, the sides are unchanged.
+-- After a restart that is done, all messages are released. After a fault, the sides are unchanged, and the fault is one
+-- of loading.
 abbrev pub RestartLeaves : {L K : Type 0} → Effects L K → Result (Unit {0}) DeskFault → L → L → Type 0
 RestartLeaves effects (Ok done) old new = AreAllReleased effects new
 RestartLeaves effects (Err fault) old new = (new ≡ old) × IsLoadFault effects.has_digest fault
@@ -136,8 +139,8 @@ CountsDeskFailure answer old new = (old ≤ new) × DeskFailsCounted answer old 
 
 -- ---- the store of a desk
 
--- The store of a desk is in state `new` after a call that only loads. Its path stays. If it is honest, its landed bytes are
--- unchanged.
+-- The store of a desk is in state `new` after a call that only loads. Its path and its honesty stay, its failures are
+-- counted, and its plan is spent. If it is honest, its landed bytes are unchanged.
 pub record DeskLoads {X : Type 0} (old : StoreState) (answer : Result X DeskFault) (new : StoreState) : Type 0 where
   pub path : new.path ≡ old.path
   pub landed : old.is_honest ≡ true → new.landed ≡ old.landed
@@ -145,8 +148,8 @@ pub record DeskLoads {X : Type 0} (old : StoreState) (answer : Result X DeskFaul
   pub honest : new.is_honest ≡ old.is_honest
   pub plan : new.plan ≡ plan_after_call old.plan
 
--- The store of a desk is in state `new` after a save of `bytes`. Its path stays. If it is honest, `SaveLands` gives its
--- landed bytes.
+-- The store of a desk is in state `new` after a save of `bytes`. Its path and its honesty stay, its failures are
+-- counted, and its plan is as `PlanAfter` says. If it is honest, `SaveLands` gives its landed bytes.
 pub record DeskSaves (bytes : List ℕ) (old : StoreState) (answer : Result (Unit {0}) DeskFault) (new : StoreState)
     : Type 0 where
   pub path : new.path ≡ old.path
@@ -162,7 +165,7 @@ abbrev pub answer_of : {D S F : Type 0} → Result D (F × S) → Result (Unit {
 answer_of (Ok desk) = Ok tt
 answer_of (Err fault) = Err fault.0
 
--- Returns the store after a call that returns the store together with a fault.
+-- Returns the store after a call that returns the store together with a fault. `store` gives the store of a desk.
 abbrev pub store_after : {D S F : Type 0} → (D → S) → Result D (F × S) → S
 store_after store (Ok desk) = store desk
 store_after store (Err fault) = fault.1
@@ -191,6 +194,7 @@ IsCreateAnswer (Err other) = ⊥
 
 -- A desk that starts over an honest store has the live value that is read from the landed bytes.
 -- If nothing has landed, the answer is `NoRecord`. Other faults come from the store, the bytes or a lack of memory.
+-- `read` decodes bytes, `begins` says if that may take memory, and `live` gives the live value of a desk.
 abbrev pub Begins : {V D S : Type 0} → (List ℕ → Result V RecordFault) → (List ℕ → Bool) → (D → V) →
     Option (List ℕ) → Option NextCall → Result D (DeskFault × S) → Type 0
 Begins read begins live (Some bytes) plan (Ok desk) =
@@ -202,7 +206,8 @@ Begins read begins live (Some bytes) plan (Err (Saved fault, store)) =
 Begins read begins live landed plan (Err (OutOfMemory, store)) = Unit {0}
 Begins read begins live landed plan answer = ⊥
 
--- The answer of starting a desk is that it is done, `NoRecord`, or a fault of loading.
+-- The answer of starting a desk is that it is done, `NoRecord`, or a fault of loading. `has_digest` is true if a record
+-- ends with a digest.
 abbrev pub IsStartAnswer : Bool → Result (Unit {0}) DeskFault → Type 0
 IsStartAnswer has_digest (Ok done) = Unit {0}
 IsStartAnswer has_digest (Err NoRecord) = Unit {0}

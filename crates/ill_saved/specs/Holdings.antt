@@ -194,8 +194,9 @@ ReadsRecord effects bytes (Err (Saved fault)) = Decodes (effects.read bytes) (ef
 ReadsRecord effects bytes (Err OutOfMemory) = Unit {0}
 ReadsRecord effects bytes (Err other) = ⊥
 
--- The landed bytes encode the sides `new`. A fault of the bytes or a lack of memory changes nothing.
--- Memory can run out only for bytes that have landed.
+-- If the answer is done, `new` are the sides that the landed bytes encode. If nothing has landed, `new` are the
+-- `unsaved` sides.
+-- A fault of the bytes or a lack of memory changes nothing. Memory can run out only for bytes that have landed.
 abbrev pub GoesBackToLanded : {L K : Type 0} → Effects L K → Option (List ℕ) → L → Result (Unit {0}) DeskFault → L → Type 0
 GoesBackToLanded effects landed old (Ok done) new = landed_live effects landed old ≡ Ok new
 GoesBackToLanded effects (Some bytes) old (Err (Saved fault)) new =

@@ -42,7 +42,8 @@ pub record IsReleased (live : Side) (released : ℕ) (side : Side) : Type 0 wher
   pub back : back_to (standing_of side) released live ≡ Some side
   pub asked : is_asked side ≡ true → is_asked live ≡ true
 
--- Either nothing has landed and nothing is released, or `landed_record` is that of a side as `IsReleased` says.
+-- Either the desk knows of no landed record and nothing is released, or `landed_record` is the record of a side. Then
+-- `IsReleased` relates this side to the live one.
 abbrev pub HoldsReleased : LandedBytes → Side → ℕ → Type 0
 HoldsReleased landed_record live released =
     ((landed_record ≡ no_landed_record) × (released ≡ 0))

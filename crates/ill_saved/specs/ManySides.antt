@@ -33,7 +33,7 @@ pub record DeskContents : Type 0 where
 abbrev pub counts : List Side → List ℕ
 counts sides = map (λ side. length (issued_of side)) sides
 
--- Returns each side with its count as the number of its released messages.
+-- Returns each side with its count as the number of its released messages. A side without a count is left out.
 unfoldable pub held_of : List Side → List ℕ → List DeskEntry
 held_of (side ∷ sides) (count ∷ counts) = record { side = side; released = count } ∷ held_of sides counts
 held_of sides counts = []
@@ -119,6 +119,7 @@ takes_reached live a (Ok held) = contents_after_message live held (takes held.si
 takes_reached live a (Err fault) = (Err fault, live)
 
 -- Returns the answer of a desk to an APDU, and its contents after it. The side of the APDU's transaction takes it.
+-- An APDU that this role issues is refused as `WrongRole`.
 abbrev pub desk_takes : DeskContents → Apdu → Result Taking DeskFault × DeskContents
 desk_takes live a =
     if is_own live.role a.body then (Err (Core WrongRole), live)

@@ -50,8 +50,8 @@ impl<H: Holdings, S: Store> Model for AnyDesk<H, S> {
 }
 
 impl<H: Holdings, S: Store> AnyDesk<H, S> {
-    /// Begins a desk over a store without a record (otherwise `Exists`). Saves nothing. A fault returns the store.
-    /// Once it is done, a loss of power leaves no record.
+    /// Begins a desk with the sides that `first` gives, over a store without a record (otherwise `Exists`). Saves
+    /// nothing. A fault returns the store. Once the desk has begun, a loss of power leaves no record.
     pub fn begin(alloc: Global, store: S, first: H::First) -> Result<AnyDesk<H, S>, (DeskFault, S)>
         ensures creates { (S.state store).is_honest ≡ true →
             Creates (S.state store).landed (S.state store).plan (answer_of result) }
@@ -67,7 +67,8 @@ impl<H: Holdings, S: Store> AnyDesk<H, S> {
         AnyDesk::over(alloc, store, H::begin(alloc, first))
     }
 
-    /// Returns a desk of new sides, over a store without a record (otherwise `Exists`). A fault returns the store.
+    /// Returns a desk of the new sides `held`, over a store without a record (otherwise `Exists`). A fault returns the
+    /// store.
     fn over(alloc: Global, store: S, held: H) -> Result<AnyDesk<H, S>, (DeskFault, S)>
         requires backed { H.backs (H.effects.unsaved held) held }
         ensures creates { (S.state store).is_honest ≡ true →
@@ -90,7 +91,7 @@ impl<H: Holdings, S: Store> AnyDesk<H, S> {
     }
 
     /// Starts a desk with the sides whose record `store` has (otherwise `NoRecord`). All their messages may be sent.
-    /// A fault returns the store. Once it is done, a loss of power leaves this record.
+    /// A fault returns the store. Once the desk has started, a loss of power leaves this record.
     pub fn start(alloc: Global, store: S) -> Result<AnyDesk<H, S>, (DeskFault, S)>
         ensures starts { (S.state store).is_honest ≡ true →
             Begins H.effects.read H.effects.begins (λ desk. desk.live) (S.state store).landed (S.state store).plan result }
@@ -112,7 +113,8 @@ impl<H: Holdings, S: Store> AnyDesk<H, S> {
         }
     }
 
-    /// Performs `action` on the side `key`. The message that it issues may be sent after the next `save`.
+    /// Performs `action` on the side `key`. The message that it issues may be sent after the next `save`. A fault
+    /// changes nothing.
     pub fn act_on(&mut self, alloc: Global, key: &H::Key, action: &Action) -> Result<(), DeskFault>
         ensures acts { DeskActs H.effects self.old.live key.now action.now result self.new.live }
         ensures store { self.new.store ≡ self.old.store }
@@ -120,7 +122,7 @@ impl<H: Holdings, S: Store> AnyDesk<H, S> {
         self.held.act(alloc, key, action)
     }
 
-    /// Takes a message: the bytes must be exactly one APDU.
+    /// Takes a message, and returns its effect. The bytes must be exactly one APDU: more bytes after it are `Trailing`.
     pub fn take_bytes(&mut self, alloc: Global, bytes: &[u8]) -> Result<Taking, DeskFault>
         ensures takes { DeskTakes H.effects self.old.live (apdu_at bytes.now) result self.new.live }
         ensures store { self.new.store ≡ self.old.store }
@@ -129,7 +131,7 @@ impl<H: Holdings, S: Store> AnyDesk<H, S> {
         self.take(alloc, &apdu)
     }
 
-    /// Takes a message that was already decoded.
+    /// Takes a message that was already decoded, and returns its effect.
     pub fn take(&mut self, alloc: Global, apdu: &Apdu) -> Result<Taking, DeskFault>
         ensures takes { DeskTakesApdu H.effects self.old.live apdu.now result self.new.live }
         ensures store { self.new.store ≡ self.old.store }
@@ -164,7 +166,7 @@ impl<H: Holdings, S: Store> AnyDesk<H, S> {
 
     /// Goes back to the sides in the store, or to those of a new desk if the store has no record. All their messages
     /// may be sent. A fault changes neither the sides nor the released messages. If nothing has landed,
-    /// memory runs out only in the load of the store. Once it is done, a loss of power leaves what has landed.
+    /// memory runs out only in the load of the store. Once the restart is done, a loss of power leaves what has landed.
     pub fn restart(&mut self, alloc: Global) -> Result<(), DeskFault>
         ensures restarts { (S.state self.old.store).is_honest ≡ true →
             Restarts (landed_live H.effects (S.state self.old.store).landed self.old.live)
@@ -181,7 +183,8 @@ impl<H: Holdings, S: Store> AnyDesk<H, S> {
         self.held.go_back(alloc, bytes)
     }
 
-    /// Returns the bytes of message `number` of the side `key`, to send it.
+    /// Returns the bytes of message `number` of the side `key`, to send it. The side must be held (otherwise
+    /// `NoSuchTransaction`), and the message issued (otherwise `NoSuchMessage`) and saved (otherwise `NotSaved`).
     pub fn message_of(
         &self,
         alloc: Global,
@@ -340,7 +343,7 @@ impl<S: Store> Desk<S> {
     }
 }
 
-/// Loads the sides whose record has landed in `store`, if there is a record.
+/// Loads the sides whose record has landed in `store`, or returns `None` if there is no record.
 fn load<H: Holdings, S: Store>(alloc: Global, store: &mut S) -> Result<Option<H>, DeskFault>
     ensures loads { (S.state store.old).is_honest ≡ true →
         Loads H.effects.read H.effects.begins (S.state store.old).landed (S.state store.old).plan
@@ -361,7 +364,7 @@ fn load<H: Holdings, S: Store>(alloc: Global, store: &mut S) -> Result<Option<H>
     }
 }
 
-/// Decodes the one APDU that takes up all of the bytes.
+/// Decodes the one APDU that takes up all of the bytes. If bytes follow it, the fault is `Trailing`.
 fn one_apdu(alloc: Global, bytes: &[u8]) -> Result<Apdu, DeskFault>
     ensures { IsOneApdu (apdu_at bytes.now) result }
 {

@@ -19,7 +19,7 @@ use thiserror::Error;
 
 /// Files that can be locked, and a way to wait.
 pub trait LockFiles: Files {
-    /// Tries to lock an open file, and returns true if it succeeds. It fails if the file is locked through another
+    /// Tries to lock an open file. Returns true if the lock is taken, and false if the file is locked through another
     /// opening. The lock ends with the opening, however the program ends.
     fn try_lock(&self, file: &Self::File) -> io::Result<bool>;
 
@@ -102,7 +102,7 @@ pub struct FileLock<'a, R: LockFiles> {
 }
 
 impl<'a, R: LockFiles> FileLock<'a, R> {
-    /// Takes the lock as `wait_for` does. It also answers `Failed` if another program holds the lock.
+    /// Takes the lock as `wait_for` does. Answers `Failed`, too, if another program holds the lock for ten seconds.
     pub fn take(rt: &'a R, alloc: Global, path: &str) -> Result<FileLock<'a, R>, StoreFault>
         ensures { IfErr result (λ fault. (fault ≡ Failed) ⊎ (fault ≡ OutOfMemory)) }
     {
@@ -167,7 +167,8 @@ enum Attempt<F> {
     Busy,
 }
 
-/// Tries to take a lock until it is taken, at most `TRIES` times.
+/// Tries to take the lock of the file at `path`, at most `TRIES` times, and then returns `Busy`. It is the lock on the
+/// file at `lock_path`. An empty `path` needs no lock. A `path` of a file beside a record is an error.
 fn wait<R: LockFiles>(rt: &R, path: &str, lock_path: &str) -> io::Result<Attempt<R::File>> {
     if regular_file::is_reserved(path.as_bytes()) {
         return Err(ErrorKind::InvalidInput.into());
@@ -200,8 +201,8 @@ fn try_take<R: LockFiles>(rt: &R, path: &str, lock_path: &str) -> io::Result<Att
     }
 }
 
-/// Locks the file that was created for the lock, and lets the users of the record open it. If another program has
-/// locked and removed the file meanwhile, the caller tries again.
+/// Locks the `file` that was created for the lock, and lets the users of the `record` open it. If another program has
+/// locked or removed the file meanwhile, returns `Busy`, so that the caller tries again.
 fn lock_created<R: LockFiles>(
     rt: &R,
     lock_path: &str,
@@ -218,7 +219,7 @@ fn lock_created<R: LockFiles>(
     lock(rt, lock_path, file)
 }
 
-/// Locks the file that another program has created for the lock.
+/// Locks the file that another program has created for the lock. Returns `Busy` if it cannot be opened or locked now.
 fn lock_existing<R: LockFiles>(rt: &R, lock_path: &str) -> io::Result<Attempt<R::File>> {
     match open(rt, lock_path)? {
         Some(file) => lock(rt, lock_path, file),
@@ -240,7 +241,8 @@ fn open<R: LockFiles>(rt: &R, lock_path: &str) -> io::Result<Option<R::File>> {
     }
 }
 
-/// Locks the file that was opened or created at a path. It must still be at its path, and nobody may hold its lock.
+/// Locks the `file` that was opened or created at `lock_path`. Returns `Busy` if the file is no longer at that path or
+/// another program holds its lock.
 fn lock<R: LockFiles>(rt: &R, lock_path: &str, file: R::File) -> io::Result<Attempt<R::File>> {
     let is_held = rt.try_lock(&file)? && is_at(rt, lock_path, &file)?;
     if is_held {
@@ -249,7 +251,7 @@ fn lock<R: LockFiles>(rt: &R, lock_path: &str, file: R::File) -> io::Result<Atte
     Ok(Attempt::Busy)
 }
 
-/// Returns true if the file at a path is the one that was opened.
+/// Returns true if the file at `lock_path` is the opened `file`, and false for another file or none.
 fn is_at<R: LockFiles>(rt: &R, lock_path: &str, file: &R::File) -> io::Result<bool> {
     let opened = file.metadata()?;
     match regular_file::find(rt, lock_path)? {

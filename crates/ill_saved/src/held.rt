@@ -46,24 +46,26 @@ pub trait Held: Drop {
         ensures begins { result ≡ begun first }
         ensures backed { backs (effects.unsaved result) result };
 
-    /// Decodes the sides that `bytes` encode. All their messages may be sent.
+    /// Decodes the sides that `bytes` encode. All their messages may be sent. Fails if the bytes are no record, or if
+    /// memory runs out.
     fn read(alloc: Global, bytes: Vec<u8>) -> Result<Self, DeskFault>
         ensures reads { ReadsRecord effects bytes.items result }
         ensures whole { IfOk result (λ held. AreAllReleased effects held) }
         ensures backed { IfOk result (λ held. backs held held) }
         ensures faults { IfErr result (IsReadFault effects.has_digest) };
 
-    /// Performs `action` on the side `key`.
+    /// Performs `action` on the side `key`. A fault changes nothing.
     fn act(&mut self, alloc: Global, key: &Self::Key, action: &Action) -> Result<(), DeskFault>
         ensures acts { DeskActs effects self.old key.now action.now result self.new }
         ensures backed { StaysBacked effects backs self.old self.new };
 
-    /// Hands `apdu` to the side that it is for.
+    /// Hands `apdu` to the side that it is for, and returns its effect. A fault changes nothing.
     fn take(&mut self, alloc: Global, apdu: &Apdu) -> Result<Taking, DeskFault>
         ensures takes { DeskTakesApdu effects self.old apdu.now result self.new }
         ensures backed { StaysBacked effects backs self.old self.new };
 
-    /// Returns the bytes of the message `number` of the side `key`, to send it.
+    /// Returns the bytes of the message `number` of the side `key`, to send it. The side must be held (otherwise
+    /// `NoSuchTransaction`), and the message issued (otherwise `NoSuchMessage`) and released (otherwise `NotSaved`).
     fn message(&self, alloc: Global, key: &Self::Key, number: Number) -> Result<Vec<u8>, DeskFault>
         ensures { SendsHeld (λ bytes. bytes.items) (effects.found key.now self.now) number result };
 

@@ -83,7 +83,8 @@ impl LandedRecord {
         self.followed_by(alloc, side.standing(), bytes, others)
     }
 
-    /// Returns a record with the messages of this one, and `apdus` after them. `bytes` must end with all of these.
+    /// Returns the copy of a record with `standing` and `bytes`. Its messages are those of this copy, and `apdus` after
+    /// them. `bytes` must end with the encodings of all these messages.
     fn followed_by(
         &self,
         alloc: Global,
@@ -115,8 +116,8 @@ impl LandedRecord {
         })
     }
 
-    /// If `bytes` are this record, takes `live` back to its side and returns true. Otherwise returns false. `released`
-    /// must be the number of released messages. Allocates nothing.
+    /// If `bytes` are this record, takes `live` back to its side and returns true. Otherwise returns false, and changes
+    /// nothing. `released` must be the number of released messages. Allocates nothing.
     pub fn take_back(&self, bytes: &[u8], released: u8, live: &mut Side) -> bool
         requires keeps { HoldsReleased self.now live.old released }
         ensures { GoesBackTo self.now released bytes.now result live.old live.new }
@@ -151,7 +152,7 @@ impl LandedRecord {
     }
 }
 
-/// Returns the bytes at `place`.
+/// Returns the bytes of `messages` at `place`.
 fn piece(messages: &[u8], place: Place) -> &[u8]
     requires { IsWithin (length messages.now) place }
     ensures { result.now ≡ piece_at messages.now place }

@@ -36,8 +36,9 @@ pub fn what_may_be_sent_has_landed()
     follows_issues();
 }
 
-/// Message `number` that a desk may send is message `number` of each record that a loss of power may leave, also during a
-/// save (`meanwhile`). So a desk that starts after a loss of power has each message that has ever left.
+/// Message `number` that a desk may send is message `number` of each record that a loss of power may leave. This holds
+/// during a save, too, by the clause `meanwhile` of `save`. So a desk that starts after a loss of power has each
+/// message that has ever left.
 pub fn what_may_be_sent_outlasts_the_power<S: Store>(desk: &Desk<S>)
     ensures left { (S.state desk.now.store).is_honest ≡ true →
         (left : Option (List ℕ)) (txn : Qualifiers) (number : ℕ) (a : Apdu) → S.leaves desk.now.store left →

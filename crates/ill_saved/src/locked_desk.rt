@@ -20,7 +20,7 @@ pub struct LockedDesk<'a, R: LockFiles> {
 }
 
 impl<'a, R: LockFiles> LockedDesk<'a, R> {
-    /// Starts the desk in the file of `lock`. A fault lets the lock go.
+    /// Starts the desk in the file of `lock`, which has a record (otherwise `NoRecord`). A fault lets the lock go.
     pub fn open(alloc: Global, lock: FileLock<'a, R>) -> Result<LockedDesk<'a, R>, DeskFault>
         ensures whole { IfOk result (λ locked. AreAllReleased many_sides locked.desk.live) }
         ensures faults { IfErr result (λ fault. IsStartAnswer true (Err fault)) }

@@ -82,7 +82,8 @@ impl ManySides {
         }
     }
 
-    /// Performs the first action of a transaction.
+    /// Performs the first action of the transaction `txn`. The action must be one that may begin a transaction
+    /// (otherwise `NoSuchTransaction`), and there must be room (otherwise `DeskFull`).
     fn act_first(&mut self, alloc: Global, txn: &TxnId, action: &Action) -> Result<(), DeskFault>
         requires none { found_by txn_held txn.now self.old.held ≡ None }
         requires role { is_same_role self.old.role (role_for action.now) ≡ true }
@@ -96,7 +97,8 @@ impl ManySides {
         self.hold(alloc, side)
     }
 
-    /// Takes the first message of a transaction.
+    /// Takes the first message of a transaction. The message must be an ILL-Request (otherwise `NoSuchTransaction`),
+    /// and there must be room (otherwise `DeskFull`).
     fn take_first(&mut self, alloc: Global, apdu: &Apdu) -> Result<Taking, DeskFault>
         requires none { found_by txn_held apdu.now.txn self.old.held ≡ None }
         requires other { is_own self.old.role apdu.now.body ≡ false }
@@ -302,7 +304,8 @@ fn is_own(role: Role, body: &Body) -> bool
     }
 }
 
-/// Returns the side of this role and transaction after its first action.
+/// Returns the side of this role and transaction after its first action, which may begin a transaction. Fails only if
+/// memory runs out.
 fn first_act(alloc: Global, role: Role, txn: &TxnId, action: &Action) -> Result<Side, DeskFault>
     requires begins { begins action.now ≡ true }
     requires role { is_same_role role (role_for action.now) ≡ true }
@@ -318,7 +321,8 @@ fn first_act(alloc: Global, role: Role, txn: &TxnId, action: &Action) -> Result<
     }
 }
 
-/// Returns the side of this role after the first message of its transaction.
+/// Returns the side of this role after the first message of its transaction, an ILL-Request. Fails only if memory runs
+/// out.
 fn first_take(alloc: Global, role: Role, apdu: &Apdu) -> Result<Side, DeskFault>
     requires request { is_ill_request apdu.now.body ≡ true }
     requires other { is_own role apdu.now.body ≡ false }

@@ -9,7 +9,8 @@ use Rattle.ill_saved.proofs.Contents.{one_counted}
 use Rattle.ill_saved.proofs.many_sides.counts_of.Goals as goal
 use Rattle.ill_saved.proofs.many_sides.counts_of.Goals.{in-Some+in_ok-push, in_default}
 
--- One more turn of the loop keeps the invariant. A side is at `place`, so the second branch cannot be taken.
+-- One more turn of the loop keeps the invariant. A side is at `place`, so the second branch cannot be taken. `held` are
+-- all sides, `there` says that `side` is at `place`, and `pushed` that its count was appended.
 pub loop-place-preserved : goal.loop-place-preserved
 loop-place-preserved c =
     let held = c.args.sides.now.sides in

@@ -1,6 +1,7 @@
 -- Proves the contract of `ManySides::hold` (`src/many_sides.rt`).
--- A side that began by a transition is backed by the sides that back the others. Below, `seen` says that the sides in
--- memory are those of the desk's contents.
+-- A side that began by a transition is backed by the sides that back the others. Below, `all` are the sides in memory
+-- before the call, and `counted` their released counts. `seen` says that `all` are the sides of the desk's contents,
+-- and `role` that they have its role.
 use Rattle.std.proofs.Common.{rules, ◌≡◌, ◌++◌, ◌+◌, ◌∷◌, [], length, length-append, None, ap, sym, subst, ◌∙◌}
 use Rattle.ill_record.specs.Side.{txn_of, idle_side, IsSideTransition}
 use Rattle.ill_record.specs.Sides.{put_refusal, put_last}

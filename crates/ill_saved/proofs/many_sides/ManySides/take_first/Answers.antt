@@ -10,7 +10,8 @@ use Rattle.ill_saved.proofs.Contents.{may_begin_with, first_begins}
 use Rattle.ill_saved.proofs.many_sides.ManySides.take_first.Goals.{In_ok-side}
 use Rattle.ill_saved.proofs.many_sides.ManySides.take_first.Goals as goal
 
--- The side that has begun may be put. A transition led to it from the idle side of its transaction.
+-- The side that has begun may be put. A transition led to it from the idle side of its transaction. By `taken` the idle
+-- side took the APDU `a`, and by `begun` the side is not idle.
 may : (c : In_ok-side)
     → (put_refusal (sides_held c.args.self.now) c.in_ok-side.side ≡ None)
     × IsSideTransition (idle_side c.args.self.now.role (txn_of c.in_ok-side.side)) c.in_ok-side.side

@@ -6,7 +6,8 @@ use Rattle.ill_saved.specs.ManySides.{counts, whole_of}
 use Rattle.ill_saved.proofs.Contents.{as_many_counted, as_seen, each_consistent, whole_backable, whole_held}
 use Rattle.ill_saved.proofs.many_sides.ManySidesHeld.release.Goals as goal
 
--- Each side has a count, and the sides back themselves.
+-- Each side has a count, and the sides back themselves. `all` are the sides in memory, which are those of the desk's
+-- contents (`seen`) and may be saved (`are`).
 pub invariant_of-self : goal.invariant_of-self
 invariant_of-self c =
     let all = c.self.inside.sides in

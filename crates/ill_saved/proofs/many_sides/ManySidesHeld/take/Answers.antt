@@ -78,10 +78,10 @@ take_first-requires-clause-none c =
     ∙ none_held c.self.inside.sides.role c.self.inside.sides.sides c.self.inside.released.items c.self.invariant.0
     c.args.apdu.now.txn c.in-None.ensures.0
 
--- All bytes that backed the desk's contents back them.
+-- If the side refuses the APDU, all bytes that backed the desk's contents back them.
 pub returns-in_err-answer-in-Some-clause-backed : goal.returns-in_err-answer-in-Some-clause-backed
 returns-in_err-answer-in-Some-clause-backed c = stays_backed (goal.at.returns-in_err-answer-in-Some-clause-backed c).In-Some
 
--- All bytes that backed the desk's contents back them.
+-- If the side takes the APDU, all bytes that backed the desk's contents back the new contents.
 pub returns-in_ok-answer-in-Some-clause-backed : goal.returns-in_ok-answer-in-Some-clause-backed
 returns-in_ok-answer-in-Some-clause-backed c = stays_backed (goal.at.returns-in_ok-answer-in-Some-clause-backed c).In-Some

@@ -7,7 +7,8 @@ use Rattle.ill_saved.specs.ManySides.{idle_held, found_or}
 use Rattle.ill_saved.proofs.Contents.{as_seen, held_there, none_held_there}
 use Rattle.ill_saved.proofs.many_sides.ManySidesHoldings.shown.Goals as goal
 
--- If the side is held, the result has its parts and its released count.
+-- If the side is held, the result has its parts and its released count. By `seen` the sides in memory are those of the
+-- contents `live`. By `held` the entry of `txn` has the side.
 pub returns-in-Some : goal.returns-in-Some
 returns-in-Some c =
     let live = c.args.self.now in
@@ -19,7 +20,8 @@ returns-in-Some c =
     c.of.ensures ∙ ap (shown_of c.in-Some.side.now) c.released_of.ensures.value
     ∙ sym (ap (λ held. shown_of held.side held.released) held)
 
--- If the side is not held, the result has the parts of an idle side.
+-- If the side is not held, the result has the parts of an idle side. By `seen` the sides in memory are those of the
+-- contents `live`. By `held` the entry of `txn` is the idle one.
 pub returns-in-None : goal.returns-in-None
 returns-in-None c =
     let live = c.args.self.now in

@@ -16,7 +16,8 @@ returns-in_default-clause-backed c =
     (subst (λ held. IsBacked one_side OneBacks None held) (sym (c.begin_again.ensures ∙ alone_whole live))
     (idle_again_backs live))
 
--- The held side satisfies `Rules` if the side goes back to the landed record.
+-- The held side satisfies `Rules` if the side goes back to the landed record. `held` is the side in memory with its
+-- count and copy. `back` says that the side went back to the record `bytes`.
 pub invariant_of-self : goal.invariant_of-self
 invariant_of-self c =
     let held = c.self.inside in
@@ -25,7 +26,8 @@ invariant_of-self c =
     c.if-take_back.true c.take_back.ensures in
     (back_rules c.read_again.ensures held.landed_record held.released bytes held.side c.take_back.new.live back).0
 
--- If the side goes back to the landed record, the loaded bytes back it.
+-- If the side goes back to the landed record, the loaded bytes back it. `back` says that the side went back to the
+-- record `bytes`, and `now` is the side after that.
 pub returns-then-take_back-clause-backed : goal.returns-then-take_back-clause-backed
 returns-then-take_back-clause-backed c =
     let held = c.self.inside in

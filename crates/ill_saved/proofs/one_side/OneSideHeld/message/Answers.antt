@@ -4,7 +4,8 @@ use Rattle.std.proofs.Common.{rules, ◌≡◌, ◌≤◌, Vec, Global, ℕ}
 use Rattle.ill_saved.proofs.Desks.{sends_released}
 use Rattle.ill_saved.proofs.one_side.OneSideHeld.message.Goals as goal
 
--- The bytes from the landed record are the bytes that `Sends` asks for.
+-- The bytes from the landed record are the bytes that `Sends` asks for (`sends`). `held` is the side in memory with its
+-- count and copy. By `is` the desk's entry is this side with this count.
 pub returns : goal.returns
 returns c =
     let held = c.self.inside in

@@ -29,7 +29,7 @@ invariant_of-self-2 c =
     (takes_rules c.rows_grow.ensures c.rows_keep_request.ensures held.landed_record held.side c.take.new.self held.released
     c.args.apdu.now c.take.result c.take.ensures c.self.invariant).0
 
--- All bytes that backed the old side back the new one.
+-- All bytes that backed the old side back the new one, after it has taken the APDU.
 pub returns-clause-backed : goal.returns-clause-backed
 returns-clause-backed c =
     let held = c.self.inside in

@@ -15,7 +15,8 @@ use Rattle.ill_words.specs.BadSending.{MisjudgesEnd, ended, marked, unmarked, un
 use Rattle.ill_words.specs.BadSending.{over_requester_sends, unasked_sends, asked_is_silent, open_is_silent}
 use Rattle.ill_words.proofs.SendingLemmas.{open_wants}
 
--- By a requester's record it is nobody's turn in CANCELLED, NOT-SUPPLIED and CHECKED-IN.
+-- By a requester's record it is nobody's turn in CANCELLED, NOT-SUPPLIED and CHECKED-IN, whatever `declined` and
+-- `checked_in` are.
 ended_requester : (s : State) (declined checked_in : Bool)
     → is_among (states.Cancelled ∷ states.NotSupplied ∷ states.CheckedIn ∷ []) s ≡ true
     → is_nobodys (requester_turn_in s declined checked_in) ≡ true
@@ -39,7 +40,8 @@ ended_is_over : (side : Side)
 ended_is_over (sides.Requester x) is = ended_requester x.state (is_declined x) x.checked_in is
 ended_is_over (sides.Responder y) is = ended_responder y.state is
 
--- By a requester's record it is somebody's turn in IDLE, CONDITIONAL, CANCEL-PENDING and RECALL.
+-- By a requester's record it is somebody's turn in IDLE, CONDITIONAL, CANCEL-PENDING and RECALL, whatever `declined`
+-- and `checked_in` are.
 unsettled_requester : (s : State) (declined checked_in : Bool)
     → is_among (states.Idle ∷ states.Conditional ∷ states.CancelPending ∷ states.Recall ∷ []) s ≡ true
     → is_nobodys (requester_turn_in s declined checked_in) ≡ false
@@ -78,7 +80,7 @@ over_requester s declined checked_in received over = search rules
 over_responder : (s : State) → is_nobodys (responder_turn_in s) ≡ true → responder_verbs_in s ≡ []
 over_responder s over = search rules
 
--- If the loan of a side is over, it has no verbs.
+-- If the loan is over for a side, the side has no verbs.
 no_verbs : (side : Side) → is_over side ≡ true → verbs_of side ≡ []
 no_verbs (sides.Requester x) over = over_requester x.state (is_declined x) x.checked_in (is_received_by x) over
 no_verbs (sides.Responder y) over = over_responder y.state over

@@ -26,7 +26,8 @@ not_found_if_absent txn sides held none found =
     true≢false (sym none ∙ ap is_none
     (found_mapped txn_held txn_of side_of (λ h. refl) txn sides ∙ ap (option_map side_of) found))
 
--- If `sides` lack the transaction of `first`, a side found in `sides` is found in `first ∷ sides` too.
+-- If `sides` lack the transaction of `first`, a side found in `sides` is found in `first ∷ sides` too. `same` is true
+-- if `held` and `first` have one transaction.
 found_after : (first held : DeskEntry) (sides : List DeskEntry) (same : Bool)
     → is_same_txn (txn_held held) (txn_held first) ≡ same
     → is_none (side_with (txn_held first) (map side_of sides)) ≡ true

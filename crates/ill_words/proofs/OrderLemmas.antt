@@ -8,7 +8,8 @@ use Rattle.std.specs.List.Sorted.{IsSortedBy, IsStableBy, ties}
 use Rattle.std.proofs.lemmas.Bool.{or_parts, or_from, and_parts, and_from, not-true}
 use Rattle.ill_words.specs.Waiting.{placed, ordered}
 
--- If `map f` commutes with placing `item` in `others`, it commutes with placing it in `first ∷ others`.
+-- If `map f` commutes with placing `item` in `others`, it commutes with placing it in `first ∷ others`. `is_first` is
+-- true if `first` comes before `item`.
 placed_one : {X Y : Type 0} (f : X → Y) (lt : Y → Y → Bool) (item first : X) (others : List X) (is_first : Bool)
     → map f (placed (λ (a b : X). lt (f a) (f b)) item others) ≡ placed lt (f item) (map f others)
     → map f (cond is_first (first ∷ placed (λ (a b : X). lt (f a) (f b)) item others) (item ∷ first ∷ others))
@@ -30,7 +31,8 @@ ordered_mapped f lt [] = refl
 ordered_mapped f lt (item ∷ items) =
     placed_mapped f lt item (ordered (λ a b. lt (f a) (f b)) items) ∙ ap (placed lt (f item)) (ordered_mapped f lt items)
 
--- In this module, `lt` is a strict weak order: it tells if an item comes before another.
+-- In this module, `lt` is a strict weak order: it tells if an item comes before another. `is_first` is true if the head
+-- `y` of a list comes before the item `x` that is placed.
 module _ {X : Type 0} (lt : X → X → Bool) (o : IsStrictWeakOrder lt) where
   -- No item of a list comes before an earlier one in the order `lt`.
   abbrev IsInOrder : List X → Type 0
@@ -134,7 +136,8 @@ module _ {X : Type 0} (lt : X → X → Bool) (o : IsStrictWeakOrder lt) where
   tie_self : (x : X) → ties lt x x ≡ true
   tie_self x = both_tie x x (not_self x) (not_self x)
 
-  -- If `x` and the first kept item of `xs` fail `test`, the first kept item `y` of `x ∷ xs` fails it.
+  -- Let `y` be the first kept item of `x ∷ xs`. If `x` and the first kept item of `xs` fail `test`, `y` fails it.
+  -- `is_kept` is true if `x` is kept.
   first_of_two_kept : (keeps test : X → Bool) (y x : X) (rest xs : List X) (is_kept : Bool)
       → cond is_kept (x ∷ filter keeps xs) (filter keeps xs) ≡ y ∷ rest → test x ≡ false
       → (filter keeps xs ≡ y ∷ rest → test y ≡ false) → test y ≡ false
@@ -159,7 +162,8 @@ module _ {X : Type 0} (lt : X → X → Bool) (o : IsStrictWeakOrder lt) where
   after_first x ys zs false same = same
 
   -- Two lists in order are equal if, for each item `w`, their items that tie with `w` are equal. Neither of the heads
-  -- `y` and `z` comes before the other, so they tie. So both head the items that tie with `y`, and are equal.
+  -- `y` and `z` comes before the other (`not_y`, `not_z`), so they tie. So both head the items that tie with `y`
+  -- (`both`), and are equal (`is`). `after` says that the rests are equal.
   equal_if_ties_equal : (ys zs : List X) → IsInOrder ys → IsInOrder zs → ((w : X) → filter (ties lt w) ys ≡ filter (ties lt w) zs)
       → ys ≡ zs
   equal_if_ties_equal [] [] y_order z_order same = refl

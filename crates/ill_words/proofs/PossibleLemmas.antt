@@ -48,8 +48,8 @@ requester_by_state today side states.CheckedIn declined received = refl
 pub all_of_requester : (today : Option Date) (x : RequesterRecord) → possible_on today (sides.Requester x) ≡ requester_verbs x
 all_of_requester today x = requester_by_state today (sides.Requester x) x.state (is_declined x) (is_received_by x)
 
--- If the date `allows` it, the list begins with `verb`; `others` lack it. So the list has `verb` if and only if the
--- transition is not refused.
+-- The list is `others`, which lack `verb`, with `verb` before them if the date `allows` the action. So the list has
+-- `verb` if and only if the transition is not refused.
 first_by_date : (verb : Verb) (others : List Verb) (refusal : Refusal) (next : State) (body : Body) (allows : Bool)
     → is_verb_among (verb ∷ others) verb ≡ true → is_verb_among others verb ≡ false
     → is_verb_among (cond allows (verb ∷ others) others) verb ≡ is_ok (if_allowed allows refusal (leads_to next body))

@@ -41,7 +41,7 @@ urgency_order = record {
   chain = λ side other third. sooner_chain (deadline_of side.now) (deadline_of other.now) (deadline_of third.now);
 }
 
--- Returns true if the sort key of deadline `a` comes before that of `b`.
+-- Returns true if the sort key of deadline `a` comes before that of `b`. `cmp` compares two days.
 abbrev by_keys : (Date → Date → Ordering) → Option Date → Option Date → Bool
 by_keys cmp a b = is_lt (ordering_then (bool_cmp (is_none a) (is_none b)) (option_cmp cmp a b))
 

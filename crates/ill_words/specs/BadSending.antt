@@ -32,7 +32,8 @@ pub data MisjudgesEnd : Side → Bool → Type 0 where
   -- The side may act. But the answer says that the loan is over.
   may_act : (side : Side) → (verbs_of side ≡ [] → ⊥) → MisjudgesEnd side true
 
--- The Bool is a wrong answer of `wants_sending` for this side.
+-- The Bool is a wrong answer of `wants_sending` for this side. `was_asked` is true if a message of the loan came in
+-- this night.
 pub data MisjudgesSending (was_asked : Bool) : Side → Bool → Type 0 where
   -- The loan is over for the requester. But the answer says that it sends its messages.
   over_requester_sends : (x : RequesterRecord) → is_over (sides.Requester x) ≡ true →

@@ -22,7 +22,8 @@ request_of (Responder y) = y.request
 abbrev pub last_day : Date
 last_day = record { year = 9999; month = 12; day = 31 }
 
--- Returns true if the day `limit` is past on the day `today`. Without a day, returns true if it is past on some day.
+-- Returns true if the day `limit` is past on the day `today`. Without `today`, returns true if `limit` is past on some
+-- day. Without `limit`, returns false.
 abbrev pub is_past : Option Date → Option Date → Bool
 is_past None limit = is_after_due last_day limit
 is_past (Some today) limit = is_after_due today limit
@@ -43,7 +44,7 @@ abbrev pub item_in : Body → Option (List ℕ)
 item_in (IllRequest expiry item) = Some item
 item_in other = None
 
--- Returns the item of a request, if there is a request.
+-- Returns the item of an ILL-Request, and none of another message or without a message.
 abbrev pub item_asked : Option Apdu → Option (List ℕ)
 item_asked None = None
 item_asked (Some a) = item_in a.body

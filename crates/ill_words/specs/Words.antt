@@ -1,5 +1,5 @@
 -- These definitions give the meaning of a word, a wish and a deed. Scripts and command lines have these words. They are
--- this profile's own.
+-- this profile's own. A definition of an optional value returns `None` for words without such a meaning.
 use Rattle.std.specs.Prelude.{ℕ, ◌+◌, ◌-◌, ◌*◌, ◌&&◌, fold, nat_le, Bool, true, false, if◌then◌else◌, ◌==◌, List, [], ◌∷◌, ◌++◌}
 use Rattle.std.specs.Prelude.{length, flat_map, bytes_eq, codes, Option, Some, None, option_map}
 use Rattle.std.specs.List.{list_all}
@@ -54,7 +54,8 @@ is_numeral most word = nat_le 1 (length word) && nat_le (length word) most && li
 abbrev pub decimal_value : List ℕ → ℕ
 decimal_value digits = fold (λ n digit. 10 * n + (digit - 0x30)) 0 digits
 
--- Returns the day that is a number of days after `from`. The number has one to five decimal digits.
+-- Returns the day that is the number of `digits` days after `from`, if the calendar has this day. The number has one to
+-- five decimal digits.
 abbrev pub days_after : Date → List ℕ → Option Date
 days_after from digits =
     if is_numeral 5 digits then result_ok (day_after (decimal_value digits) from) else None
@@ -73,7 +74,7 @@ optional_day_of word = if bytes_eq word (codes "none") then Some None else optio
 abbrev pub is_number : ℕ → Bool
 is_number n = nat_le 1 n && nat_le n 255
 
--- Returns the number of a message. It has one to three digits, with or without leading zeros.
+-- Returns the number of a message, 1 to 255. The word has one to three digits, with or without leading zeros.
 abbrev pub number_of : List ℕ → Option ℕ
 number_of word = if is_numeral 3 word && is_number (decimal_value word) then Some (decimal_value word) else None
 
@@ -138,7 +139,8 @@ deed_with from verb word =
     else if bytes_eq verb (codes "renew-answer") then refusal_of word
     else None
 
--- Returns a Renew-Answer yes with the date `due`, if the first two words are `renew-answer yes`.
+-- Returns a Renew-Answer yes with the date `due`, if `verb` and `word` are `renew-answer yes`. The date may be counted
+-- from `from`.
 unfoldable pub grant_with : Option Date → List ℕ → List ℕ → List ℕ → Option Deed
 grant_with from verb word due =
     if bytes_eq verb (codes "renew-answer") && bytes_eq word (codes "yes")

@@ -28,7 +28,7 @@ pub fn request(side: &Side) -> Option<&Apdu>
     }
 }
 
-/// Returns the expiry date of the request of a loan.
+/// Returns the expiry date of the request of a loan, if the loan has begun and its request has one.
 pub fn expiry(side: &Side) -> Option<Day>
     ensures { result ≡ expiry_of (request_of side.now) }
 {
@@ -63,7 +63,8 @@ fn is_allowed(today: Option<Day>, side: &Side, verb: Verb) -> bool
     }
 }
 
-/// Returns true if the day `limit` is past on the day `today`. Without a day, returns true if it is past on some day.
+/// Returns true if the day `limit` is past on the day `today`. Without `today`, returns true if `limit` is past on some
+/// day. Without `limit`, returns false.
 fn is_past(today: Option<Day>, limit: Option<Day>) -> bool
     ensures { result ≡ is_past today limit }
 {
@@ -86,19 +87,19 @@ pub fn requester_verbs_are_possible()
     ensures { (today : Option Date) (x : RequesterRecord) → possible_on today (sides.Requester x) ≡ requester_verbs x }
 {}
 
-/// An Overdue is possible on a day if, and only if, neither its state nor its date forbids it on that day.
+/// An Overdue is possible on a day exactly if the responder's state and due date allow it on that day.
 pub fn overdue_is_possible_when_it_is_due()
     ensures { (today : Date) (y : ResponderRecord) → is_verb_among (possible_on (Some today) (sides.Responder y)) verbs.Overdue
         ≡ is_ok (transition_of y deeds.Overdue today) }
 {}
 
-/// An Expire is possible on a day if, and only if, neither its state nor its date forbids it on that day.
+/// An Expire is possible on a day exactly if the responder's state and the expiry date allow it that day.
 pub fn expire_is_possible_when_it_has_expired()
     ensures { (today : Date) (y : ResponderRecord) → is_verb_among (possible_on (Some today) (sides.Responder y)) verbs.Expire
         ≡ is_ok (transition_of y deeds.Expire today) }
 {}
 
-/// Returns the item in the request of a loan.
+/// Returns the item in the request of a loan, if the loan has begun.
 pub fn item_asked(side: &Side) -> Option<&Item>
     ensures { option_map (λ item. item.now) result ≡ item_asked (request_of side.now) }
 {

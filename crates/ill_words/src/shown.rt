@@ -8,9 +8,9 @@ use ill_saved::{Shown, Side};
 use ill_values::{Day, OutOfMemory};
 use itoa::{Buffer, Integer};
 
-/// Appends the text of a side, as `SHIPPED 20250315 2/3`. It has its state, its due date or a dash, and the counts of
-/// its released and its issued messages. If memory runs out, `lines` keeps its content, and may end with a proper
-/// prefix of the text.
+/// Appends the text of a side, as `SHIPPED 20250315 2/3`. It has the state, the due date or a dash, and the counts of
+/// released and of issued messages. `released` is the first count. If memory runs out, `lines` keeps its content, and
+/// may end with a proper prefix of the text.
 pub fn push_side(lines: &mut Vec<u8>, side: &Side, released: u8) -> Result<(), OutOfMemory>
     ensures text { OnOk result (lines.new.items ≡ lines.old.items ++ side_text side.now released) }
     ensures prefix { OnErr result (AddsPrefix lines.old.items lines.new.items
@@ -34,7 +34,7 @@ pub fn push_shown(lines: &mut Vec<u8>, shown: Shown) -> Result<(), OutOfMemory>
     push_number(lines, shown.issued)
 }
 
-/// Appends a due date as eight digits, or a dash if there is none.
+/// Appends a due date as eight digits, or a dash if there is none. If memory runs out, a proper prefix may be appended.
 fn push_due(lines: &mut Vec<u8>, due: Option<Day>) -> Result<(), OutOfMemory>
     ensures text { OnOk result (lines.new.items ≡ lines.old.items ++ due_text due) }
     ensures prefix { OnErr result (AddsPrefix lines.old.items lines.new.items (due_text due)) }
@@ -46,7 +46,7 @@ fn push_due(lines: &mut Vec<u8>, due: Option<Day>) -> Result<(), OutOfMemory>
     Ok(())
 }
 
-/// Appends a number in decimal.
+/// Appends a number in decimal. If memory runs out, a proper prefix of its digits may be appended.
 pub fn push_number<I: Integer>(lines: &mut Vec<u8>, number: I) -> Result<(), OutOfMemory>
     ensures text { OnOk result (lines.new.items ≡ lines.old.items ++ I.text number) }
     ensures prefix { OnErr result (AddsPrefix lines.old.items lines.new.items (I.text number)) }

@@ -10,7 +10,7 @@ use ill_saved::{Side, Sides};
 use ill_values::{Day, OutOfMemory};
 use std::alloc::Global;
 
-/// Returns the deadline of a loan: its due date, or else the expiry date of its request.
+/// Returns the deadline of a loan, if it has one: its due date, or else the expiry date of its request.
 pub(crate) fn deadline(side: &Side) -> Option<Day>
     ensures { result ≡ deadline_of side.now }
 {
@@ -71,7 +71,8 @@ pub fn most_urgent_first<'a>(alloc: Global, sides: &'a Sides) -> Result<Vec<&'a 
     Ok(ordered)
 }
 
-/// Returns the key by which loans are sorted. Loans without a deadline come last.
+/// Returns the key by which loans are sorted: true if the loan has no deadline, and the deadline. False comes before
+/// true, so loans without a deadline come last.
 fn urgency(side: &Side) -> (bool, Option<Day>)
     ensures { result ≡ (is_none (deadline_of side.now), deadline_of side.now) }
 {

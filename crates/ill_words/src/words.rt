@@ -101,7 +101,8 @@ fn days_after(from: Day, digits: &[u8]) -> Option<Day>
     }
 }
 
-/// Returns a day or None, if the word encodes a day or is `none`.
+/// Returns `Some` of the day that the word encodes, or `Some(None)` for the word `none`. Returns `None` for any other
+/// word.
 pub(crate) fn optional_day(word: &[u8]) -> Option<Option<Day>>
     ensures { result ≡ optional_day_of word.now }
 {

@@ -67,7 +67,8 @@ fn wish_with_word(verb: &[u8], word: &[u8]) -> Option<Wish>
     }
 }
 
-/// Returns the `Request` for the item that the words from `first` on name, with the expiry date `expiry`.
+/// Returns the `Request` for the item that the words from `first` on name, with the expiry date `expiry`. Returns
+/// `None` if `expiry` is no day and not `none`, or if the item is invalid.
 fn request(
     alloc: Global,
     expiry: &[u8],
@@ -127,7 +128,8 @@ pub fn deed(words: &[&[u8]], from: Option<Day>) -> Option<Deed>
     }
 }
 
-/// Returns a Renew-Answer yes with the due date `day`, if `verb` and `word` are `renew-answer yes`.
+/// Returns a Renew-Answer yes with the due date `day`, if `verb` and `word` are `renew-answer yes`. The date may be
+/// counted from `from`.
 #[tactic(auto, unfolding(crate::specs::Words::grant_with))]
 fn grant(verb: &[u8], word: &[u8], day: &[u8], from: Option<Day>) -> Option<Deed>
     ensures { result ≡ grant_with from verb.now word.now day.now }

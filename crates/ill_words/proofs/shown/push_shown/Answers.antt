@@ -1,5 +1,7 @@
--- Proves the clause `prefix` of `push_shown` (`src/shown.rt`) for each part after which memory may run out. The parts
--- that were added are a prefix of the text.
+-- Proves the clause `prefix` of `push_shown` (`src/shown.rt`) for each part at which memory may run out. The parts
+-- that were added are a prefix of the text. In the answers, `named` is `lines` after the state, and `spaced` after the
+-- space. `dated` is `lines` after the due date, and `apart` after the next space. `counted` is `lines` after the
+-- released count, and `stroked` after the slash.
 use Rattle.std.proofs.Common.{rules, ◌≡◌, ℕ, ◌<◌, List, ◌++◌, ◌∷◌, [], codes, length, ap, ◌∙◌, arith, append_assoc, length-append}
 use Rattle.std.specs.Fmt.{decimal}
 use Rattle.ill_core.specs.State.{state_name}
@@ -29,6 +31,7 @@ to_released shown = to_gap shown ++ decimal shown.released
 abbrev to_stroke : Shown → List ℕ
 to_stroke shown = to_released shown ++ codes "/"
 
+-- Below, `old` is the content of `lines` before the call, and `new` the content after it.
 module _ (shown : Shown) (old new : List ℕ) where
   -- A prefix of the text up to the slash is a prefix of the whole text.
   stroke_all : AddsPrefix old new (to_stroke shown) → AddsPrefix old new (shown_text shown)

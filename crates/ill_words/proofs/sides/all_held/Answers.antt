@@ -7,6 +7,7 @@ use Rattle.ill_words.proofs.SidesLemmas.{list_split_at}
 use Rattle.ill_words.proofs.sides.all_held.Goals as goal
 
 -- Proves the loop invariant of `all_held` after one more entry. `list_split_at` splits off the entry at `place`.
+-- `here` has this entry alone, `left` the entries after it, and `so_far` the entries that were pushed before.
 pub loop-place-preserved : goal.loop-place-preserved
 loop-place-preserved g c =
     let held = c.args.desk.now.live.held in

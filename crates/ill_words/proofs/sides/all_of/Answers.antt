@@ -7,6 +7,7 @@ use Rattle.ill_words.proofs.SidesLemmas.{list_split_at}
 use Rattle.ill_words.proofs.sides.all_of.Goals as goal
 
 -- Proves the loop invariant of `all_of` after one more side. `list_split_at` splits off the side at `place`.
+-- `here` has this side alone, `left` the sides after it, and `so_far` the sides that were pushed before.
 pub loop-place-preserved : goal.loop-place-preserved
 loop-place-preserved c =
     let sides = c.args.sides.now.sides in

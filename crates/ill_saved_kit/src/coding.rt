@@ -9,7 +9,8 @@ use ill_test_kit::marks::TRIES;
 use ill_values::OutOfMemory;
 use std::alloc::Global;
 
-/// Returns the record of one side.
+/// Returns the record of one side. Tries again after each refused growth. Fails if memory runs out without a refusal,
+/// or after `TRIES` tries.
 pub fn encoded(alloc: Global, side: &Side) -> Result<Vec<u8>, OutOfMemory> {
     for _ in 0..TRIES {
         marks::begin(alloc);
@@ -21,7 +22,7 @@ pub fn encoded(alloc: Global, side: &Side) -> Result<Vec<u8>, OutOfMemory> {
     Err(OutOfMemory)
 }
 
-/// Returns the record of many sides.
+/// Returns the record of many sides. Tries again and fails as `encoded` does.
 pub fn all_encoded(alloc: Global, sides: &Sides) -> Result<Vec<u8>, OutOfMemory> {
     for _ in 0..TRIES {
         marks::begin(alloc);
@@ -33,7 +34,7 @@ pub fn all_encoded(alloc: Global, sides: &Sides) -> Result<Vec<u8>, OutOfMemory>
     Err(OutOfMemory)
 }
 
-/// Returns the side whose record is `record`, or the fault.
+/// Returns the side whose record is `record`, or the fault. Tries again after each refused growth.
 pub fn decoded(alloc: Global, record: &[u8]) -> Result<Side, RecordFault> {
     let tries = Tries::of(alloc, record.len());
     for _ in 0..TRIES {
@@ -47,7 +48,7 @@ pub fn decoded(alloc: Global, record: &[u8]) -> Result<Side, RecordFault> {
     Err(RecordFault::OutOfMemory)
 }
 
-/// Returns the sides whose record is `record`, or the fault.
+/// Returns the sides whose record is `record`, or the fault. Tries again after each refused growth.
 pub fn all_decoded(alloc: Global, record: &[u8]) -> Result<Sides, RecordFault> {
     let tries = Tries::of(alloc, record.len());
     for _ in 0..TRIES {

@@ -42,7 +42,8 @@ impl<'a> Folder<'a> {
         Folder { rt, alloc, path }
     }
 
-    /// Returns the call that `words` encode: its word, the name of a file, and other words.
+    /// Returns the call that `words` encode: its word, the name of a file, and other words. Returns `None` if memory
+    /// runs out.
     pub fn call<'w>(&self, words: &'w str) -> Option<FileCall<'w>> {
         let (word, words) = words.split_once(' ').unwrap_or((words, ""));
         let (name, words) = words.split_once(' ').unwrap_or((words, ""));
@@ -58,7 +59,8 @@ impl<'a> Folder<'a> {
         format!(in self.alloc; "{}/{name}", self.path).ok()
     }
 
-    /// Performs `shows NAME`: tells what the path names, without following a link.
+    /// Performs `shows NAME`: tells what the path names, without following a link. Returns `None` if the file cannot be
+    /// read.
     pub fn show(&self, line: &mut Line, path: &str) -> Option<()> {
         match self.rt.symlink_metadata(path) {
             Ok(found) => self.show_found(line, path, &found),
@@ -66,7 +68,7 @@ impl<'a> Folder<'a> {
         }
     }
 
-    /// Writes the kind of a file, and the bytes of an ordinary one.
+    /// Writes the kind of a file, and the bytes of an ordinary one. Returns `None` if these cannot be read.
     fn show_found(&self, line: &mut Line, path: &str, found: &Metadata) -> Option<()> {
         if found.is_symlink() {
             line.text("a link");
@@ -80,7 +82,7 @@ impl<'a> Folder<'a> {
     }
 }
 
-/// Writes `nothing` if the fault is that the path names no file.
+/// Writes `nothing` if the fault is that the path names no file. Returns `None` for any other fault.
 fn write_absent(line: &mut Line, fault: ErrorKind) -> Option<()> {
     if fault != ErrorKind::NotFound {
         return None;

@@ -14,7 +14,7 @@ pub struct Line {
 }
 
 impl Line {
-    /// Returns an empty line.
+    /// Returns an empty line, which gets `#` for `octet`, if there is one.
     pub fn new(alloc: Global, octet: Option<u8>) -> Line {
         Line {
             page: Page::new(alloc),
@@ -81,7 +81,7 @@ impl Line {
         }
     }
 
-    /// Writes bytes in hexadecimal.
+    /// Writes bytes in hexadecimal, or `no bytes` if there are none.
     pub fn octets(&mut self, bytes: &[u8]) {
         if bytes.is_empty() {
             self.text("no bytes");

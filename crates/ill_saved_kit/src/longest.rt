@@ -1,4 +1,4 @@
-//! Makes the side with the longest record.
+//! Makes the side with the longest record. A function returns `None` if memory runs out.
 
 use ill_core::{Responder, State};
 use ill_saved::Side;

@@ -3,6 +3,8 @@
 //! An octet is two hexadecimal digits, and text is in quotes. A name stands for the bytes that a `let` line gave it.
 //! `13=02` puts 02 in the place of octet 13 of the bytes before it. If a name has several values, with `|` between
 //! them, the line is a family, with one case for each value.
+//!
+//! A function returns `None` if its words encode no bytes, or if memory runs out.
 
 use ill_test_kit::count_in;
 use std::alloc::Global;

@@ -9,7 +9,7 @@ use ill_saved::Side;
 use ill_values::{Apdu, Body, Day, Number, TxnId};
 use std::alloc::Global;
 
-/// Writes the parts of a side, and tells if `bytes` are its record.
+/// Writes the parts of a side. Tells if `bytes` are its record and the side can be read back from its record.
 pub fn write_side(alloc: Global, line: &mut Line, side: &Side, bytes: &[u8]) {
     match side {
         Side::Requester(requester) => write_requester(line, requester),

@@ -23,7 +23,7 @@ pub trait Cases {
     /// Returns the count of cases of a line. A family has more than one.
     fn count(names: &Names, call: Self::Call, words: &str) -> usize;
 
-    /// Returns the octet for which the answer of a case has `#`.
+    /// Returns the octet for which the answer of the case `number` of a family has `#`, if there is one.
     fn octet(call: Self::Call, number: usize) -> Option<u8>;
 
     /// Performs a case, and writes its answer. Returns `None` if the words are no call, or what it calls is absent.

@@ -1,4 +1,5 @@
-//! Names sides by words, and writes the sides of one library.
+//! Names sides by words, and writes the sides of one library. A function returns `None` if its words are wrong, or if
+//! memory runs out.
 
 use crate::coding::all_encoded;
 use crate::line::Line;
@@ -45,7 +46,7 @@ pub fn write_count_and_role(alloc: Global, line: &mut Line, sides: &Sides) {
     });
 }
 
-/// Writes each side and their count, and tells if `bytes` are their record.
+/// Writes the count and the role of `sides`, and the head of each. Tells if `bytes` are their record.
 pub fn write_sides(alloc: Global, line: &mut Line, sides: &Sides, bytes: &[u8]) {
     write_count_and_role(alloc, line, sides);
     for place in 0..sides.len() {

@@ -36,14 +36,14 @@ impl StoreBench {
         line.text("new");
     }
 
-    /// Performs `load`: loads the store.
+    /// Performs `load`: loads the store, and writes the result. Returns `None` if there is no store.
     pub fn load(&mut self, line: &mut Line) -> Option<()> {
         self.next = NextCall::Works;
         write_loaded(line, load(self.alloc, self.memory.as_mut()?));
         Some(())
     }
 
-    /// Performs `save BYTES`: saves `bytes` in the store.
+    /// Performs `save BYTES`: saves `bytes` in the store, and writes the result. Returns `None` if there is no store.
     pub fn save(&mut self, line: &mut Line, bytes: &[u8]) -> Option<()> {
         let plan = self.next;
         self.next = NextCall::Works;
@@ -51,7 +51,8 @@ impl StoreBench {
         Some(())
     }
 
-    /// Performs the line `next PLAN` of a case: plans what the next call of the store does. Allocates nothing.
+    /// Performs the line `next PLAN` of a case: plans what the next call of the store does. Returns `None` if `words`
+    /// are no plan or there is no store. Allocates nothing.
     pub fn plan(&mut self, line: &mut Line, words: &str) -> Option<()> {
         let next = plan_of(words)?;
         let store = self.memory.as_mut()?;
@@ -69,7 +70,7 @@ pub fn seen(alloc: Global, store: &MemoryStore) -> Option<String> {
     format!(in alloc; "{store:?}").ok()
 }
 
-/// Returns true if the text of a store is still `before`.
+/// Returns true if the text of a store is still `before`, as `seen` gave it. Returns false if `before` is `None`.
 pub fn is_as_seen(alloc: Global, store: &MemoryStore, before: &Option<String>) -> bool {
     before.is_some() && seen(alloc, store) == *before
 }
@@ -82,7 +83,8 @@ fn new(alloc: Global) -> MemoryStore {
     store
 }
 
-/// Loads `store`, and repeats that while a growth is refused. A refused load must change nothing.
+/// Loads `store`, and repeats that while a growth is refused. A refused load must change nothing: if it does, its
+/// answer is returned.
 fn load(alloc: Global, store: &mut MemoryStore) -> Result<Option<Vec<u8>>, StoreFault> {
     let before = seen(alloc, store);
     for _ in 0..TRIES {
@@ -97,7 +99,7 @@ fn load(alloc: Global, store: &mut MemoryStore) -> Result<Option<Vec<u8>>, Store
 }
 
 /// Saves `bytes` in `store`, whose next call has the plan `plan`, and repeats that while a growth is refused. A refused
-/// save may use up the plan, but must change nothing else.
+/// save may use up the plan, but must change nothing else: if it does, its answer is returned.
 fn save(
     alloc: Global,
     store: &mut MemoryStore,

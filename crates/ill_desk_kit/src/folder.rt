@@ -55,23 +55,24 @@ impl<'a, R: LockFiles> Folder<'a, R> {
         Ok(Folder { rt, alloc, path })
     }
 
-    /// Removes all files of the folder.
+    /// Removes all files of the folder. Returns `None` if that fails.
     pub fn clear(&self) -> Option<()> {
         self.remove()?;
         fs::create_dir(self.rt, self.path.as_str()).ok()
     }
 
-    /// Removes the folder with all its files.
+    /// Removes the folder with all its files. Returns `None` if that fails.
     pub fn remove(&self) -> Option<()> {
         fs::remove_dir_all(&(self.rt, self.alloc), self.path.as_str()).ok()
     }
 
-    /// Returns the path of the file `name`.
+    /// Returns the path of the file `name` of the folder, or `None` if memory runs out.
     fn path_of(&self, name: &str) -> Option<String> {
         format!(in self.alloc; "{}/{name}", self.path).ok()
     }
 
-    /// Performs a call on a file, and prints its answer.
+    /// Performs the call `kind` on the file that the first word of `phrase` names. Prints the bytes of the file for
+    /// `Show`. Returns `None` if the call fails or the words are no call.
     pub fn perform(&self, page: &mut Page, kind: FileCall, phrase: Phrase<'_>) -> Option<()> {
         let (name, others) = phrase.words.split_first()?;
         let path = self.path_of(name.text.as_str())?;
@@ -86,7 +87,8 @@ impl<'a, R: LockFiles> Folder<'a, R> {
         }
     }
 
-    /// Prints the bytes of a file, or that there is no file.
+    /// Prints the bytes of the file at `path`, as `tell_file` does with `words`, or that there is no file. Returns
+    /// `None` if the file cannot be read.
     fn show(&self, page: &mut Page, names: &Names, path: &str, words: &[Word]) -> Option<()> {
         match fs::read(&(self.rt, self.alloc), path) {
             Ok(bytes) => tell_file(page, names, &bytes, words),
@@ -98,7 +100,8 @@ impl<'a, R: LockFiles> Folder<'a, R> {
         }
     }
 
-    /// Performs a command line of `program`, and prints its output and its exit status.
+    /// Performs a command line of `program`, and prints its output. Prints the exit status, too, unless it is 0 and
+    /// something was written. Returns `None` if memory runs out.
     pub fn command<P: Program>(
         &self,
         page: &mut Page,
@@ -115,8 +118,9 @@ impl<'a, R: LockFiles> Folder<'a, R> {
         Some(())
     }
 
-    /// Performs a command line of `program` on files that observe the record of its second word. The first word says
-    /// what a rival does to the lock. Prints the output, the exit status and the observations.
+    /// Performs a command line of `program`. The first word says what a rival does to the lock, and the others are the
+    /// command line. The files observe the record that its second word names. Prints the output, the exit status and
+    /// the observations. Returns `None` if the words are no such call.
     pub fn watched_command<P: Program>(
         &self,
         page: &mut Page,
@@ -149,7 +153,8 @@ impl<'a, R: LockFiles> Folder<'a, R> {
         }
     }
 
-    /// Returns the text `bytes`, in which `SHOWN` replaces the path of the folder.
+    /// Returns the text `bytes`, in which `SHOWN` replaces the path of the folder. Returns `None` if `bytes` are no
+    /// text or memory runs out.
     fn hidden(&self, bytes: &[u8]) -> Option<Vec<u8>> {
         let text = str::from_utf8(bytes).ok()?;
         let mut hidden = Vec::new(self.alloc);
@@ -162,7 +167,8 @@ impl<'a, R: LockFiles> Folder<'a, R> {
         Some(hidden)
     }
 
-    /// Returns a command line: the name of the program, and the words with the paths of files.
+    /// Returns a command line: the name of the program, and the words with the paths of files. Returns `None` if memory
+    /// runs out.
     fn command_line(&self, words: &[Word]) -> Option<Vec<String>> {
         let mut line = Vec::new(self.alloc);
         line.push(String::from_str(self.alloc, "ill").ok()?).ok()?;
@@ -172,7 +178,8 @@ impl<'a, R: LockFiles> Folder<'a, R> {
         Some(line)
     }
 
-    /// Returns the text of a word, or the path of the file that it names after `@`.
+    /// Returns the text of a word, or the path of the file that a bare word names after `@`. Returns `None` if memory
+    /// runs out.
     fn word(&self, word: &Word) -> Option<String> {
         let text = word.text.as_str();
         match text.strip_prefix('@') {
@@ -189,7 +196,7 @@ const RIVALS: [(&str, Rival); 3] = [
     ("replaced-held", Rival::ReplacesHeld),
 ];
 
-/// Returns the rival of a word, or of a count of tries that fail.
+/// Returns the rival that `word` names. A number is the count of the first tries, at which the rival holds the lock.
 fn rival_of(word: &str) -> Option<Rival> {
     match named(&RIVALS, word) {
         Some(rival) => Some(rival),
@@ -197,7 +204,7 @@ fn rival_of(word: &str) -> Option<Rival> {
     }
 }
 
-/// Performs a command line of `program`, and returns the exit status.
+/// Performs a command line of `program`, and returns the exit status, or `None` if memory runs out.
 fn run<P: Program, T: LockFiles>(
     program: &P,
     rt: &T,
@@ -223,7 +230,8 @@ fn tell_seen(page: &mut Page, seen: &Seen) {
     page.text("\n");
 }
 
-/// Prints the bytes of a file. After `is BYTES` it prints only if the file has exactly these bytes.
+/// Prints the bytes of a file. If `words` are `is BYTES` and the file has exactly these bytes, prints `just these`
+/// instead. Returns `None` if BYTES encode none.
 fn tell_file(page: &mut Page, names: &Names, bytes: &[u8], words: &[Word]) -> Option<()> {
     match words {
         [word, wanted @ ..] if word.is("is") => {

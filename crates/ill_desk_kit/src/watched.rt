@@ -62,8 +62,8 @@ pub struct Seen {
 }
 
 impl<'a, R: LockFiles> Watched<'a, R> {
-    /// Returns files that observe the record at the path `record`, and the lock of the file at the path `lock`. The lock
-    /// has a rival.
+    /// Returns files that observe the record at the path `record`, and the lock of the file at the path `lock`. `rival`
+    /// is the other program that uses the lock.
     pub fn new(rt: &'a R, record: &'a str, lock: &'a str, rival: Rival) -> Watched<'a, R> {
         let seen = Seen {
             openings: 0,
@@ -100,7 +100,7 @@ impl<'a, R: LockFiles> Watched<'a, R> {
         });
     }
 
-    /// Returns true if another program could take the lock.
+    /// Returns true if another program could take the lock. Also returns true if the file of the lock cannot be opened.
     fn is_free(&self) -> bool {
         match fs::open(self.rt, self.lock) {
             Ok(file) => self.rt.try_lock(&file).unwrap_or(true),
@@ -132,7 +132,8 @@ impl<'a, R: LockFiles> Watched<'a, R> {
     }
 }
 
-/// The rival holds the lock at the first tries, or acts before the first one. A pause is counted, and takes no time.
+/// The rival holds the lock at the first tries, or acts before the first one. A pause follows each try that fails. It
+/// is counted, and takes no time.
 impl<R: LockFiles> LockFiles for Watched<'_, R> {
     fn try_lock(&self, file: &R::File) -> io::Result<bool> {
         let pauses = self.seen.get().pauses;

@@ -51,8 +51,8 @@ pub fn is_refused(alloc: Global, says_memory: bool) -> bool {
     mark(alloc, if says_memory { END_OF_MEMORY } else { END })
 }
 
-/// Ends a call that may do without the refused memory. Returns true if a growth was refused. Then the case is performed
-/// again from its beginning.
+/// Ends a call that may do without the refused memory; `says_memory` is true if it answered out of memory. Returns true
+/// if a growth was refused. Then the case is performed again from its beginning.
 pub fn is_refused_or_without(alloc: Global, says_memory: bool) -> bool {
     mark(
         alloc,
@@ -64,8 +64,8 @@ pub fn is_refused_or_without(alloc: Global, says_memory: bool) -> bool {
     )
 }
 
-/// Makes a call, and repeats it while one of its growths is refused. A refused call answers `memory`. A call that ends
-/// with another fault is then made once more, as a quiet call.
+/// Makes a call, and repeats it while one of its growths is refused. `memory` is the fault of a lack of memory, and the
+/// answer after `TRIES` tries. A call that ends with another fault is then made once more, as a quiet call.
 pub fn tried<T: Drop, F: Copy + PartialEq + Drop, Call: FnMut() -> Result<T, F>>(
     alloc: Global,
     memory: F,

@@ -130,7 +130,8 @@ impl TestReader {
         self.has_bar = true;
     }
 
-    /// Returns the bytes before the failure that were never read, if the reader is slow or has a bar.
+    /// Returns the bytes before the failure that were never read, if the reader is slow or has a bar. Otherwise returns
+    /// no bytes.
     pub fn unread(&self) -> &[u8] {
         if self.is_slow || self.has_bar {
             self.before.rest()
@@ -207,13 +208,13 @@ impl TestWriter {
         self.is_slow = true;
     }
 
-    /// Makes the writer fail when it has taken `room` bytes.
+    /// Makes the writer fail, as `refusal` says, when it has taken `room` bytes.
     pub fn set_room(&mut self, room: usize, refusal: Failure) {
         self.room = room;
         self.refusal = refusal;
     }
 
-    /// Makes `flush` fail.
+    /// Makes the call `flush` fail, as the failure `flush` says.
     pub fn set_flush(&mut self, flush: Failure) {
         self.flush = flush;
     }

@@ -1,4 +1,5 @@
-//! A block is a list of lines that are performed for each of some values.
+//! A block is a list of lines that are performed for each of some values. A function returns `None` if its words are
+//! wrong, its case does not exist, or memory runs out.
 
 use ill_test_kit::number_in;
 use std::alloc::Global;

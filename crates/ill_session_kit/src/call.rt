@@ -68,7 +68,7 @@ impl<'a> Parts<'a> {
 }
 
 impl<'a> Call<'a> {
-    /// Returns the call that `WORDS [< READER] [> WRITER] [2> WRITER]` encodes.
+    /// Returns the call that `WORDS [< READER] [> WRITER] [2> WRITER]` encodes, or `None` if a stream is wrong.
     pub fn of(alloc: Global, phrase: Phrase<'a>) -> Option<Call<'a>> {
         let parts = Parts::of(phrase.words);
         let source = reader_of(alloc, phrase.names, parts.input.unwrap_or(&[]));
@@ -91,7 +91,7 @@ impl<'a> Call<'a> {
         }
     }
 
-    /// Surrounds the call with marks, and gives its writers room for all bytes.
+    /// Surrounds the call with marks, and gives its writers room for all bytes. Returns `None` if memory runs out.
     pub fn mark(&mut self, alloc: Global) -> Option<()> {
         self.output.taken = Vec::with_capacity(alloc, ROOM).ok()?;
         self.errors.taken = Vec::with_capacity(alloc, ROOM).ok()?;
@@ -106,7 +106,8 @@ impl<'a> Call<'a> {
         }
     }
 
-    /// Ends the marks, and returns `answer`. The fault `memory` is out of memory.
+    /// Ends the marks, and returns `answer`. Notes in this call if the answer was the fault `memory`, and if a growth
+    /// was refused.
     pub fn end<T: Drop, F: PartialEq + Drop>(
         &mut self,
         alloc: Global,
@@ -118,8 +119,8 @@ impl<'a> Call<'a> {
         answer
     }
 
-    /// Ends the marks of an engine, and returns `answer`. The fault `memory` is out of memory. An engine may do without
-    /// memory that only makes it faster.
+    /// Ends the marks of an engine, and returns `answer`. Notes in this call what `end` notes. Unlike another call, an
+    /// engine may do without memory that only makes it faster.
     pub fn end_engine<T: Drop, F: PartialEq + Drop>(
         &mut self,
         alloc: Global,
@@ -131,7 +132,7 @@ impl<'a> Call<'a> {
         answer
     }
 
-    /// Returns the bytes of the input that come before a failure.
+    /// Returns the bytes of the input that come before a failure, or `None` if its words are wrong.
     pub fn input(&self) -> Option<Vec<u8>> {
         bytes_of(self.names, self.input)
     }

@@ -1,4 +1,4 @@
-//! Performs a call that has no memory, such as an engine of a command on streams.
+//! Performs a call that keeps nothing for the next call, such as an engine of a command on streams.
 //!
 //! Marks surround the call. If a growth is refused, the call is made again. At the end each refused try is judged.
 
@@ -23,7 +23,8 @@ struct Try<'a> {
     answer: Page,
 }
 
-/// Performs a call between marks, repeats it while a growth is refused, and prints the answer.
+/// Performs a call between marks, repeats it while a growth is refused, and prints the answer. Returns `None` if
+/// `phrase` is no call, or after `TRIES` tries.
 pub fn perform<E: Engine>(
     alloc: Global,
     page: &mut Page,
@@ -36,7 +37,8 @@ pub fn perform<E: Engine>(
     done
 }
 
-/// Performs a call between marks until no growth is refused. Adds each refused try to `tries`.
+/// Performs a call between marks until no growth is refused, and prints the answer. Adds each refused try to `tries`.
+/// Returns `None` as `perform` does.
 fn try_often<'a, E: Engine>(
     alloc: Global,
     page: &mut Page,
@@ -61,7 +63,8 @@ fn try_often<'a, E: Engine>(
     None
 }
 
-/// Performs a call. Marks surround it if its input is short enough for many tries.
+/// Performs the call of `seen`, and adds its answer to `seen`. Marks surround the call if its input is short enough for
+/// many tries. Returns `None` if `phrase` is no call.
 fn perform_once<E: Engine>(
     alloc: Global,
     engine: &E,
@@ -74,8 +77,8 @@ fn perform_once<E: Engine>(
     engine.answer(alloc, &mut seen.answer, &mut seen.call)
 }
 
-/// Prints each refused try with a wrong result. A try must write only whole lines and answer out of memory, or give the
-/// usual answer.
+/// Prints each refused try with a wrong result. A try that answers out of memory must write only first lines of what
+/// `last` wrote. Any other try must give the answer of `last`.
 fn tell_faults(page: &mut Page, tries: &[Try<'_>], last: &Try<'_>) {
     for seen in tries {
         let is_fine = if seen.call.says_memory {

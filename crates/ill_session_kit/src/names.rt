@@ -2,7 +2,7 @@
 //!
 //! Octets are hexadecimal digits, and text is in quotes. A name stands for the bytes that a `let` line gave it.
 //! `NAME[..9]` is its first nine bytes, and `NAME[9..]` the bytes after them. `1000*NAME` repeats its bytes a thousand
-//! times.
+//! times. A function returns `None` if its words encode no bytes, or if memory runs out.
 
 use crate::words::Word;
 use ill_test_kit::{count_in, number_in};
@@ -15,7 +15,7 @@ pub struct Names {
     alloc: Global,
     /// The names, with the oldest first.
     names: Vec<Name>,
-    /// The count of names that hold in every case.
+    /// The count of names that were given before the first case, and hold in every case. `None` before the first case.
     shared: Option<usize>,
 }
 
@@ -47,7 +47,7 @@ impl Names {
         }
     }
 
-    /// Begins a case: drops the names that another case gave.
+    /// Begins a case: drops the names that another case gave, and keeps those that were given before the first case.
     pub(crate) fn begin_case(&mut self) {
         match self.shared {
             Some(count) => self.names.truncate(count),
@@ -114,7 +114,7 @@ impl Names {
         None
     }
 
-    /// Returns the first name whose bytes, repeated, are `bytes`, and the count of repetitions.
+    /// Returns the first name whose bytes, repeated, are `bytes`, after the count of repetitions.
     pub(crate) fn name_of(&self, bytes: &[u8]) -> Option<(u32, &str)> {
         for name in &self.names {
             if let Some(times) = times_over(bytes, &name.bytes) {

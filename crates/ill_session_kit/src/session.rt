@@ -90,7 +90,7 @@ impl<'a, B: Performs> Session<'a, B> {
         }
     }
 
-    /// Performs a line, or adds it to the block.
+    /// Performs a line, or adds it to the block. Returns `None` if the line is not understood or memory runs out.
     fn take(&mut self, page: &mut Page, line: &str) -> Option<()> {
         if let Some(words) = line.strip_prefix("each ") {
             page.line(line);
@@ -203,7 +203,8 @@ impl<B: Performs> NamedBench<B> {
         self.call(page, &words)
     }
 
-    /// Performs the call of a line.
+    /// Performs the call of a line. `case` begins a case without the names of the last one, and `fresh` one with them.
+    /// `let` gives a name, and the bench performs any other call.
     fn call(&mut self, page: &mut Page, words: &[Word]) -> Option<()> {
         let (first, others) = words.split_first()?;
         match first.text.as_str() {

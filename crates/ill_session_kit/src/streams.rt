@@ -1,4 +1,5 @@
-//! Makes readers and writers from their words.
+//! Makes readers and writers from their words. A function returns `None` if its words encode nothing of its kind, or if
+//! memory runs out.
 
 use crate::names::Names;
 use crate::telling::Telling;
@@ -47,7 +48,8 @@ pub fn reader_of(alloc: Global, names: &Names, words: &[Word]) -> Option<TestRea
     Some(reader)
 }
 
-/// Returns a reader of `BYTES [| BYTES]` that then fails, and then gives the bytes `after`.
+/// Returns a reader of the words `before`, which are `BYTES [| BYTES]`. It then fails as `failure` says, and then gives
+/// the bytes `after`.
 fn reader_with(
     alloc: Global,
     names: &Names,

@@ -58,7 +58,7 @@ fn tell_any(page: &mut Page, mark: &str, bytes: &[u8]) {
     }
 }
 
-/// Prints that `bytes` are `wanted`, or else prints the bytes.
+/// Prints `just these` if `bytes` are `wanted`, or else prints the bytes.
 pub fn tell_compared(page: &mut Page, names: &Names, mark: &str, bytes: &[u8], wanted: &[u8]) {
     if bytes == wanted {
         tell_line(page, mark, "just these");
@@ -67,7 +67,7 @@ pub fn tell_compared(page: &mut Page, names: &Names, mark: &str, bytes: &[u8], w
     }
 }
 
-/// Prints bytes by their name, or else as text, or else as octets.
+/// Prints bytes by their name, or else as text, or else as octets. Prints nothing if there are no bytes.
 pub fn tell_bytes(page: &mut Page, names: &Names, mark: &str, bytes: &[u8]) {
     if bytes.is_empty() {
         return;

@@ -18,7 +18,7 @@ impl Word {
     }
 }
 
-/// Returns copies of the words.
+/// Returns copies of the words, or `None` if memory runs out.
 pub fn copied(alloc: Global, words: &[Word]) -> Option<Vec<Word>> {
     let mut copy = Vec::new(alloc);
     for word in words {
@@ -29,7 +29,7 @@ pub fn copied(alloc: Global, words: &[Word]) -> Option<Vec<Word>> {
     Some(copy)
 }
 
-/// Returns the texts of the words.
+/// Returns the texts of the words, or `None` if memory runs out.
 pub fn texts(alloc: Global, words: &[Word]) -> Option<Vec<&str>> {
     words
         .iter()
@@ -80,7 +80,8 @@ struct Splitter {
 }
 
 /// Returns the words of a line. A word in quotes may be empty or have spaces. In it `\n`, `\r`, `\t`, `\"` and `\\`
-/// stand for a letter. `\x7F` stands for an octet below 80 in hexadecimal.
+/// stand for a letter. `\x7F` stands for an octet below 80 in hexadecimal. Returns `None` if quotes are open at the
+/// end, a backslash has no meaning, or memory runs out.
 pub(crate) fn words_of(alloc: Global, line: &str) -> Option<Vec<Word>> {
     let mut splitter = Splitter {
         alloc,
@@ -95,7 +96,7 @@ pub(crate) fn words_of(alloc: Global, line: &str) -> Option<Vec<Word>> {
 }
 
 impl Splitter {
-    /// Reads a letter.
+    /// Reads a letter. Returns `None` if the letter has no meaning at its place, or if memory runs out.
     fn take(&mut self, letter: char) -> Option<()> {
         match self.place {
             Place::Between => self.begin(letter),
@@ -119,7 +120,7 @@ impl Splitter {
         }
     }
 
-    /// Sets the place of the next letter to `place`.
+    /// Sets the place of the next letter to `place`. Never returns `None`.
     fn go(&mut self, place: Place) -> Option<()> {
         self.place = place;
         Some(())
@@ -165,7 +166,7 @@ impl Splitter {
         self.words.push(Word { text, is_quoted }).ok()
     }
 
-    /// Returns all words at the end of the line.
+    /// Returns all words at the end of the line, or `None` if quotes are open there.
     fn finish(mut self) -> Option<Vec<Word>> {
         match self.place {
             Place::Between => Some(self.words),
@@ -178,7 +179,7 @@ impl Splitter {
     }
 }
 
-/// Returns the letter that a letter after a backslash stands for.
+/// Returns the letter that `letter` stands for after a backslash, or `None` if it stands for none.
 fn meaning(letter: char) -> Option<char> {
     match letter {
         'n' => Some('\n'),

@@ -128,7 +128,7 @@ not_reached true true None reaches = absurd reaches
 not_reached true false None reaches = search rules
 not_reached false has_room None reaches = (refl, refl)
 
--- If an event may not begin a transaction, its outcome is not DeskFull.
+-- If an event may not begin a transaction (`false`), its outcome is not DeskFull, whatever `has_room` and `found` are.
 begins_in_room : (has_room : Bool) (found : Option DeskEntry) → Reaches false has_room found DeskFull → ⊥
 begins_in_room has_room (Some held) reaches = reaches
 begins_in_room has_room None reaches = search rules

@@ -29,13 +29,13 @@ spread_each spot (x ∷ spots) zero other all is =
 spread_each spot (x ∷ spots) (suc i) other all is =
     spread_each spot spots i other (and_parts (is_spread_from spot x) (is_spread_from_all spot spots) all).1 is
 
--- If one mail is spread from another, the other is from it.
+-- If `one` is spread from `other`, `other` is spread from `one`.
 spread_both : (one other : SpotOf) → are_spread one other ≡ true → are_spread other one ≡ true
 spread_both one other is =
     let parts = and_parts (spares one other) (spares other one) is in
     and_from (spares other one) (spares one other) parts.1 parts.0
 
--- If `x` is admitted, if it is a mail, and `x` is `spot`, then `spot` is admitted.
+-- Let `x` be None or a mail that is admitted. If `x` is `spot`, then `spot` is admitted.
 admitted_as : (asked : KeeperOf) (spots : List (Option SpotOf)) (x : Option SpotOf) (spot : SpotOf) →
     IfSome x (λ s. is_admitted asked spots s ≡ true) → x ≡ Some spot → is_admitted asked spots spot ≡ true
 admitted_as asked spots x spot is same = subst (λ (o : Option SpotOf). IfSome o (λ s. is_admitted asked spots s ≡ true)) same is
@@ -63,7 +63,8 @@ add_spread asked spots x spread is = record {
       (last_or spots x mail (Some spot) one);
 }
 
--- If a call appends `spot`, the mail for which it looked, it adds a mail to the run (`AddsMail`).
+-- Let a call append `spot`, the mail for which it looked, to the mails of `run`. Then `AddsMail` leads from `old` to
+-- `new`. `run` and `spots` are copies of `old` and of its mails.
 module _ {D : Type 0} (state : D → DiskState) where
   pub adds : (run old new : MailRunOf D) (spot_of : ℕ → SpotOf) (spots : List (Option SpotOf)) (spot : Option SpotOf) →
       run ≡ old → spots ≡ run.spots → new.spots ≡ run.spots ++ spot ∷ [] →

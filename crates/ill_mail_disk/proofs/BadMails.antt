@@ -18,7 +18,7 @@ use Rattle.ill_mail_disk.specs.BadMails.{other_asks, IsBadGivingBack, over_anoth
 use Rattle.ill_mail_disk.specs.Whole.{PutsWhole}
 use Rattle.ill_mail_disk.proofs.Staying.{is_this}
 
--- ---- losses of power
+-- ---- losses of power: none loses a mail that survives a call, and each leaves the bytes of a flushed file
 
 -- A test that is not true is false.
 not_so : (b : Bool) → (b ≡ true → ⊥) → b ≡ false
@@ -65,7 +65,7 @@ flushed_lasts paths old moment after file f touches is flushed crash =
     let now = touches.files file f is in
     left_at moment.files after.files file now.0 crash.files now.1 (now.2.flushed flushed) ∙ ap Some now.2.bytes
 
--- ---- moves
+-- ---- moves: where a mail is after a call that was to move it, and that no move is bad
 
 -- If a call was to move a claimed mail to `to`, its place is then `Claimed` or `to`.
 claimed_comes : {A E : Type 0} (to place : Place) (x y : Option Place) (answer : Result A E) → x ≡ Some Claimed →

@@ -23,7 +23,7 @@ answers_as answers follows = record {
   honest = answers.honest;
 }
 
--- If a removal of `path` is done, the call has cleared `path`.
+-- If a removal of `path` is done, a call that is then done answers as `Clears` says.
 pub clears_done : {A E F : Type 0} {path : List ℕ} {old : DiskState} {done : Unit {0}} {value : A} {new : DiskState} →
     Answers {E = E} (Changes (after_remove path)) old (Ok done) new →
     Answers {E = F} (Clears path) old (Ok value) new
@@ -32,7 +32,7 @@ clears_done {path = path} {old = old} {new = new} answers = answers_as answers (
   either = inr changed;
 })
 
--- If a removal of `path` failed since no file stands there, a call that is then done has cleared `path`.
+-- If a removal of `path` failed since no file stands there, a call that is then done answers as `Clears` says.
 pub clears_none : {A F : Type 0} {path : List ℕ} {old : DiskState} {fault : DiskFault} {value : A} {new : DiskState} →
     fault ≡ NotFound → Answers (Changes (after_remove path)) old (Err fault) new →
     WantsFile {A = Unit {0}} path old (Err fault) → Answers {E = F} (Clears path) old (Ok value) new
@@ -124,7 +124,7 @@ brings_touches {from = from} {to = to} {old = old} {answer = answer} {new = new}
     (λ same. subst (TouchesOnly (from ∷ to ∷ []) d) (sym same) (touch_self (from ∷ to ∷ []) d))
     (λ moved. subst (TouchesOnly (from ∷ to ∷ []) d) (sym moved) (rename_touches from to d)) brings.either)
 
--- If a rename is done, the call has brought its file (`Brings`).
+-- If a rename from `from` to `to` is done, a call that is then done answers as `Brings` says.
 pub brings_done : {A E F : Type 0} {from to : List ℕ} {old : DiskState} {done : Unit {0}} {value : A} {new : DiskState} →
     Answers {E = E} (Changes (after_rename from to)) old (Ok done) new →
     Answers {E = F} (Brings from to) old (Ok value) new

@@ -73,9 +73,9 @@ flushes_claimed {spot = spot} {old = old} {looked = looked} {new = new} {answer 
           ∙ is_this spot.file (found_at spot.claimed old.now.names) (sym (tells.done was).stands ∙ is));
     }
 
--- ---- the mails of a run
+-- ---- the mails of a run, flushed one after another: `FlushedTo` at first, and after one more mail
 
--- The disk is honest as before. If it is, each crash leaves the mails below `count`.
+-- The disk `new` is honest if `old` is, and not else. If it is honest, each crash leaves the mails below `count`.
 pub record FlushedTo (spots : List (Option SpotOf)) (count : ℕ) (old new : DiskState) : Type 0 where
   pub honest : new.is_honest ≡ old.is_honest
   pub lasts : new.is_honest ≡ true → (mail : ℕ) (spot : SpotOf) → mail < count →
@@ -93,7 +93,7 @@ below_next (suc k) zero lt = inr (omega (arith))
 below_next (suc k) (suc mail) lt =
     ⊎_elim (λ same. inl (ap suc same)) (λ less. inr (omega (arith, less))) (below_next k mail (omega (arith, lt)))
 
--- A flush of the mail that was found, if any, leaves the disk honest as before.
+-- A call that flushes the mail `found`, if it is one, or does nothing, leaves the disk honest as before.
 pub flush_honest : (E : Type 0) (b c : DiskState) (answer : Result (Unit {0}) E) (found : Option (Option SpotOf)) →
     DoesAt (λ spot. FlushesClaim spot b answer c) (DoesNothing b answer c) found → c.is_honest ≡ b.is_honest
 flush_honest E b c answer None does = ap (λ (s : DiskState). s.is_honest) does.same
@@ -129,7 +129,9 @@ module _ (spots : List (Option SpotOf)) (spread : AreSpread spots) (k : ℕ) (a 
   own_last E (Some (Some own)) is value does h spot found = subst (λ (s : SpotOf). Outlasts s c.now)
       (ap (λ (o : Option (Option SpotOf)). found_spot o own) (sym is ∙ found)) (does.lasts h)
 
-  -- If the mails below `k` were flushed, and then `k`, the mails below `next` are. `next` is at most `k + 1`.
+  -- If the mails below `k` were flushed, and then the mail `k`, `FlushedTo` holds of the mails below `next`. `next` is
+  -- at most
+-- `k + 1`.
   pub flushed_next : (E : Type 0) (next : ℕ) (value : Unit {0}) (found : Option (Option SpotOf)) →
       slice_get spots k ≡ found → next ≤ suc k → FlushedTo spots k a b →
       DoesAt (λ spot. FlushesClaim {E = E} spot b (Ok value) c) (DoesNothing {E = E} b (Ok value) c) found →

@@ -1,4 +1,5 @@
--- Lemmas on a claimed mail that is given back: it gets a second name, or is renamed. They go call by call.
+-- Lemmas on a claimed mail that is given back: it gets a second name, or is renamed. They follow `give_mail_back` call
+-- by call.
 use Rattle.std.proofs.Common.{◌≡◌, ◌⊎◌, inl, inr, ⊎_elim, refl, sym, ◌∙◌, ap, subst, ℕ, Bool, true, false, List, [], ◌∷◌, map}
 use Rattle.std.proofs.Common.{Option, Some, None, Result, Ok, Err, option_map}
 use Rattle.std.proofs.lemmas.Bool.{true≢false}
@@ -27,9 +28,10 @@ use Rattle.ill_mail_disk.proofs.Touching.{flush_name_touches, found_settled, nam
 abbrev pub back_paths : SpotOf → List (List ℕ)
 back_paths spot = spot.claimed ∷ spot.waiting ∷ []
 
--- ---- places
+-- ---- the place of a mail whose file has its name in the folder: it moves to `Waiting` or stays, and is not gone
 
--- Let a file have its claimed name but not the one in the folder. If it gets that, its mail moves to `Waiting`.
+-- Let a file have its claimed name but not the one in the folder. If it gets its name in the folder, its mail moves to
+-- `Waiting`. A name with `'` tells if the file has it afterwards.
 comes_to_wait_by : (aside waiting waiting' claimed claimed' : Bool) → waiting ≡ false → claimed ≡ true → waiting' ≡ true →
     place_by aside waiting' claimed' ≡ moved Waiting (place_by aside waiting claimed)
 comes_to_wait_by aside waiting false claimed claimed' w c t = absurd (true≢false (sym t))
@@ -56,7 +58,7 @@ waiting_not_gone_by false true claimed is gone = true≢false (sym (ap is_gone g
 abbrev WaitsIn : SpotOf → List Name → Type 0
 WaitsIn spot names = found_at spot.waiting names ≡ Some spot.file
 
--- If `found` is the file of the mail, `is_file` says so.
+-- If `found` is the file of the mail, `is_file` returns true for it.
 is_it : (spot : SpotOf) (found : Option ℕ) → found ≡ Some spot.file → is_file spot.file found ≡ true
 is_it spot found is = ap (is_file spot.file) is ∙ this_file spot.file
 
@@ -66,7 +68,7 @@ waits_not_gone spot names waits gone =
     waiting_not_gone_by (is_file spot.file (found_at spot.aside names)) (is_file spot.file (found_at spot.waiting names))
     (is_file spot.file (found_at spot.claimed names)) (is_it spot (found_at spot.waiting names) waits) gone
 
--- A mail whose file waits before and after is at its place, if its path aside was not touched.
+-- A mail whose file waits before and after stays at its place, if what stands at its path aside stays.
 waits_still : (spot : SpotOf) (old new : List Name) → WaitsIn spot old → WaitsIn spot new →
     found_at spot.aside new ≡ found_at spot.aside old → place_in new spot ≡ place_in old spot
 waits_still spot old new before after same =
@@ -101,7 +103,7 @@ outlasts_change spot change d waits outlasts names stands gone = ⊎_elim
     waits_not_gone spot (change from.0) (waits from.0) (sym (ap (λ (n : List Name). place_in n spot) from.2) ∙ gone))
     (in_append d.may_stand (map change d.may_stand) names stands)
 
--- ---- a second name
+-- ---- a second name: what the call for it touches, that it gives the mail back, and what stands at the paths then
 
 module _ (spot : SpotOf) (apart : AreApart spot) where
   -- The path aside is not the one in the folder.
@@ -304,7 +306,7 @@ module _ (spot : SpotOf) (apart : AreApart spot) where
             (λ moved_it. subst (Outlasts spot) (sym moved_it) (renamed_outlasts old.now (claimed h) before)) does.either);
       }
 
--- ---- steps
+-- ---- joining calls: answers as `GivesMailBack` says one after another, and what a look leaves
 
 -- A second move to the folder changes nothing.
 moved_twice : (place : Place) → moved Waiting (moved Waiting place) ≡ moved Waiting place

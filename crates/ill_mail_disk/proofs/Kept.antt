@@ -14,7 +14,7 @@ use Rattle.ill_mail_disk.proofs.Calling.{clears_touches, creates_touches, flushe
 use Rattle.ill_mail_disk.proofs.Steps.{change_fits, done_gives, either_way, one_touches, touches_more, touches_then}
 use Rattle.ill_mail_disk.proofs.Touching.{flush_name_touches, found_settled, rename_touches, touch_more, touch_self}
 
--- The path beside a file is longer.
+-- The path beside a file, with `.new` at its end, is not the path of the file: it is longer.
 longer : (path : List ℕ) → path ++ codes ".new" ≡ path → ⊥
 longer path same =
     let long : length (path ++ codes ".new") ≡ length path + 4 = length-append path (codes ".new") in
@@ -25,7 +25,7 @@ pub beside_differs : (keeper : KeeperOf) → keeper ≡ keeper_at keeper.path �
 beside_differs keeper is same = longer keeper.path (sym (ap (λ (k : KeeperOf). k.aside) is) ∙ same)
 
 module _ {keeper : KeeperOf} where
-  -- A look leaves the file.
+  -- A call that changes nothing, done or failed, leaves the file (`LeavesFile`).
   pub look_leaves : {E : Type 0} {old new : DiskState} {answer : Result (Unit {0}) E} →
       Answers (Changes unchanged) old answer new → LeavesFile keeper old new
   look_leaves {old = old} {new = new} {answer = answer} looks = record {
@@ -35,7 +35,7 @@ module _ {keeper : KeeperOf} where
         answer (looks.done h) refl refl;
   }
 
-  -- A flush of the name leaves the file.
+  -- A flush of the name of the file, done or failed, leaves the file.
   pub name_leaves : {E : Type 0} {old new : DiskState} {answer : Result (Unit {0}) E} →
       Answers (Changes (after_flush_name keeper.path)) old answer new → LeavesFile keeper old new
   name_leaves {old = old} {new = new} {answer = answer} flushes = record {
@@ -82,7 +82,7 @@ module _ {keeper : KeeperOf} (differ : keeper.aside ≡ keeper.path → ⊥) whe
     same = λ h. create_same bytes old.now new.now answer (creates.whole h) (creates.done h);
   }
 
-  -- A flush of what stands beside the file leaves it.
+  -- A flush of what stands beside the file leaves the file.
   pub flush_leaves : {E : Type 0} {old new : DiskState} {answer : Result (Unit {0}) E} →
       Answers (Changes (after_flush keeper.aside)) old answer new → LeavesFile keeper old new
   flush_leaves {old = old} {new = new} {answer = answer} flushes = record {

@@ -1,4 +1,4 @@
--- The place of a mail after a change of names.
+-- Lemmas on a mail none of whose paths is touched: it stays at its place, and no crash loses it.
 use Rattle.std.proofs.Common.{◌≡◌, sym, ◌∙◌, ap, ℕ, List, Option}
 use Rattle.ill_disk.specs.Disk.{Name, Disk, found_at}
 use Rattle.ill_disk.specs.Calls.{DiskState}
@@ -7,7 +7,7 @@ use Rattle.ill_mail_disk.specs.Touches.{IsNoneOf, DiffersAt, TouchesOnly, Touche
 use Rattle.ill_mail_disk.specs.MailCalls.{is_file}
 use Rattle.ill_mail_disk.specs.Spots.{SpotOf, place_by, place_in, Outlasts, Survives}
 
--- If what is found at the three paths of a mail stays, the place by it stays.
+-- If what is found at each of the three paths of a mail stays, the place that `place_by` gives stays.
 pub place_at : (spot : SpotOf) (aside aside' waiting waiting' claimed claimed' : Option ℕ) → aside' ≡ aside →
     waiting' ≡ waiting → claimed' ≡ claimed →
     place_by (is_file spot.file aside') (is_file spot.file waiting') (is_file spot.file claimed')
@@ -31,14 +31,14 @@ place_stays paths spot old new spared differs =
     (found_at spot.claimed old) (found_at spot.claimed new) (differs spot.aside spared.aside)
     (differs spot.waiting spared.waiting) (differs spot.claimed spared.claimed)
 
--- Each crash leaves the mail after a change that spares it, if each did before.
+-- If each crash of `old` leaves the mail, and only `paths`, which spare it, are touched, each crash of `new` leaves it.
 pub outlasts_touch : (paths : List (List ℕ)) (spot : SpotOf) (old new : Disk) → IsSpared paths spot →
     TouchesOnly paths old new → Outlasts spot old → Outlasts spot new
 outlasts_touch paths spot old new spared touches outlasts names stands gone =
     let from = touches.left names stands in
     outlasts from.0 from.1 (sym (place_stays paths spot from.0 names spared from.2) ∙ gone)
 
--- A mail survives calls that spare it.
+-- A mail survives calls that touch only `paths`, if these spare it.
 pub survives_touch : (paths : List (List ℕ)) (spot : SpotOf) (old new : DiskState) → IsSpared paths spot →
     Touches paths old new → Survives spot old new
 survives_touch paths spot old new spared touches h outlasts =

@@ -22,7 +22,7 @@ use Rattle.ill_mail_disk.proofs.Steps.{survives_one, survives_then, touches_more
 pub this_file : (file : ℕ) → is_file file (Some file) ≡ true
 this_file file = eq-eqb file file refl
 
--- Returns true if the place is that of a mail that is gone.
+-- Returns true if the place is `Gone`.
 abbrev pub is_gone : Place → Bool
 is_gone Gone = true
 is_gone place = false
@@ -34,7 +34,8 @@ waiting_stays_by to true waiting claimed is = refl
 waiting_stays_by to false true claimed is = refl
 waiting_stays_by to false false claimed is = absurd (true≢false (sym is))
 
--- Let a file have its claimed name but not the one in the folder. If it then stands aside, its mail moves to `Aside`.
+-- Let a file have its claimed name but not the one in the folder. If it then stands aside, its mail moves to `Aside`. A
+-- name with `'` tells if the file has it afterwards.
 aside_by : (aside aside' waiting waiting' claimed claimed' : Bool) → waiting ≡ false → claimed ≡ true → aside' ≡ true →
     place_by aside' waiting' claimed' ≡ moved Aside (place_by aside waiting claimed)
 aside_by aside false waiting waiting' claimed claimed' w c a = absurd (true≢false (sym a))
@@ -49,7 +50,7 @@ not_gone_aside true waiting claimed is gone = true≢false (sym (ap is_gone gone
 not_gone_aside false waiting claimed is gone = true≢false (sym is)
 
 module _ (spot : SpotOf) (apart : AreApart spot) where
-  -- No path of the mail is that of its reason.
+  -- The path of the reason is none at which the file of the mail may stand.
   reason_spared : IsSpared (spot.reason ∷ []) spot
   reason_spared = record {
     claimed = (apart.claimed.1.1.0, tt);
@@ -99,8 +100,8 @@ module _ (spot : SpotOf) (apart : AreApart spot) where
         waits (ap (is_file spot.file) found ∙ this_file spot.file)
         (ap (is_file spot.file) (stands_aside d.names) ∙ this_file spot.file)
 
--- Let a rename of its claimed path move a claimed mail to `to`. Then a call that renames, done or not, moves it there
--- or leaves it.
+-- Let a rename of the claimed path to `path` move a claimed mail to the place `to`. Then a call that renames, done or
+-- not, moves the mail to `to` or leaves it.
 brought_comes : {A E : Type 0} (spot : SpotOf) (old new : Disk) (answer : Result A E) (to : Place) (path : List ℕ) →
     found_at spot.claimed old.names ≡ Some spot.file →
     place_in (after_rename spot.claimed path old).names spot ≡ moved to (place_in old.names spot) →
@@ -166,18 +167,18 @@ module _ {A E F : Type 0} {spot : SpotOf} {old looked seen written new : DiskSta
   so_far = stays_then (stays_tell (aside_paths spot) spot first)
       (stays_then (stays_tell (aside_paths spot) spot second) (stays_reason spot apart seen written writes))
 
-  -- The disk is still honest then.
+  -- The disk is still honest when the reason is written.
   was_honest : old.is_honest ≡ true → written.is_honest ≡ true
   was_honest h = so_far.touches.honest ∙ h
 
-  -- The file of the mail still stands at its claimed path.
+  -- When the reason is written, the file of the mail still stands at its claimed path.
   still_claimed : old.is_honest ≡ true → found_at spot.claimed written.now.names ≡ Some spot.file
   still_claimed h =
       (writes.moments (second.honest ∙ first.honest ∙ h)).last.now spot.claimed (reason_spared spot apart).claimed
       ∙ ap (λ (d : Disk). found_at spot.claimed d.names) ((second.done (first.honest ∙ h)).same ∙ (first.done h).same)
       ∙ is_this spot.file (found_at spot.claimed old.now.names) (sym (first.done h).stands ∙ is)
 
-  -- The file of the mail still does not wait.
+  -- When the reason is written, the file of the mail still does not wait.
   still_not_waiting : old.is_honest ≡ true → is_file spot.file (found_at spot.waiting written.now.names) ≡ false
   still_not_waiting h =
       ap (is_file spot.file)

@@ -15,7 +15,7 @@ use Rattle.ill_mail_disk.proofs.Staying.{stays_tell, stays_then}
 use Rattle.ill_mail_disk.proofs.Steps.{touches_then}
 use Rattle.ill_mail_disk.proofs.Calling.{clears_touches}
 
--- A mail that stays is kept.
+-- If a mail stays from `a` to `b`, and was kept at `a`, it is kept at `b`.
 pub stays_kept : {paths : List (List ℕ)} {spot : SpotOf} {a b : DiskState} → StaysThere paths spot a b → StaysKept spot a b
 stays_kept stays h kept =
     ⊎_elim (λ gone. inl (stays.place h ∙ gone)) (λ outlasts. inr (stays.survives h outlasts).last) kept
@@ -33,7 +33,7 @@ aside_stays_by : (aside waiting claimed : Bool) → aside ≡ true →
 aside_stays_by true waiting claimed is = refl
 aside_stays_by false waiting claimed is = absurd (true≢false (sym is))
 
--- If a file stands neither aside nor in the folder, a removal brings its mail to `Gone`.
+-- If a file stands neither aside nor in the folder, a move to `Gone` brings its mail to `Gone`, wherever it was.
 alone_by : (aside waiting claimed : Bool) → aside ≡ false → waiting ≡ false →
     moved Gone (place_by aside waiting claimed) ≡ Gone
 alone_by true waiting claimed a w = absurd (true≢false a)
@@ -93,7 +93,8 @@ aside_stays {spot = spot} {old = old} {looked = looked} is stays tells =
     (is_file spot.file (found_at spot.waiting looked.now.names)) (is_file spot.file (found_at spot.claimed looked.now.names))
     (sym (tells.done (stays.touches.honest ∙ h)).stands ∙ is)))
 
--- Let the file be found neither in the folder nor aside. A call that clears its claimed path removes the mail.
+-- Let the file be found neither in the folder nor aside. A call that clears its claimed path then answers as
+-- `RemovesMail` says.
 pub removes_claimed : {A E F G : Type 0} {spot : SpotOf} {old first second looked new : DiskState} {waits aside : Bool}
     {answer : Result A E} → AreApart spot → waits ≡ false → aside ≡ false →
     StaysThere (spot.claimed ∷ []) spot old first →

@@ -9,7 +9,7 @@ use Rattle.ill_mail_disk.specs.Spots.{SpotOf, Place, Gone, place_by, place_in, m
 use Rattle.ill_mail_disk.proofs.Apart.{AreApart}
 use Rattle.ill_mail_disk.proofs.Placing.{place_at}
 
--- If a file has lost its claimed name, its mail has moved to `Gone`: only a claimed mail moves.
+-- If a file has lost its claimed name, its mail has moved to `Gone` if it was claimed. Else it is at its place.
 moved_to_gone_by : (aside waiting claimed : Bool) → place_by aside waiting false ≡ moved Gone (place_by aside waiting claimed)
 moved_to_gone_by true waiting claimed = refl
 moved_to_gone_by false true claimed = refl
@@ -24,7 +24,8 @@ unclaimed_by to false true claimed is = refl
 unclaimed_by to false false false is = refl
 unclaimed_by to false false true is = absurd (true≢false is)
 
--- If the claimed name of a mail is gone, and no other has changed, the mail has moved to `Gone`.
+-- If the claimed name of a mail is gone, and no other has changed, a mail that was claimed is gone. Any other mail is
+-- at its place (`moved Gone`).
 pub gone_place : (spot : SpotOf) (old new : List Name) → AreApart spot → DiffersAt (spot.claimed ∷ []) old new →
     found_at spot.claimed new ≡ None → place_in new spot ≡ moved Gone (place_in old spot)
 gone_place spot old new apart differs gone =
@@ -35,7 +36,8 @@ gone_place spot old new apart differs gone =
     ∙ moved_to_gone_by (is_file spot.file (found_at spot.aside old)) (is_file spot.file (found_at spot.waiting old))
     (is_file spot.file (found_at spot.claimed old))
 
--- If a call clears the claimed path of a mail, done or not, the mail moves to `Gone`. If the call failed, it may stay.
+-- If a call clears the claimed path of a mail, done or not, the place of the mail changes as `Comes Gone` says: a
+-- claimed mail is gone. If the call failed, the mail may stay.
 pub cleared_comes : {A E : Type 0} (spot : SpotOf) (old new : Disk) (answer : Result A E) → AreApart spot →
     DiffersAt (spot.claimed ∷ []) old.names new.names → Clears spot.claimed old answer new →
     ((new ≡ old) ⊎ (found_at spot.claimed new.names ≡ None)) →

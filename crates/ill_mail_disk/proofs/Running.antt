@@ -29,7 +29,7 @@ use Rattle.ill_mail_disk.proofs.Steps.{survives_none}
 spared_by_none : (spot : SpotOf) → IsSpared [] spot
 spared_by_none spot = record { claimed = tt; waiting = tt; aside = tt }
 
--- If `path` is none of a mail, and `paths` spare it, `path` and `paths` spare it.
+-- If `path` is none of the paths of a mail, and `paths` spare the mail, `path` and `paths` together spare it.
 spared_by : (path : List ℕ) (paths : List (List ℕ)) (spot : SpotOf) → misses path spot ≡ true → IsSpared paths spot →
     IsSpared (path ∷ paths) spot
 spared_by path paths spot is rest =
@@ -72,7 +72,8 @@ aside_spares spot other is =
     (spared_by spot.claimed (spot.aside ∷ []) other parts.1
     (spared_by spot.aside [] other parts.2 (spared_by_none other)))
 
--- Let two mails be spread and have two names. Then the paths touched when `spot` is given back spare `other`.
+-- Let two mails be spread, and have come under different names. Then the paths touched when `spot` is given back spare
+-- `other`. `here` has the tests of the paths of `spot`, and `there` those of `other`.
 back_spares : (spot other : SpotOf) → are_spread spot other ≡ true → bytes_eq spot.waiting other.waiting ≡ false →
     IsSpared (back_paths spot) other
 back_spares spot other is name =
@@ -94,9 +95,9 @@ kept_spares keeper spot is =
     spared_by keeper.aside (keeper.path ∷ []) spot parts.1
     (spared_by keeper.path [] spot parts.0 (spared_by_none spot))
 
--- ---- content
+-- ---- the content of a file: it stays if no call touches its path
 
--- Each file that was made has its bytes, if all files are kept.
+-- If all files are kept, the file `file`, which was made, has the bytes that it had.
 kept_bytes : (old new : List File) (file : ℕ) → KeepsFiles old new → file < length old →
     bytes_of new (Some file) ≡ bytes_of old (Some file)
 kept_bytes old new file kept made =
@@ -104,7 +105,7 @@ kept_bytes old new file kept made =
     let now = kept file _ is in
     ap (option_map (λ (f : File). f.bytes)) now.1 ∙ ap Some now.2.bytes ∙ sym (ap (option_map (λ (f : File). f.bytes)) is)
 
--- If all files are kept, a read of the file that was found gives what it gave.
+-- If all files are kept, the file `found`, if there is one, has the bytes that it had.
 found_bytes : (path : List ℕ) (d : Disk) (files : List File) (found : Option ℕ) →
     ((file : ℕ) → found ≡ Some file → file < length d.files) → KeepsFiles d.files files →
     bytes_of files found ≡ bytes_of d.files found
@@ -120,9 +121,9 @@ content_stays paths path old new none touches h =
     ∙ found_bytes path old.now new.now.files (found_at path old.now.names)
     (λ file is. found_made old.now path file (touches.whole h) is) last.files
 
--- ---- runs
+-- ---- the state of a run: lemmas on lists of places, and on calls that move one mail or none
 
--- Returns the state of a run by that of its disk.
+-- Returns the state of a run with these mails, whose messages that ask are in the file of `asked`, by its disk's state.
 abbrev pub state_at : KeeperOf → List (Option SpotOf) → DiskState → RunState
 state_at asked spots state = record {
   places = map (place_of state.now.names) spots;
@@ -130,7 +131,8 @@ state_at asked spots state = record {
   is_honest = state.is_honest;
 }
 
--- If the mail that was found has one place in `old` and `new`, the places found are equal.
+-- If `found`, if it is a mail, has the same place in the names `old` and `new`, the places of `found` in both are
+-- equal.
 same_at : (old new : List Name) (found : Option (Option SpotOf)) →
     ((spot : SpotOf) → found ≡ Some (Some spot) → place_in new spot ≡ place_in old spot) →
     option_map (place_of new) found ≡ option_map (place_of old) found
@@ -162,7 +164,7 @@ may_come_there to before after x y is_x is_y may = ⊎_elim
     (λ stays. inl (is_y ∙ ap Some stays ∙ sym is_x))
     (λ moves. inr (is_y ∙ ap Some moves ∙ sym (ap (option_map (moved to)) is_x))) may
 
--- Returns the mail that was found, or another if there is none.
+-- Returns `found`, if it is a mail, and `other` if not.
 abbrev pub found_spot : Option (Option SpotOf) → SpotOf → SpotOf
 found_spot None other = other
 found_spot (Some None) other = other
@@ -215,7 +217,8 @@ module _ (asked : KeeperOf) (spots : List (Option SpotOf)) (spread : IsSpread as
   SparesOthers which paths =
       (other : ℕ) (spot : SpotOf) → which other → slice_get spots other ≡ Some (Some spot) → IsSpared paths spot
 
-  -- Each mail that is spared by the paths that a call touches has the same place in both lists.
+  -- Let a call touch only `paths`, which spare the mails of the numbers `which`. Then these mails have the same places
+  -- in the lists before and after.
   spared_stay : (which : ℕ → Type 0) (paths : List (List ℕ)) → SparesOthers which paths → Touches paths a b →
       a.is_honest ≡ true → (other : ℕ) → which other →
       slice_get (state_at asked spots b).places other ≡ slice_get (state_at asked spots a).places other
@@ -276,7 +279,7 @@ module _ (asked : KeeperOf) (spots : List (Option SpotOf)) (spread : IsSpread as
     honest = touches.honest;
   }
 
-  -- Each mail that is spared by the paths that a call touches survives the call.
+  -- Let a call touch only `paths`, which spare the mails of the numbers `which`. Then these mails survive the call.
   spared_survive : (which : ℕ → Type 0) (paths : List (List ℕ)) → SparesOthers which paths → Touches paths a b →
       (other : ℕ) (spot : SpotOf) → which other → slice_get spots other ≡ Some (Some spot) → Survives spot a b
   spared_survive which paths spared touches other spot ok is =
@@ -293,7 +296,8 @@ module _ (asked : KeeperOf) (spots : List (Option SpotOf)) (spread : IsSpread as
       (λ differ. spared_survive (λ o. o ≡ mail → ⊥) paths spared touches other spot differ at)
       (cases_eq other mail)
 
-  -- Let the `paths` of a mail spare each mail from which it is spread. Then those of the mail `mail` spare all others.
+  -- Let the paths that `paths` gives of a mail spare each mail from which it is spread. Then the paths of the mail
+  -- `mail` spare all other mails of the run.
   spread_spares : (paths : SpotOf → List (List ℕ)) →
       ((spot other : SpotOf) → are_spread spot other ≡ true → IsSpared (paths spot) other) → (mail : ℕ) (spot : SpotOf) →
       slice_get spots mail ≡ Some (Some spot) → SparesOthers (λ other. other ≡ mail → ⊥) (paths spot)
@@ -305,13 +309,14 @@ module _ (asked : KeeperOf) (spots : List (Option SpotOf)) (spread : IsSpread as
       (misses asked.path spot ≡ true) × (misses asked.aside spot ≡ true) × (bytes_eq spot.reason asked.path ≡ false)
   off mail spot is = off_parts asked spot (spread.asked mail spot is)
 
-  -- The three paths of a mail are not that of the messages that ask.
+  -- No path at which the file of the mail `mail` may stand is the path of the messages that ask.
   off_three : (mail : ℕ) (spot : SpotOf) → slice_get spots mail ≡ Some (Some spot) → IsNoneOf (paths_of spot) asked.path
   off_three mail spot is = none_of (paths_of spot) asked.path (off mail spot is).0
 
-  -- ---- the calls
+  -- ---- the calls that remove a mail, put it aside or give it back: what they answer, and that the mails survive
 
-  -- If a call removes the mail that was found, if there is one, it answers as `MovesInRun` says.
+  -- Let a call remove the mail `mail`, if the run takes care of it. `found` is the mail, if there is one. Then the call
+  -- answers as `MovesInRun` says.
   pub removes_in_run : {E : Type 0} (mail : ℕ) (answer : Result (Unit {0}) E) (found : Option (Option SpotOf)) →
       slice_get spots mail ≡ found → DoesAt (λ spot. RemovesMail spot a answer b) (DoesNothing a answer b) found →
       MovesInRun Gone mail (state_at asked spots a) answer (state_at asked spots b)
@@ -323,7 +328,7 @@ module _ (asked : KeeperOf) (spots : List (Option SpotOf)) (spread : IsSpread as
       (spread_spares (λ s. s.claimed ∷ []) removed_spares mail spot is)
       ((off_three mail spot is).0, tt) does.touches does.comes
 
-  -- Each other mail survives the removal.
+  -- Each mail of the run but `mail` survives a call that removes the mail `mail`, if the run takes care of it.
   pub others_survive : {E : Type 0} (mail : ℕ) (answer : Result (Unit {0}) E) (found : Option (Option SpotOf)) →
       slice_get spots mail ≡ found → DoesAt (λ spot. RemovesMail spot a answer b) (DoesNothing a answer b) found →
       (other : ℕ) (spot : SpotOf) → (other ≡ mail → ⊥) → slice_get spots other ≡ Some (Some spot) → Survives spot a b
@@ -339,7 +344,7 @@ module _ (asked : KeeperOf) (spots : List (Option SpotOf)) (spread : IsSpread as
       (λ gone. inl (place_stays paths spot a.now.names b.now.names spared (touches.moments h).last.now ∙ gone))
       (λ outlasts. inr (survives_touch paths spot a b spared touches h outlasts).last) kept
 
-  -- Each mail that is kept before a removal is kept after it.
+  -- Each mail that is kept before a call that removes the mail `mail` is kept after it.
   pub removal_keeps : {E : Type 0} (mail : ℕ) (answer : Result (Unit {0}) E) (found : Option (Option SpotOf)) →
       slice_get spots mail ≡ found → DoesAt (λ spot. RemovesMail spot a answer b) (DoesNothing a answer b) found →
       AllStayKept spots a b
@@ -353,7 +358,8 @@ module _ (asked : KeeperOf) (spots : List (Option SpotOf)) (spread : IsSpread as
       (spread_spares (λ s. s.claimed ∷ []) removed_spares mail own is other spot differ at) does.touches)
       (cases_eq other mail)
 
-  -- If a call puts the mail that was found aside, if there is one, it answers as `MovesInRun` says.
+  -- Let a call put the mail `mail` aside, if the run takes care of it. `found` is the mail, if there is one. Then the
+  -- call answers as `MovesInRun` says.
   pub aside_in_run : {E : Type 0} (mail : ℕ) (answer : Result (Unit {0}) E) (found : Option (Option SpotOf)) →
       slice_get spots mail ≡ found → DoesAt (λ spot. PutsMailAside spot a answer b) (DoesNothing a answer b) found →
       MovesInRun Aside mail (state_at asked spots a) answer (state_at asked spots b)
@@ -367,7 +373,7 @@ module _ (asked : KeeperOf) (spots : List (Option SpotOf)) (spread : IsSpread as
         ((off_three mail spot is).0, ((off_three mail spot is).1.1.0, tt)),
       ) does.touches does.comes
 
-  -- Each mail survives when one is put aside.
+  -- Each mail of the run survives a call that puts the mail `mail` aside, if the run takes care of it.
   pub aside_survive : {E : Type 0} (mail : ℕ) (answer : Result (Unit {0}) E) (found : Option (Option SpotOf)) →
       slice_get spots mail ≡ found → DoesAt (λ spot. PutsMailAside spot a answer b) (DoesNothing a answer b) found →
       (other : ℕ) (spot : SpotOf) → slice_get spots other ≡ Some (Some spot) → Survives spot a b
@@ -384,7 +390,8 @@ module _ (asked : KeeperOf) (spots : List (Option SpotOf)) (spread : IsSpread as
       back_spares own second (spread.mails mail other own second is at (λ same. differ (sym same)))
       (alone other (Some second) differ at)
 
-  -- Nothing is done, or `spot` is given back, and each other mail has come under another name.
+  -- A call does nothing, or gives `spot`, the mail `mail`, back. In the second case each other mail has come under
+  -- another name.
   abbrev pub GivesOrLeaves : ℕ → SpotOf → Type 0
   GivesOrLeaves mail spot = (b ≡ a) ⊎ (HasComeAlone spots mail spot.waiting × GivesMailBack spot a b)
 
@@ -410,7 +417,8 @@ module _ (asked : KeeperOf) (spots : List (Option SpotOf)) (spread : IsSpread as
     honest = given.1.touches.honest;
   }
 
-  -- If a call gives the mail that was found back, if there is one, it answers as `GivesBackInRun` says.
+  -- Let a call give the mail `mail` back or leave it, if the run takes care of it. `found` is the mail, if there is
+  -- one. Then the call answers as `GivesBackInRun` says.
   pub given_in_run : {E : Type 0} (mail : ℕ) (answer : Result (Unit {0}) E) (found : Option (Option SpotOf)) →
       slice_get spots mail ≡ found → DoesAt (GivesOrLeaves mail) (DoesNothing a answer b) found →
       GivesBackInRun mail (state_at asked spots a) (state_at asked spots b)
@@ -418,7 +426,7 @@ module _ (asked : KeeperOf) (spots : List (Option SpotOf)) (spread : IsSpread as
   given_in_run mail answer (Some None) is does = nothing_given mail does.same
   given_in_run mail answer (Some (Some spot)) is does = mail_given mail spot is does
 
-  -- Each mail survives when one is given back, or is left.
+  -- Each mail of the run survives a call that gives `own`, the mail `mail`, back or leaves it.
   given_survive_one : (mail : ℕ) (own : SpotOf) → slice_get spots mail ≡ Some (Some own) → GivesOrLeaves mail own →
       (other : ℕ) (spot : SpotOf) → slice_get spots other ≡ Some (Some spot) → Survives spot a b
   given_survive_one mail own is (inl same) other spot at = same_survives spot same
@@ -426,7 +434,7 @@ module _ (asked : KeeperOf) (spots : List (Option SpotOf)) (spread : IsSpread as
       all_survive mail own (back_paths own) is (alone_spares mail own is given.0) given.1.touches given.1.survives other
       spot at
 
-  -- Each mail survives a call that gives the mail that was found back, if there is one.
+  -- Each mail of the run survives a call that gives the mail `mail` back or leaves it, if the run takes care of it.
   pub given_survive : {E : Type 0} (mail : ℕ) (answer : Result (Unit {0}) E) (found : Option (Option SpotOf)) →
       slice_get spots mail ≡ found → DoesAt (GivesOrLeaves mail) (DoesNothing a answer b) found →
       (other : ℕ) (spot : SpotOf) → slice_get spots other ≡ Some (Some spot) → Survives spot a b
@@ -434,7 +442,7 @@ module _ (asked : KeeperOf) (spots : List (Option SpotOf)) (spread : IsSpread as
   given_survive mail answer (Some None) is does other spot at = same_survives spot does.same
   given_survive mail answer (Some (Some own)) is does other spot at = given_survive_one mail own is does other spot at
 
-  -- ---- messages that ask
+  -- ---- the call that keeps messages that ask: what it answers, and that the mails stay and survive
 
   -- The paths of the messages that ask spare each mail.
   asked_spares : SparesOthers (λ other. Unit {0}) (kept_paths asked)
@@ -464,14 +472,15 @@ module _ (asked : KeeperOf) (spots : List (Option SpotOf)) (spread : IsSpread as
   keeps_survive touches other spot at =
       spared_survive (λ o. Unit {0}) (kept_paths asked) asked_spares touches other spot tt at
 
--- ---- what the calls ask of lists
+-- ---- lemmas on lists: an empty one, and equal lists of mails
 
 -- A list of length 0 is empty.
 pub empty_is : (bytes : List ℕ) → (length bytes == 0) ≡ true → [] ≡ bytes
 empty_is [] is = refl
 empty_is (byte ∷ bytes) is = absurd (omega (arith, eqb-true (length (byte ∷ bytes)) 0 is))
 
--- If the lists `l` and `m` are equal, a mail given back in `l`, or left, is so in `m`.
+-- Let the lists of mails `l` and `m` be equal. If a call does as `GivesOrLeaves` says in a run with the mails `l`, it
+-- does so with `m`.
 pub given_at : {E : Type 0} (l m : List (Option SpotOf)) (a b : DiskState) (mail : ℕ) (found : Option (Option SpotOf))
     (answer : Result (Unit {0}) E) → l ≡ m →
     DoesAt (λ spot. (b ≡ a) ⊎ (HasComeAlone l mail spot.waiting × GivesMailBack spot a b)) (DoesNothing a answer b) found →

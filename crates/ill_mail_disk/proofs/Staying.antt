@@ -1,4 +1,4 @@
--- A mail that stays at its place while other paths are touched.
+-- Lemmas on `StaysThere`: a mail stays during looks, and while paths are touched that are none of its own.
 use Rattle.std.proofs.Common.{◌≡◌, sym, ◌∙◌, ap, subst, ℕ, Bool, true, List, Result}
 use Rattle.std.proofs.lemmas.Bool.{eqb-true}
 use Rattle.ill_disk.specs.Disk.{Disk, found_at}
@@ -19,7 +19,7 @@ pub is_this : (file : ℕ) (found : Option ℕ) → is_file file found ≡ true 
 is_this file None is = absurd (true≢false (sym is))
 is_this file (Some other) is = ap Some (eqb-true other file is)
 
--- A mail stays during a look.
+-- A mail stays during a look that tells if a file stands at a path (`Tells`).
 pub stays_tell : {E : Type 0} {path : List ℕ} {file : ℕ} (paths : List (List ℕ)) (spot : SpotOf) {old : DiskState}
     {answer : Result Bool E} {new : DiskState} → Answers (Tells path file) old answer new → StaysThere paths spot old new
 stays_tell {path = path} {file = file} paths spot {old = old} {answer = answer} {new = new} tells = record {
@@ -30,7 +30,7 @@ stays_tell {path = path} {file = file} paths spot {old = old} {answer = answer} 
       (λ h done outlasts. subst (Outlasts spot) (sym done.same) outlasts);
 }
 
--- A mail stays during a look that finds.
+-- A mail stays during a look that gives the file at a path (`Finds`).
 pub stays_find : {E : Type 0} {path : List ℕ} (paths : List (List ℕ)) (spot : SpotOf) {old : DiskState}
     {answer : Result (Option Found) E} {new : DiskState} → Answers (Finds path) old answer new →
     StaysThere paths spot old new
@@ -42,7 +42,7 @@ stays_find {path = path} paths spot {old = old} {answer = answer} {new = new} fi
       (λ h done outlasts. subst (Outlasts spot) (sym done.same) outlasts);
 }
 
--- A mail stays while a few paths are touched that are none of its own.
+-- A mail stays while only the paths `few` are touched, if none of them is its own. `many` has all paths of `few`.
 pub stays_spared : (few many : List (List ℕ)) (spot : SpotOf) (old new : DiskState) → IsSpared few spot →
     ((p : List ℕ) → IsNoneOf many p → IsNoneOf few p) → Touches few old new → StaysThere many spot old new
 stays_spared few many spot old new spared fits touches = record {

@@ -1,4 +1,4 @@
--- The steps from call to call: what they touch together, and that a mail survives each.
+-- Lemmas on one call and on two, one after the other: what they touch, and that a mail survives them.
 use Rattle.std.proofs.Common.{◌≡◌, ⊎_elim, sym, ◌∙◌, subst, ℕ, true, List, Result, Ok, Err, OnOk}
 use Rattle.ill_disk.specs.Disk.{Disk}
 use Rattle.ill_disk.specs.Calls.{DiskState, Answers, Changes}
@@ -47,14 +47,14 @@ change_fits paths change touches (Err fault) d e is = ⊎_elim
     (λ same. subst (TouchesOnly paths d) (sym same) (touch_self paths d))
     (λ changed. subst (TouchesOnly paths d) (sym changed) (touches d)) is
 
--- If `P` holds of a disk with a change and without it, it holds after the call, done or failed.
+-- If `P` holds of a disk before `change` and after it, `P` holds after a call that makes `change`, done or failed.
 pub either_way : {E : Type 0} (P : Disk → Type 0) (change : Disk → Disk) (old new : Disk) (result : Result (Unit {0}) E) →
     Changes change old result new → P old → P (change old) → P new
 either_way P change old new (Ok done) is without_it with_it = subst P (sym is) with_it
 either_way P change old new (Err fault) is without_it with_it =
     ⊎_elim (λ same. subst P (sym same) without_it) (λ changed. subst P (sym changed) with_it) is
 
--- If `P` holds of a disk with a change, it holds after a call that is done.
+-- If `P` holds of a disk after `change`, `P` holds after a call that is done and makes `change`.
 pub done_gives : {E : Type 0} (P : Disk → Type 0) (change : Disk → Disk) (old new : Disk) (result : Result (Unit {0}) E) →
     Changes change old result new → P (change old) → OnOk result (P new)
 done_gives P change old new (Ok done) is with_it = subst P (sym is) with_it
@@ -62,7 +62,7 @@ done_gives P change old new (Err fault) is with_it = tt
 
 -- ---- a mail that survives
 
--- A mail survives where nothing happens.
+-- A mail survives if no call is made.
 pub survives_none : (spot : SpotOf) (a : DiskState) → Survives spot a a
 survives_none spot a h outlasts = throughout_nothing outlasts
 
@@ -72,7 +72,7 @@ pub survives_then : (spot : SpotOf) (a b c : DiskState) → b.is_honest ≡ a.is
 survives_then spot a b c honest first second h outlasts =
     let before = first h outlasts in joins before (second (honest ∙ h) before.last)
 
--- If each crash that left a mail before a call leaves it after the call, the mail survives the call.
+-- Let one call be made. If each crash leaves the mail after the call when each crash left it before, the mail survives.
 pub survives_one : {A E : Type 0} (does : Disk → Result A E → Disk → Type 0) (spot : SpotOf) (old : DiskState)
     (answer : Result A E) (new : DiskState) → Answers does old answer new →
     ((old.is_honest ≡ true) → does old.now answer new.now → Outlasts spot old.now → Outlasts spot new.now) →

@@ -35,7 +35,7 @@ tested (other ∷ paths) path none =
     and_from (not (bytes_eq other path)) (is_none_of paths path)
     (fails (bytes_eq other path) (λ is. none.0 ((bytes_eq-Decides other path).0 is))) (tested paths path none.1)
 
--- ---- a set of paths
+-- ---- a set of paths: a search in it, and a key that is put into it
 
 -- `bytes_eq` gives the same in either order of two paths.
 same_bytes : (one other : List ℕ) → bytes_eq one other ≡ bytes_eq other one
@@ -79,7 +79,7 @@ last_key (first ∷ keys) key path =
 
 -- A set into which a key is inserted has got its path.
 module _ (keys : List (Vec ℕ Global)) (key : Vec ℕ Global) where
-  -- If the key was there before, the set as it is has its path.
+  -- If `keys` have the key before it is inserted, they have its path as they are.
   there : list_any (is_same_path key) keys ≡ true → GetsPath key.items (bytes_all keys) (bytes_all keys)
   there is other = by (bytes_eq key.items other) refl
     where
@@ -92,12 +92,12 @@ module _ (keys : List (Vec ℕ Global)) (key : Vec ℕ Global) where
           ∙ sym (ap (λ test. not test && is_none_of (bytes_all keys) other) equal)
       by false equal = sym (ap (λ test. not test && is_none_of (bytes_all keys) other) equal)
 
-  -- After `insert_key` the set has got the path of the key, if it was there before or not.
+  -- After `insert_key` the set has got the path of the key, whether `keys` had it before or not.
   gets : (new : List (Vec ℕ Global)) → new ≡ insert_key is_same_path keys key →
       GetsPath key.items (bytes_all keys) (bytes_all new)
   gets new is = by (list_any (is_same_path key) keys) refl
     where
-      -- By cases of `test`, which says if the key was there before.
+      -- By cases of `test`, which is true if `keys` had the key before.
       by : (test : Bool) → list_any (is_same_path key) keys ≡ test → GetsPath key.items (bytes_all keys) (bytes_all new)
       by true found = subst (λ (l : List (Vec ℕ Global)). GetsPath key.items (bytes_all keys) (bytes_all l))
           (sym (is ∙ ap (λ (test : Bool). if test then keys else keys ++ key ∷ []) found)) (there found)
@@ -113,9 +113,10 @@ key_put (Ok done) keys new key path old bytes same put =
     (subst (λ (p : List ℕ). GetsPath p (bytes_all keys) (bytes_all new)) bytes (gets keys key new put))
 key_put (Err fault) keys new key path old bytes same put = tt
 
--- ---- one other mail
+-- ---- one other mail: a mail is spread from it if, and only if, six tests pass
 
--- Six tests pass. For two mails, three are of the paths of one, and three of the paths of the other.
+-- Six tests pass. Below, three are of the paths that a mail leaves or takes, and three of the paths at which its file
+-- may stand.
 record AllSix (a b c d e f : Bool) : Type 0 where
   first : a ≡ true
   second : b ≡ true
@@ -147,7 +148,7 @@ all_six a b c d e f are =
     (and_from (a && b) c (and_from a b are.first are.second) are.third)
     (and_from (d && e) f (and_from d e are.fourth are.fifth) are.sixth)
 
--- If three paths are none of three others, the others are none of them.
+-- If `a`, `b` and `c` are none of `d`, `e` and `f`, the latter three are none of the first.
 module _ (a b c d e f : List ℕ) where
   turned : IsNoneOf (d ∷ e ∷ f ∷ []) a → IsNoneOf (d ∷ e ∷ f ∷ []) b → IsNoneOf (d ∷ e ∷ f ∷ []) c →
       IsNoneOf (a ∷ b ∷ c ∷ []) d × IsNoneOf (a ∷ b ∷ c ∷ []) e × IsNoneOf (a ∷ b ∷ c ∷ []) f
@@ -158,7 +159,8 @@ module _ (a b c d e f : List ℕ) where
   )
 
 module _ (spot other : SpotOf) where
-  -- The six tests of a mail by the paths of one other.
+  -- The six tests of `spot` beside `other` pass. The file of `other` may stand at no path that `spot` leaves or takes.
+  -- The file of `spot` may stand at no path that `other` leaves or takes.
   abbrev PassesBeside : Type 0
   PassesBeside = AllSix (misses spot.reason other) (misses spot.claimed other) (misses spot.aside other)
       (is_none_of (aside_paths other) spot.claimed) (is_none_of (aside_paths other) spot.waiting)
@@ -196,26 +198,26 @@ module _ (spot other : SpotOf) where
         sixth = tested (paths_of spot) other.aside back.2;
       }
 
--- ---- all mails
+-- ---- all mails of a run: a mail is spread from them if, and only if, it is free by the sets
 
--- The six tests of a mail by the paths of all mails pass.
+-- The six tests of `spot` beside each mail of `spots` pass (`PassesBeside`).
 abbrev PassesBesideAll : SpotOf → List (Option SpotOf) → Type 0
 PassesBesideAll spot spots = AllSix (misses_mails paths_of spots spot.reason) (misses_mails paths_of spots spot.claimed)
     (misses_mails paths_of spots spot.aside) (misses_mails aside_paths spots spot.claimed)
     (misses_mails aside_paths spots spot.waiting) (misses_mails aside_paths spots spot.aside)
 
--- The six tests of a mail by the paths of one more, if there is one.
+-- The six tests of `spot` beside `x` pass, or `x` is None.
 abbrev PassesBesideIfAny : SpotOf → Option SpotOf → Type 0
 PassesBesideIfAny spot x = AllSix (misses_mail paths_of spot.reason x) (misses_mail paths_of spot.claimed x)
     (misses_mail paths_of spot.aside x) (misses_mail aside_paths spot.claimed x)
     (misses_mail aside_paths spot.waiting x) (misses_mail aside_paths spot.aside x)
 
--- A mail that is spread from one more passes the tests.
+-- A mail that is spread from `x`, or for which `x` is None, passes the six tests beside `x`.
 one_clears : (spot : SpotOf) (x : Option SpotOf) → is_spread_from spot x ≡ true → PassesBesideIfAny spot x
 one_clears spot None is = record { first = refl; second = refl; third = refl; fourth = refl; fifth = refl; sixth = refl }
 one_clears spot (Some other) is = spread_clears spot other is
 
--- A mail that passes the tests is spread from one more.
+-- A mail that passes the six tests beside `x` is spread from `x`.
 one_spreads : (spot : SpotOf) (x : Option SpotOf) → PassesBesideIfAny spot x → is_spread_from spot x ≡ true
 one_spreads spot None are = refl
 one_spreads spot (Some other) are = clear_spreads spot other are
@@ -266,7 +268,7 @@ clear_of_all spot (x ∷ spots) are =
       sixth = f.1;
     })
 
--- The six tests of the sets are those of all mails.
+-- Let the sets `taken` have the paths of the mails `spots`. A mail is tested by the sets as by all these mails.
 module _ (taken : TakenOf) (spots : List (Option SpotOf)) (are : AreTaken taken spots) (spot : SpotOf) where
   -- A mail that is free by the sets is spread from all.
   free_spreads : is_free taken spot ≡ true → is_spread_from_all spot spots ≡ true
@@ -302,7 +304,7 @@ module _ (taken : TakenOf) (spots : List (Option SpotOf)) (are : AreTaken taken 
   pub free_is_spread : is_free taken spot ≡ is_spread_from_all spot spots
   free_is_spread = same_test (is_free taken spot) (is_spread_from_all spot spots) free_spreads spread_frees
 
--- ---- one more mail
+-- ---- one more mail: the sets with its paths, and what the sets then tell of a mail and of its name
 
 -- A path that is tested against `spots`, and then against `x`, may be tested against `x` first.
 last_first : (of : SpotOf → List (List ℕ)) (path : List ℕ) (spots : List (Option SpotOf)) (x : Option SpotOf) →
@@ -342,14 +344,14 @@ misses_each of path (x ∷ spots) zero spot misses is =
 misses_each of path (x ∷ spots) (suc i) spot misses is =
     misses_each of path spots i spot (and_parts (misses_mail of path x) (misses_mails of spots path) misses).1 is
 
--- If the places have not the path at which `mine` would wait, no mail of the run waits there.
+-- If the path at which `mine` would wait is not among the places of the sets, no mail of the run waits at this path.
 none_waits : (taken : TakenOf) (spots : List (Option SpotOf)) → AreTaken taken spots → (mine spot : SpotOf) (i : ℕ) →
     is_none_of taken.places mine.waiting ≡ true → slice_get spots i ≡ Some (Some spot) → spot.waiting ≡ mine.waiting → ⊥
 none_waits taken spots are mine spot i lacks is same =
     (none_of (paths_of spot) mine.waiting
     (misses_each paths_of mine.waiting spots i spot (sym (are.places mine.waiting) ∙ lacks) is)).1.0 same
 
--- A name that is not shared after one more mail is that of one mail at most.
+-- If a path is not shared after one more mail, at most one mail of all waits at this path (`IsOnce`).
 once_more : (mine : SpotOf) (old new : TakenOf) (spots : List (Option SpotOf)) → AreTaken old spots → GetsPaths mine old new
     → (path : List ℕ) → is_none_of new.shared path ≡ true → IsOnce path (spots ++ Some mine ∷ [])
 once_more mine old new spots are gets path lacks mail other spot second one two is_one is_two =
@@ -371,7 +373,8 @@ once_more mine old new spots are gets path lacks mail other spot second one two 
     mine_is : (z : SpotOf) → Some mine ≡ Some z → z.waiting ≡ path → mine.waiting ≡ path
     mine_is z same is = ap (λ (s : SpotOf). s.waiting) (ap (value_or mine) same) ∙ is
 
--- Sets of the paths of mails that get those of one more have those of all.
+-- If the sets `old` have the paths of `spots`, and `new` are `old` with the paths of `spot`, `new` have the paths of
+-- all.
 put_taken : (spot : SpotOf) (old new : TakenOf) (spots : List (Option SpotOf)) → AreTaken old spots → GetsPaths spot old new
     → AreTaken new (spots ++ Some spot ∷ [])
 put_taken spot old new spots are gets = record {
@@ -384,7 +387,7 @@ put_taken spot old new spots are gets = record {
   shared = once_more spot old new spots are gets;
 }
 
--- If there are sets with the paths of one more mail, they have those of all.
+-- As `put_taken`, for sets that may be None since memory ran out.
 pub known_with : (spot : SpotOf) (old : TakenOf) (sets : Option TakenOf) → IfSome sets (λ new. GetsPaths spot old new) →
     (spots : List (Option SpotOf)) → AreTaken old spots → AreKnown sets (spots ++ Some spot ∷ [])
 known_with spot old None gets spots are = tt
@@ -416,7 +419,7 @@ never_passes : (test : Bool) → (test ≡ true → ⊥) → test ≡ false
 never_passes true never = absurd (never refl)
 never_passes false never = refl
 
--- Another mail has come under another name, if that of a mail is not shared.
+-- If the name of the mail `mail` is not shared, another mail of the run has come under another name.
 other_name : (taken : TakenOf) (spots : List (Option SpotOf)) → AreTaken taken spots → (mail other : ℕ) (spot : SpotOf)
     (x : Option SpotOf) → slice_get spots mail ≡ Some (Some spot) → is_none_of taken.shared spot.waiting ≡ true →
     (other ≡ mail → ⊥) → slice_get spots other ≡ Some x → has_come_as spot.waiting x ≡ false

@@ -1,4 +1,4 @@
--- What each change of a disk leaves alone.
+-- Lemmas on what each change of files, names or a disk leaves alone.
 use Rattle.std.proofs.Common.{◌≡◌, ⊎_elim, refl, ◌∙◌, ap, ℕ, zero, suc, true, false, List, [], ◌∷◌, ◌++◌, length, map}
 use Rattle.std.proofs.Common.{slice_get, Option, Some, None}
 use Rattle.std.proofs.lemmas.Option.{none-some}
@@ -10,7 +10,7 @@ use Rattle.ill_disk.proofs.Names.{found_with_other, found_without_other, found_w
 use Rattle.ill_mail_disk.specs.MailCalls.{with_found, after_flush_name}
 use Rattle.ill_mail_disk.specs.Touches.{IsNoneOf, DiffersAt, KeepsFiles, TouchesOnly}
 
--- ---- files
+-- ---- files: each keeps its bytes when a file is made or flushed
 
 -- If no file changes, each keeps its bytes.
 pub files_stay : (files : List File) → KeepsFiles files files
@@ -38,18 +38,18 @@ files_flushed (e ∷ files) zero (suc k) f is = (f, is, record { bytes = refl; f
 files_flushed (e ∷ files) (suc j) zero f is = (f, is, record { bytes = refl; flushed = λ was. was })
 files_flushed (e ∷ files) (suc j) (suc k) f is = files_flushed files j k f is
 
--- Each file keeps its bytes, if the one that was found is flushed.
+-- Each file keeps its bytes, if the file `found` is flushed, or none if there is no file.
 pub files_flush_found : (files : List File) (found : Option ℕ) → KeepsFiles files (flush_found files found)
 files_flush_found files None = files_stay files
 files_flush_found files (Some j) = files_flushed files j
 
--- ---- names
+-- ---- names: a change of names differs at its own paths alone
 
--- A file that is put at a path changes no other.
+-- A file that is put at a path changes what stands at no other path.
 pub put_differs : (path : List ℕ) (file : ℕ) (names : List Name) → DiffersAt (path ∷ []) names (with_name path file names)
 put_differs path file names p none = found_with_other p path file names none.0
 
--- A path that is removed changes no other.
+-- The removal of a path changes what stands at no other path.
 pub without_differs : (path : List ℕ) (names : List Name) → DiffersAt (path ∷ []) names (without path names)
 without_differs path names p none = found_without_other p path names none.0
 
@@ -60,7 +60,7 @@ rename_differs from to None names p none = refl
 rename_differs from to (Some file) names p none =
     found_with_other p to file (without from names) none.1.0 ∙ found_without_other p from names none.0
 
--- What is put at a path, or taken from it, changes no other.
+-- A file that is put at a path, or the removal of the path if there is none, changes what stands at no other path.
 pub found_differs : (path : List ℕ) (found : Option ℕ) (names : List Name) →
     DiffersAt (path ∷ []) names (with_found path found names)
 found_differs path None names = without_differs path names
@@ -72,7 +72,7 @@ pub found_settled : (path : List ℕ) (found : Option ℕ) (names : List Name) �
 found_settled path None names = found_without path names
 found_settled path (Some file) names = found_with path file names
 
--- ---- disks
+-- ---- disks: which paths each change of a disk touches, and two changes together
 
 -- A disk differs from itself at no path.
 pub touch_self : (paths : List (List ℕ)) (d : Disk) → TouchesOnly paths d d
@@ -109,7 +109,7 @@ touch_more few many fits a b touches = record {
   files = touches.files;
 }
 
--- If a change of names differs only at `paths`, the change of the disk touches only these.
+-- If `change` changes names only at `paths`, the change of the disk by it touches only `paths`.
 pub change_touches : (paths : List (List ℕ)) (change : List Name → List Name) (d : Disk) →
     ((names : List Name) → DiffersAt paths names (change names)) → TouchesOnly paths d (after_change change d)
 change_touches paths change d differs = record {
@@ -121,7 +121,7 @@ change_touches paths change d differs = record {
   files = files_stay d.files;
 }
 
--- A new file touches its path.
+-- The making of a file at `path` touches `path` alone.
 pub create_touches : (path bytes : List ℕ) (d : Disk) → TouchesOnly (path ∷ []) d (after_create path bytes d)
 create_touches path bytes d =
     let new : File = record { bytes = bytes; is_flushed = false } in
@@ -133,17 +133,17 @@ create_touches path bytes d =
       files = files_with d.files (new ∷ []);
     }) (change_touches (path ∷ []) change more (put_differs path (length d.files)))
 
--- A removal touches its path.
+-- The removal of `path` touches `path` alone.
 pub remove_touches : (path : List ℕ) (d : Disk) → TouchesOnly (path ∷ []) d (after_remove path d)
 remove_touches path d = change_touches (path ∷ []) (without path) d (without_differs path)
 
--- A rename touches its two paths.
+-- A rename touches its two paths alone.
 pub rename_touches : (from to : List ℕ) (d : Disk) → TouchesOnly (from ∷ to ∷ []) d (after_rename from to d)
 rename_touches from to d =
     change_touches (from ∷ to ∷ []) (with_rename from to (found_at from d.names)) d
     (rename_differs from to (found_at from d.names))
 
--- A new name touches its path.
+-- A new name at `path` touches `path` alone.
 pub name_touches : (path : List ℕ) (file : ℕ) (d : Disk) → TouchesOnly (path ∷ []) d (after_change (with_name path file) d)
 name_touches path file d = change_touches (path ∷ []) (with_name path file) d (put_differs path file)
 
@@ -155,7 +155,7 @@ flush_touches path d = record {
   files = files_flush_found d.files (found_at path d.names);
 }
 
--- A flush of a name touches its path.
+-- A flush of the name `path` touches `path` alone.
 pub flush_name_touches : (path : List ℕ) (d : Disk) → TouchesOnly (path ∷ []) d (after_flush_name path d)
 flush_name_touches path d =
     let settle : List Name → List Name = with_found path (found_at path d.names) in record {

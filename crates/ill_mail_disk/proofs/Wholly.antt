@@ -16,11 +16,12 @@ use Rattle.ill_mail_disk.proofs.Touching.{remove_touches}
 kept_first : (path : List ℕ) (old : DiskState) → HasKept path old old
 kept_first path old = record { moments = λ h. throughout_nothing (refl, old_left path old.now); honest = refl }
 
--- If the disk `d` has what stood at the path, it has that or new bytes.
+-- If `d` has at the path what `old` had (`IsOld`), it has that or all of `bytes` (`IsOldOrNew`).
 old_is_fine : (path bytes : List ℕ) (old d : Disk) → IsOld path old d → IsOldOrNew path bytes old d
 old_is_fine path bytes old d kept = (inl kept.0, λ found left. inl (kept.1 found left))
 
--- Let the disk `d` have what stood at the path in `old`. Then a disk that is old or new beside `d` is so beside `old`.
+-- Let `d` have at the path what `old` had. If `x` has there what `d` had, or all of `bytes`, it has what `old` had, or
+-- all of `bytes`.
 fine_again : (path bytes : List ℕ) (old d : Disk) → IsOld path old d → (x : Disk) → IsOldOrNew path bytes d x →
     IsOldOrNew path bytes old x
 fine_again path bytes old d kept x fine = (

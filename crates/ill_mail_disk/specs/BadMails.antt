@@ -15,7 +15,7 @@ pub data LosesMail (spot : SpotOf) (old new : DiskState) : Type 0 where
       Crash moment after → ((path : List ℕ) → In (paths_of spot) path → found_at path after.names ≢ Some spot.file) →
       LosesMail spot old new
 
--- A call on the mail `mail`, to move it to the place `to`, cannot do this in a run with an honest disk.
+-- A call that was to move `mail` to the place `to` cannot lead a run with an honest disk from `old` to `new`.
 pub data IsBadMove {A E : Type 0} (to : Place) (mail : ℕ) (old : RunState) (answer : Result A E) (new : RunState) : Type 0
   where
     -- Another mail has moved.
@@ -33,13 +33,13 @@ pub data IsBadMove {A E : Type 0} (to : Place) (mail : ℕ) (old : RunState) (an
     -- The messages that ask have changed.
     other_asks : old.is_honest ≡ true → new.asked ≢ old.asked → IsBadMove to mail old answer new
 
--- A mail cannot be given back so on an honest disk.
+-- A call that gives the mail `spot` back cannot lead an honest disk from `old` to `new`.
 pub data IsBadGivingBack (spot : SpotOf) (old new : DiskState) : Type 0 where
   -- A file stood at the name of the mail in the folder, and does not stand there now.
   over_another : (file : ℕ) → old.is_honest ≡ true → found_at spot.waiting old.now.names ≡ Some file →
       found_at spot.waiting new.now.names ≢ Some file → IsBadGivingBack spot old new
 
--- A put of these bytes at a path cannot do this on an honest disk.
+-- A put of `bytes` at `path`, made at `aside` first, cannot lead an honest disk from `old` to `new`.
 pub data IsBadPut {A E : Type 0} (aside path bytes : List ℕ) (old : DiskState) (answer : Result A E) (new : DiskState)
     : Type 0 where
   -- A loss of power leaves at the path a third content: neither what it might have left before, nor these bytes.

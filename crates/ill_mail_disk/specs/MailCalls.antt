@@ -22,7 +22,7 @@ abbrev pub Links : {A E : Type 0} → List ℕ → List ℕ → Disk → Result 
 Links from to old (Ok done) new = GivesName from to old new
 Links from to old (Err fault) new = (new ≡ old) ⊎ GivesName from to old new
 
--- Returns the names after a file is put at a path. If there is none, the path has none either.
+-- Returns `names` after they change at `path` alone: the given file stands at `path`, or no file does if none is given.
 abbrev pub with_found : List ℕ → Option ℕ → List Name → List Name
 with_found path None names = without path names
 with_found path (Some file) names = with_name path file names
@@ -34,24 +34,25 @@ after_flush_name path d =
     let settle : List Name → List Name = with_found path (found_at path d.names) in
     record d { names = settle d.names; may_stand = map settle d.may_stand }
 
--- ---- calls of these calls
+-- ---- functions that are made of calls of a disk: a test for a file, a removal and a rename that need no file
 
--- Returns true if it is this file that was found.
+-- Returns true if a file was found and it is `file`.
 abbrev pub is_file : ℕ → Option ℕ → Bool
 is_file file None = false
 is_file file (Some found) = found == file
 
--- A call tells if it is this file that stands at the path. It changes nothing.
+-- A call answers true if `file` stands at `path`, and false if another file or none does. It changes nothing.
 pub record Tells {E : Type 0} (path : List ℕ) (file : ℕ) (old : Disk) (answer : Result Bool E) (new : Disk) : Type 0 where
   pub stands : IfOk answer (λ stands. stands ≡ is_file file (found_at path old.names))
   pub same : new ≡ old
 
--- A call that is done leaves no file at the path. It removes the path, or has changed nothing.
+-- A call that is done leaves no file at `path`. A call, done or failed, has removed `path` or changed nothing.
 pub record Clears {A E : Type 0} (path : List ℕ) (old : Disk) (answer : Result A E) (new : Disk) : Type 0 where
   pub gone : OnOk answer (found_at path new.names ≡ None)
   pub either : (new ≡ old) ⊎ (new ≡ after_remove path old)
 
--- A call that is done has renamed what stood at `from`, if anything stood there. One that failed has done so, or nothing.
+-- A call that is done has renamed the file at `from` to `to`, if a file stood at `from`. A call, done or failed, has
+-- renamed it or changed nothing.
 pub record Brings {A E : Type 0} (from to : List ℕ) (old : Disk) (answer : Result A E) (new : Disk) : Type 0 where
   pub done : OnOk answer ((found_at from old.names ≡ None) ⊎ (new ≡ after_rename from to old))
   pub either : (new ≡ old) ⊎ (new ≡ after_rename from to old)

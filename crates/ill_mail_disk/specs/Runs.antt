@@ -7,8 +7,8 @@ use Rattle.ill_mail_disk.specs.Keeping.{KeeperOf}
 use Rattle.ill_mail_disk.specs.Spots.{SpotOf, Place, Waiting, IsKept, StaysKept, Survives, are_apart, is_none_of, moved, paths_of}
 use Rattle.ill_mail_disk.specs.Spots.{place_in}
 
--- A run has its disk and its mails. A mail of which it takes no care is `None`. It has the file of the messages that ask,
--- and the folder of the mails that are put aside.
+-- A run has its disk and its mails. A mail of which it takes no care is `None`. It has the file of the messages that
+-- ask, and the folder of the mails that are put aside.
 pub record MailRunOf (D : Type 0) : Type 0 where
   pub disk : D
   pub spots : List (Option SpotOf)
@@ -45,7 +45,8 @@ run_state state run = record {
 abbrev pub misses : List ℕ → SpotOf → Bool
 misses path spot = is_none_of (paths_of spot) path
 
--- Returns true if no path that one mail leaves or takes is one of another mail. Both may have come under one name.
+-- Returns true if the file of `other` may stand at no path that `spot` leaves or takes: `reason`, `claimed` and
+-- `aside`. Both may have come under one name, so `waiting` is not compared.
 abbrev pub spares : SpotOf → SpotOf → Bool
 spares spot other = misses spot.reason other && misses spot.claimed other && misses spot.aside other
 
@@ -53,7 +54,8 @@ spares spot other = misses spot.reason other && misses spot.claimed other && mis
 abbrev pub are_spread : SpotOf → SpotOf → Bool
 are_spread spot other = spares spot other && spares other spot
 
--- Returns true if a mail takes neither path of the keeper. Its reason may not be at the path of the messages that ask.
+-- Returns true if the file of a mail may stand at neither path of the keeper of the messages that ask. Its reason may
+-- not be at the keeper's `path`.
 abbrev pub keeps_off : KeeperOf → SpotOf → Bool
 keeps_off keeper spot =
     misses keeper.path spot && misses keeper.aside spot && not (bytes_eq spot.reason keeper.path)
@@ -99,12 +101,14 @@ is_admitted asked spots spot = keeps_off asked spot && is_spread_from_all spot s
 abbrev pub admitted : KeeperOf → List (Option SpotOf) → SpotOf → Option SpotOf
 admitted asked spots spot = if are_apart spot && is_admitted asked spots spot then Some spot else None
 
--- Returns the mail with this file, if there is one and the run takes care of it.
+-- Returns the mail with this file, if there is a file and the run takes care of the mail. `spot_of` gives the mail for
+-- a file.
 abbrev pub cared_for : KeeperOf → List (Option SpotOf) → (ℕ → SpotOf) → Option ℕ → Option SpotOf
 cared_for asked spots spot_of None = None
 cared_for asked spots spot_of (Some file) = admitted asked spots (spot_of file)
 
--- A look at the claimed path of a mail gives the mail, if its file stands there and the run takes care of it.
+-- A look at the claimed path of a mail gives the mail, if a file stands there and the run takes care of the mail.
+-- `spot_of` gives the mail for the file that is found. The look changes nothing.
 pub record LooksFor {E : Type 0} (asked : KeeperOf) (spots : List (Option SpotOf)) (spot_of : ℕ → SpotOf) (old : Disk)
     (answer : Result (Option SpotOf) E) (new : Disk) : Type 0 where
   pub spot : IfOk answer (λ spot. spot ≡ cared_for asked spots spot_of (found_at (spot_of zero).claimed old.names))
@@ -145,7 +149,8 @@ pub record IsElseSame (mail : ℕ) (old new : RunState) : Type 0 where
   pub others : (other : ℕ) → (other ≡ mail → ⊥) → slice_get new.places other ≡ slice_get old.places other
   pub asked : new.asked ≡ old.asked
 
--- A call moves the mail `mail` of a run with an honest disk to the place `to`. All else stays.
+-- A call moves the mail `mail` of a run with an honest disk to the place `to`. If it failed, the mail moves there or
+-- stays (`ComesAt`). All else stays.
 pub record MovesInRun {A E : Type 0} (to : Place) (mail : ℕ) (old : RunState) (answer : Result A E) (new : RunState)
     : Type 0 where
   pub here : old.is_honest ≡ true → ComesAt to (slice_get old.places mail) answer (slice_get new.places mail)
@@ -158,20 +163,22 @@ pub record GivesBackInRun (mail : ℕ) (old new : RunState) : Type 0 where
   pub else_same : old.is_honest ≡ true → IsElseSame mail old new
   pub honest : new.is_honest ≡ old.is_honest
 
--- A call keeps messages that ask. If it failed, those before stay, or these are kept.
+-- A call keeps `asked` as the messages that ask, in place of `before`, and `after` are kept in the end. If it failed,
+-- `after` is `before` or `asked`.
 abbrev pub KeepsAsked : {A E : Type 0} → List ℕ → List ℕ → Result A E → List ℕ → Type 0
 KeepsAsked asked before (Ok done) after = after ≡ asked
 KeepsAsked asked before (Err fault) after = (after ≡ before) ⊎ (after ≡ asked)
 
--- A call keeps messages that ask in a run with an honest disk. Each mail stays at its place.
+-- A call keeps `asked` as the messages that ask, in a run with an honest disk. If it failed, they are `asked` or those
+-- before. Each mail stays at its place.
 pub record KeepsInRun {A E : Type 0} (asked : List ℕ) (old : RunState) (answer : Result A E) (new : RunState) : Type 0
   where
     pub here : old.is_honest ≡ true → KeepsAsked asked old.asked answer new.asked
     pub places : old.is_honest ≡ true → new.places ≡ old.places
     pub honest : new.is_honest ≡ old.is_honest
 
--- Each mail of these numbers, of which the run takes care, survives: if each crash leaves its file under one of its names
--- at first, each crash does so at each moment of the call.
+-- Each mail whose number fulfils `which`, and of which the run takes care, survives a call from `old` to `new`. If each
+-- crash leaves its file under one of its names at first, each crash does so at each moment of the call.
 abbrev pub MailsSurvive : {D : Type 0} → (D → DiskState) → (ℕ → Type 0) → MailRunOf D → MailRunOf D → Type 0
 MailsSurvive state which old new = (mail : ℕ) (spot : SpotOf) → which mail → slice_get old.spots mail ≡ Some (Some spot) →
     Survives spot (state old.disk) (state new.disk)

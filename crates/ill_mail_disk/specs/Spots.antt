@@ -6,8 +6,8 @@ use Rattle.ill_disk.specs.Calls.{DiskState, Throughout}
 use Rattle.ill_mail_disk.specs.MailCalls.{is_file}
 use Rattle.ill_mail_disk.specs.Touches.{Touches}
 
--- A mail has a path among the claimed mails, one in the folder from which it was claimed, and one aside. Beside that is
--- the path of the reason. Its file is the one that was claimed.
+-- A mail has a path among the claimed mails, one in the folder from which it was claimed (`waiting`), and one aside.
+-- The path of the reason is beside the one aside. `file` is the number of the file that was claimed.
 pub record SpotOf : Type 0 where
   pub claimed : List ℕ
   pub waiting : List ℕ
@@ -19,7 +19,7 @@ pub record SpotOf : Type 0 where
 abbrev pub paths_of : SpotOf → List (List ℕ)
 paths_of spot = spot.claimed ∷ spot.waiting ∷ spot.aside ∷ []
 
--- Returns true if the path is none of these.
+-- Returns true if `path` is none of these paths.
 abbrev pub is_none_of : List (List ℕ) → List ℕ → Bool
 is_none_of [] path = true
 is_none_of (other ∷ paths) path = not (bytes_eq other path) && is_none_of paths path
@@ -29,15 +29,16 @@ abbrev pub are_apart : SpotOf → Bool
 are_apart spot = is_none_of (spot.waiting ∷ spot.aside ∷ spot.reason ∷ []) spot.claimed
     && is_none_of (spot.aside ∷ spot.reason ∷ []) spot.waiting && is_none_of (spot.reason ∷ []) spot.aside
 
--- The place of a mail.
+-- The place of a mail: in the folder from which it was claimed, among the claimed mails, aside, or at none of its
+-- paths.
 pub data Place : Type 0 where
   Waiting : Place
   Claimed : Place
   Aside : Place
   Gone : Place
 
--- Returns the place of a mail by the paths at which its file stands. If it stands at several, the one aside counts
--- first, and then the one in the folder.
+-- Returns the place of a mail. `aside`, `waiting` and `claimed` are true if its file stands at that path. If several
+-- are true, `aside` counts first, and then `waiting`.
 abbrev pub place_by : Bool → Bool → Bool → Place
 place_by aside waiting claimed = if aside then Aside else if waiting then Waiting else if claimed then Claimed else Gone
 
@@ -86,7 +87,8 @@ pub record StaysThere (paths : List (List ℕ)) (spot : SpotOf) (old new : DiskS
   pub place : old.is_honest ≡ true → place_in new.now.names spot ≡ place_in old.now.names spot
   pub survives : Survives spot old new
 
--- On an honest disk the file of a claimed mail was removed. If it was not, no crash loses it.
+-- A call removes a claimed mail on an honest disk. If it failed, the mail is gone or stays. A mail that was kept at
+-- first is kept in the end: it is gone, or each crash leaves it.
 pub record RemovesMail {A E : Type 0} (spot : SpotOf) (old : DiskState) (answer : Result A E) (new : DiskState) : Type 0
   where
     pub touches : Touches (spot.claimed ∷ []) old new
@@ -97,15 +99,16 @@ pub record RemovesMail {A E : Type 0} (spot : SpotOf) (old : DiskState) (answer 
 abbrev pub aside_paths : SpotOf → List (List ℕ)
 aside_paths spot = spot.reason ∷ spot.claimed ∷ spot.aside ∷ []
 
--- On an honest disk a claimed mail was put aside. No crash loses it.
+-- A call puts a claimed mail aside on an honest disk. If it failed, the mail stands aside or stays. No crash during the
+-- call loses the mail.
 pub record PutsMailAside {A E : Type 0} (spot : SpotOf) (old : DiskState) (answer : Result A E) (new : DiskState) : Type 0
   where
     pub touches : Touches (aside_paths spot) old new
     pub comes : old.is_honest ≡ true → Comes Aside (place_in old.now.names spot) answer (place_in new.now.names spot)
     pub survives : Survives spot old new
 
--- On an honest disk a claimed mail was given back, or it stays. No crash loses it. What stands at its name in the folder
--- stays there.
+-- On an honest disk a claimed mail was given back, or it stays. No crash loses it. What stands at its name in the
+-- folder stays there.
 pub record GivesMailBack (spot : SpotOf) (old new : DiskState) : Type 0 where
   pub touches : Touches (spot.claimed ∷ spot.waiting ∷ []) old new
   pub stays : old.is_honest ≡ true → (file : ℕ) → found_at spot.waiting old.now.names ≡ Some file →

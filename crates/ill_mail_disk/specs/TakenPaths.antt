@@ -1,4 +1,4 @@
--- The paths of the mails of a run, in two sets.
+-- The paths of the mails of a run, in three sets.
 use Rattle.std.specs.Prelude.{◌≡◌, ℕ, Bool, true, ◌&&◌, List, [], ◌∷◌, Option, Some, None, IfSome, Vec, bytes_eq}
 use Rattle.std.specs.Prelude.{slice_get}
 use Rattle.std.specs.declared.alloc.Global.{Global}
@@ -6,8 +6,8 @@ use Rattle.ill_mail_disk.specs.Spots.{SpotOf, aside_paths, is_none_of, paths_of}
 use Rattle.ill_mail_disk.specs.Keeping.{KeeperOf}
 use Rattle.ill_mail_disk.specs.Runs.{IsSpread}
 
--- The paths at which the files of mails may stand, those that mails leave or take, and the names of two mails or more in
--- the folder from which they were claimed.
+-- Sets of paths of mails. `places` are the paths at which their files may stand, and `moves` those that they leave or
+-- take. `shared` are the paths at which two mails or more would wait if they were given back.
 pub record TakenOf : Type 0 where
   pub places : List (List ℕ)
   pub moves : List (List ℕ)
@@ -25,23 +25,24 @@ GetsPath path old new = (other : List ℕ) → is_none_of new other ≡ is_none_
 abbrev pub GetsThree : List ℕ → List ℕ → List ℕ → List (List ℕ) → List (List ℕ) → Type 0
 GetsThree one two three old new = (path : List ℕ) → is_none_of new path ≡ is_none_of (one ∷ two ∷ three ∷ old) path
 
--- A set has got no path, or the one at which a mail waits, if that was among the places.
+-- A set has lost no path from `old` to `new`. If `path`, at which a mail waits, is among `places`, the set has `path`
+-- too.
 abbrev pub Shares : List ℕ → List (List ℕ) → List (List ℕ) → List (List ℕ) → Type 0
 Shares path places old new = (other : List ℕ) → is_none_of new other ≡ true →
     (is_none_of old other ≡ true) × (path ≡ other → is_none_of places path ≡ true)
 
--- Sets have got the paths of a mail.
+-- The sets `new` are the sets `old` with the paths of `spot`. Its waiting path is shared if it was among the places.
 pub record GetsPaths (spot : SpotOf) (old new : TakenOf) : Type 0 where
   pub places : GetsThree spot.claimed spot.waiting spot.aside old.places new.places
   pub moves : GetsThree spot.reason spot.claimed spot.aside old.moves new.moves
   pub shared : Shares spot.waiting old.places old.shared new.shared
 
--- Returns true if the path is none of these paths of a mail, if there is a mail.
+-- Returns true if `path` is none of the paths that `of` gives of a mail, or if there is no mail.
 abbrev pub misses_mail : (SpotOf → List (List ℕ)) → List ℕ → Option SpotOf → Bool
 misses_mail of path None = true
 misses_mail of path (Some spot) = is_none_of (of spot) path
 
--- Returns true if the path is none of these paths of any mail.
+-- Returns true if `path` is none of the paths that `of` gives of any of these mails.
 abbrev pub misses_mails : (SpotOf → List (List ℕ)) → List (Option SpotOf) → List ℕ → Bool
 misses_mails of [] path = true
 misses_mails of (spot ∷ spots) path = misses_mail of path spot && misses_mails of spots path
@@ -57,15 +58,16 @@ pub record AreTaken (taken : TakenOf) (spots : List (Option SpotOf)) : Type 0 wh
   pub moves : (path : List ℕ) → is_none_of taken.moves path ≡ misses_mails aside_paths spots path
   pub shared : (path : List ℕ) → is_none_of taken.shared path ≡ true → IsOnce path spots
 
--- Returns true if no file of a mail with these paths may stand where another mail leaves or takes a path.
+-- Returns true if no path that `spot` leaves or takes is one of `places`, at which files of other mails may stand.
 abbrev pub leaves_places : List (List ℕ) → SpotOf → Bool
 leaves_places places spot = is_none_of places spot.reason && is_none_of places spot.claimed && is_none_of places spot.aside
 
--- Returns true if none of these paths is one at which the file of the mail may stand.
+-- Returns true if none of `moves`, the paths that other mails leave or take, is one at which the file of `spot` may
+-- stand.
 abbrev pub is_left : List (List ℕ) → SpotOf → Bool
 is_left moves spot = is_none_of moves spot.claimed && is_none_of moves spot.waiting && is_none_of moves spot.aside
 
--- Returns true if a mail takes no path of these sets, and none of theirs is one of it.
+-- Returns true if `spot` takes no path of a mail of `taken`, and no mail of `taken` takes a path of `spot`.
 abbrev pub is_free : TakenOf → SpotOf → Bool
 is_free taken spot = leaves_places taken.places spot && is_left taken.moves spot
 

@@ -3,7 +3,7 @@ use Rattle.std.specs.Prelude.{◌≡◌, ℕ, true, List, [], ◌∷◌, slice_g
 use Rattle.ill_disk.specs.Disk.{In, File, Name, Disk, IsWhole, found_at}
 use Rattle.ill_disk.specs.Calls.{DiskState, Throughout}
 
--- The path is none of these.
+-- `path` is none of these paths.
 abbrev pub IsNoneOf : List (List ℕ) → List ℕ → Type 0
 IsNoneOf [] path = Unit {0}
 IsNoneOf (other ∷ paths) path = (other ≡ path → ⊥) × IsNoneOf paths path

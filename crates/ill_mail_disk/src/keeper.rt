@@ -44,7 +44,7 @@ impl Keeper {
         &self.path
     }
 
-    /// Returns the path beside it.
+    /// Returns the path beside the file, at which a new file is made first.
     pub fn aside(&self) -> &[u8]
         ensures path { result.now ≡ self.now.aside }
         ensures beside { self.now ≡ keeper_at self.now.path }
@@ -84,7 +84,7 @@ impl Keeper {
         clear(disk, self.aside())
     }
 
-    /// Makes a new file of `bytes` beside the file, flushes it, and renames it over the file.
+    /// Makes a new file of `bytes` beside the file, flushes it, and renames it over the file. The name is not flushed.
     fn place<D: MailDisk>(&self, disk: &mut D, bytes: &[u8]) -> Result<(), DiskFault>
         ensures { PutsFile self.now (Some bytes.now) (D.state disk.old) result (D.state disk.new) }
     {

@@ -22,8 +22,9 @@ pub fn a_flushed_mail_keeps_its_bytes()
         bytes_of after.files (Some file) ≡ Some f.bytes }
 {}
 
-/// No call of a run moves another mail than its own, or to another place. None moves a mail that is not claimed, or changes
-/// the messages that ask.
+/// A call that is to move `mail` to the place `to` moves no other mail, and `mail` to no third place. If it is done,
+/// `mail` is no longer claimed, unless `to` is `Claimed`. It moves no mail that is not claimed, and changes no
+/// messages that ask.
 #[tactic(auto, using(crate::proofs::BadMails::no_bad_move))]
 pub fn no_move_is_bad()
     ensures { (to : Place) (mail : ℕ) (old new : RunState) (answer : Result (Unit {0}) DiskFault) →
@@ -36,8 +37,8 @@ pub fn no_mail_is_given_back_over_another()
     ensures { (spot : SpotOf) (old new : DiskState) → GivesMailBack spot old new → IsBadGivingBack spot old new → ⊥ }
 {}
 
-/// No loss of power at any moment of a put leaves a torn file at the path: it leaves what it might have left before, or all
-/// bytes. A put that is done has put them, and no other name is changed.
+/// No loss of power at any moment of a put leaves a torn file at the path. It leaves what it might have left before, or
+/// all bytes. A put that is done has put them. No name is changed but the path and the one aside.
 pub fn no_put_is_bad()
     ensures { (aside path bytes : List ℕ) (old new : DiskState) (answer : Result (Unit {0}) DiskFault) →
         PutsWhole aside path bytes old answer new → IsBadPut aside path bytes old answer new → ⊥ }

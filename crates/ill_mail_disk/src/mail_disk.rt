@@ -18,10 +18,10 @@ pub struct Found {
 /// A disk that has mails. A path is a whole one: the mails of a desk lie in several folders.
 ///
 /// A call that is done has changed the disk as its clause says. A call that failed has done so too, or has changed
-/// nothing. A flush of all names is not asked for here, since a system flushes one folder. The clauses know no folders. A
-/// name that a crash leaves is left with its folder.
+/// nothing. A flush of all names is not asked for here, since a system flushes one folder. The clauses know no folders.
+/// A name that a crash leaves is left with its folder.
 pub trait MailDisk: Disk {
-    /// Looks at the file at `path`, and follows no link.
+    /// Returns the file at `path`, or `None` if no file stands there. It follows no link.
     fn find(&mut self, path: &[u8]) -> Result<Option<Found>, DiskFault>
         ensures { Answers (Finds path.now) (Self.state self.old) result (Self.state self.new) };
 
@@ -29,7 +29,7 @@ pub trait MailDisk: Disk {
     fn link(&mut self, from: &[u8], to: &[u8]) -> Result<(), DiskFault>
         ensures { Answers (Links from.now to.now) (Self.state self.old) result (Self.state self.new) };
 
-    /// Flushes the folder of `path`, and so its name.
+    /// Flushes the folder of `path`, so that each crash leaves at `path` what stands there now.
     fn flush_name(&mut self, path: &[u8]) -> Result<(), DiskFault>
         ensures { Answers (Changes (after_flush_name path.now)) (Self.state self.old) result (Self.state self.new) };
 

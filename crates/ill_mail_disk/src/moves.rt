@@ -1,4 +1,4 @@
-//! The moves of a mail on a disk: it is removed, put aside or given back.
+//! The moves of a mail on a disk: a call removes it, puts it aside or gives it back.
 
 ghost use Rattle.std.specs.Prelude.{◌≡◌, ◌⊎◌, [], ◌∷◌, Some, true};
 ghost use Rattle.ill_disk.specs.Disk.{found_at};
@@ -11,7 +11,7 @@ use crate::mail_disk::MailDisk;
 use crate::spot::Spot;
 use ill_disk::DiskFault;
 
-/// Returns true if it is the file `file` that stands at `path`.
+/// Returns true if the file with the number `file` stands at `path`.
 fn stands_at<D: MailDisk>(disk: &mut D, path: &[u8], file: u128) -> Result<bool, DiskFault>
     ensures { Answers (Tells path.now file) (D.state disk.old) result (D.state disk.new) }
 {
@@ -47,8 +47,8 @@ fn clear_claimed<D: MailDisk>(disk: &mut D, spot: &Spot) -> Result<(), DiskFault
     clear(disk, spot.claimed())
 }
 
-/// Removes the file of a claimed mail. A mail that waits already, or stands aside, stays there with its claimed name. If
-/// another file stands at its claimed path, nothing is done.
+/// Removes the file of a claimed mail. A mail that waits already, or stands aside, stays there with its claimed name.
+/// If another file stands at its claimed path, nothing is done.
 pub fn remove_mail<D: MailDisk>(disk: &mut D, spot: &Spot) -> Result<(), DiskFault>
     ensures { RemovesMail spot.now (D.state disk.old) result (D.state disk.new) }
 {
@@ -83,8 +83,8 @@ pub(crate) fn flush_claim<D: MailDisk>(disk: &mut D, spot: &Spot) -> Result<(), 
 
 /// Puts a claimed mail aside, with the line `why` in the file of the reason. The reason is written and flushed first.
 ///
-/// A mail that waits already stays there. If another file stands at its claimed path, nothing is done. A file that stands
-/// at its path aside is replaced.
+/// A mail that waits already stays there. If another file stands at its claimed path, nothing is done. A file that
+/// stands at its path aside is replaced.
 pub fn put_mail_aside<D: MailDisk>(disk: &mut D, spot: &Spot, why: &[u8]) -> Result<(), DiskFault>
     ensures { PutsMailAside spot.now (D.state disk.old) result (D.state disk.new) }
 {
@@ -105,7 +105,7 @@ fn is_waiting<D: MailDisk>(disk: &mut D, spot: &Spot) -> Result<bool, DiskFault>
     stands_at(disk, spot.waiting(), spot.file())
 }
 
-/// Writes the line `why` at `path`. A file of its size there has that line already.
+/// Writes the line `why` to the file at `path`. A file of that size there is taken to have the line, and stays.
 fn write_reason<D: MailDisk>(disk: &mut D, path: &[u8], why: &[u8]) -> Result<(), DiskFault>
     ensures { Touches (path.now ∷ []) (D.state disk.old) (D.state disk.new) }
 {
@@ -135,12 +135,12 @@ fn bring<D: MailDisk>(disk: &mut D, from: &[u8], to: &[u8]) -> Result<(), DiskFa
     }
 }
 
-/// Gives a claimed mail back to the folder from which it was claimed. If a file stands at its name there, the mail stays
-/// claimed.
+/// Gives a claimed mail back to the folder from which it was claimed. If a file stands at its name there, the mail
+/// stays claimed.
 ///
-/// It gets its old name there beside the claimed one. That name is flushed before the claimed one is removed. Else a
-/// loss of power might leave the removal alone, and the mail would have no name. If the disk gives no second name, the
-/// mail is renamed.
+/// The mail gets its old name in the folder beside the claimed one. That name is flushed before the claimed one is
+/// removed. Else a loss of power might leave the removal alone, and the mail would have no name. If the disk gives no
+/// second name, the mail is renamed.
 pub fn give_mail_back<D: MailDisk>(disk: &mut D, spot: &Spot) -> Result<(), DiskFault>
     ensures { GivesMailBack spot.now (D.state disk.old) (D.state disk.new) }
 {
@@ -165,8 +165,8 @@ fn end_giving<D: MailDisk>(disk: &mut D, spot: &Spot) -> Result<(), DiskFault>
     clear_claimed(disk, spot)
 }
 
-/// Gives back a mail that gets no second name. If a killed run has given it back already, its claimed name is removed. If
-/// its name is free in the folder from which it was claimed, it is renamed.
+/// Gives back a mail that gets no second name. If a killed run has given it back already, its claimed name is removed.
+/// If its name is free in the folder from which it was claimed, it is renamed.
 fn give_back_alone<D: MailDisk>(disk: &mut D, spot: &Spot)
     requires { HasFileAt spot.now.claimed spot.now (D.state disk.old) }
     ensures { GivesMailBack spot.now (D.state disk.old) (D.state disk.new) }
@@ -180,7 +180,8 @@ fn give_back_alone<D: MailDisk>(disk: &mut D, spot: &Spot)
     }
 }
 
-/// Removes the claimed name of a mail if its file is `file`, which stands in the folder from which it was claimed.
+/// Ends the giving back of a mail whose file is `file`: flushes its name in the folder, and removes its claimed one.
+/// `file` stands at the name of the mail in the folder. If it is another file, does nothing.
 fn end_if_given<D: MailDisk>(disk: &mut D, spot: &Spot, file: u128)
     requires { (D.state disk.old).is_honest ≡ true → found_at spot.now.waiting (D.state disk.old).now.names ≡ Some file }
     ensures { ((D.state disk.new) ≡ (D.state disk.old)) ⊎ StaysThere (spot.now.claimed ∷ spot.now.waiting ∷ []) spot.now (D.state disk.old) (D.state disk.new) }

@@ -18,9 +18,9 @@ use std::marker::Model;
 
 /// The mails of a run on a disk, and the messages that ask. A mail is known by its number in the run, from 0 on.
 ///
-/// The place of a mail is where its file has a name on the disk. No call loses a mail, but `remove`: at each moment of a
-/// call and after each loss of power the file of a mail has its claimed name, its name in the folder from which it was
-/// claimed, or its name aside. The disk must be honest for that.
+/// The place of a mail is where its file has a name on the disk. No call loses a mail, but `remove`. At each moment of
+/// a call, and after each loss of power, the file of a mail has one of its names: the claimed one, the one in the
+/// folder from which it was claimed, or the one aside. The disk must be honest for that.
 #[derive(Drop)]
 pub struct MailRun<D: MailDisk> {
     disk: D,
@@ -62,8 +62,9 @@ impl<D: MailDisk> MailRun<D> {
         &self.disk
     }
 
-    /// Adds the mail with these paths. If no file stands at its claimed path, or another mail or the messages that ask have
-    /// one of its paths, the run takes no care of it: it stays where it is, for the next run.
+    /// Adds the mail with these paths. The run takes no care of it if no file stands at its claimed path. Nor does it
+    /// if another mail or the messages that ask have one of its paths. The mail then stays where it is, for the next
+    /// run.
     pub fn add(&mut self, alloc: Global, paths: Paths<'_>) -> Result<(), DiskFault>
         ensures added { OnOk result (AddsMail D.state (λ file. record {
           claimed = paths.entry.claimed.now;
@@ -96,7 +97,8 @@ impl<D: MailDisk> MailRun<D> {
         Ok(())
     }
 
-    /// Flushes the claimed name of each mail. Each crash from then on leaves each mail. Fails if a mail does not stand there.
+    /// Flushes the claimed name of each mail of which the run takes care. Then each crash leaves each of these mails.
+    /// Fails if a file does not stand at its claimed path, or a flush fails.
     pub fn flush_claims(&mut self) -> Result<(), DiskFault>
         ensures kept { OnOk result (AreKept D.state self.new) }
         ensures honest { (D.state self.new.disk).is_honest ≡ (D.state self.old.disk).is_honest }
@@ -106,7 +108,7 @@ impl<D: MailDisk> MailRun<D> {
         flush_each(&mut self.disk, &self.spots)
     }
 
-    /// Removes the mail `mail`.
+    /// Removes the mail `mail`. A mail that is not claimed, or of which the run takes no care, stays.
     pub fn remove(&mut self, mail: usize) -> Result<(), DiskFault>
         ensures moves { MovesInRun Gone mail (run_state D.state self.old) result (run_state D.state self.new) }
         ensures survive { MailsSurvive D.state (λ other. other ≡ mail → ⊥) self.old self.new }
@@ -116,7 +118,8 @@ impl<D: MailDisk> MailRun<D> {
         remove_at(&mut self.disk, &self.spots, mail)
     }
 
-    /// Puts the mail `mail` aside for a person, with the line `why`.
+    /// Puts the mail `mail` aside for a person, with the line `why`. A mail that is not claimed, or of which the run
+    /// takes no care, stays. Makes the folder of the mails that are put aside, if it is not there.
     pub fn put_aside(&mut self, mail: usize, why: &[u8]) -> Result<(), DiskFault>
         ensures moves { MovesInRun Aside mail (run_state D.state self.old) result (run_state D.state self.new) }
         ensures survive { MailsSurvive D.state AnyMail self.old self.new }
@@ -126,8 +129,8 @@ impl<D: MailDisk> MailRun<D> {
         put_aside_at(&mut self.disk, &self.spots, mail, why)
     }
 
-    /// Gives the mail `mail` back to the folder from which it was claimed. If another mail of its name has come there, or is
-    /// in the run, it stays claimed.
+    /// Gives the mail `mail` back to the folder from which it was claimed. If another mail of its name has come there,
+    /// or is in the run, it stays claimed.
     pub fn give_back(&mut self, mail: usize) -> Result<(), DiskFault>
         ensures moves { GivesBackInRun mail (run_state D.state self.old) (run_state D.state self.new) }
         ensures survive { MailsSurvive D.state AnyMail self.old self.new }
@@ -222,7 +225,8 @@ fn admit(
     }
 }
 
-/// Returns true if a mail takes no path of the messages that ask, or of `others`.
+/// Returns true if a mail takes no path of the messages that ask or of `others`. None of `others` may take a path of
+/// it.
 fn is_admitted(asked: &Keeper, others: Others<'_>, spot: &Spot) -> bool
     requires { AreKnown others.taken.now others.spots.now }
     ensures { result ≡ is_admitted asked.now others.entry.spots.now spot.now }
@@ -241,7 +245,8 @@ fn is_spread_from_others(spot: &Spot, others: Others<'_>) -> bool
     }
 }
 
-/// Returns true if a mail takes no path of the messages that ask.
+/// Returns true if the file of a mail may stand at neither path of the messages that ask. Its reason may not be at the
+/// path of their file.
 fn keeps_off(asked: &Keeper, spot: &Spot) -> bool
     ensures { result ≡ keeps_off asked.now spot.now }
 {
@@ -267,7 +272,7 @@ fn is_spread_from_all(spot: &Spot, spots: &[Option<Spot>]) -> bool
     true
 }
 
-/// Returns true if neither a mail nor another takes a path of the other, if there is another.
+/// Returns true if neither `spot` nor `other` takes a path of the other mail, or if `other` is `None`.
 fn is_spread_from(spot: &Spot, other: &Option<Spot>) -> bool
     ensures { result ≡ is_spread_from spot.now other.now }
 {
@@ -277,7 +282,7 @@ fn is_spread_from(spot: &Spot, other: &Option<Spot>) -> bool
     }
 }
 
-/// Returns true if no path that a mail leaves or takes is one of another mail.
+/// Returns true if the file of `other` may stand at no path that `spot` leaves or takes.
 fn spares(spot: &Spot, other: &Spot) -> bool
     ensures { result ≡ spares spot.now other.now }
 {
@@ -341,7 +346,8 @@ fn put_aside_at<D: MailDisk>(
     }
 }
 
-/// Gives the mail `mail` of a run back, if the run takes care of it, and no other mail of the run has come under its name.
+/// Gives the mail `mail` of a run back, if the run takes care of it. If another mail of the run has come under its
+/// name, it stays.
 fn give_back_at<D: MailDisk>(disk: &mut D, others: Others<'_>, mail: usize) -> Result<(), DiskFault>
     requires { AreKnown others.taken.now others.spots.now }
     ensures { DoesAt (λ spot. (D.state disk.new ≡ D.state disk.old)
@@ -373,7 +379,7 @@ fn give_back_if_alone<D: MailDisk>(
     give_mail_back(disk, spot)
 }
 
-/// Returns true if each other mail of a run than `spot`, which is the mail `mail`, has come under another name.
+/// If it returns true, each other mail of a run than `spot`, which is the mail `mail`, has come under another name.
 fn is_alone(others: Others<'_>, mail: usize, spot: &Spot) -> bool
     requires known { AreKnown others.taken.now others.spots.now }
     requires here { slice_get others.spots.now mail ≡ Some (Some spot.now) }

@@ -11,14 +11,14 @@ use std::alloc::{AllocError, Global};
 use std::marker::Model;
 use std::mem;
 
-/// The paths of the mails of a run. A look for one takes no longer if there are more mails.
+/// The paths of the mails of a run, in sets. A look for a path takes no longer if there are more mails.
 #[derive(Drop)]
 pub(crate) struct TakenPaths {
     /// The paths at which the files of the mails may stand.
     places: PathSet,
     /// The paths that the mails leave or take.
     moves: PathSet,
-    /// The paths at which two mails or more wait if they are given back.
+    /// The paths at which two mails or more would wait if they were given back.
     shared: PathSet,
 }
 
@@ -48,7 +48,8 @@ impl TakenPaths {
         leaves_places(&self.places, spot) && is_left(&self.moves, spot)
     }
 
-    /// Returns true if no other of these mails has come under the name of a mail.
+    /// Returns true if the waiting path of `spot` is not shared. Then at most one mail of the sets has come under its
+    /// name.
     pub(crate) fn is_alone(&self, spot: &Spot) -> bool
         ensures { result ≡ is_none_of self.now.shared spot.now.waiting }
     {
@@ -103,7 +104,7 @@ fn put_three(set: &mut PathSet, one: &[u8], two: &[u8], three: &[u8]) -> Result<
     set.put(one)
 }
 
-/// Takes the sets out of `taken`.
+/// Returns the sets of `taken`, if there are any, and leaves `None` there.
 pub(crate) fn take_sets(taken: &mut Option<TakenPaths>) -> Option<TakenPaths>
     ensures taken { result ≡ taken.old }
     ensures none { taken.new ≡ None }

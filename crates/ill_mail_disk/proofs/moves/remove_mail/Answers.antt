@@ -38,7 +38,7 @@ returns-then-branch-2 g c = aside_stays c.if-branch-2.true
     (stays_then (stays_tell (c.args.spot.now.claimed ∷ []) c.args.spot.now c.is_claimed.ensures.tells)
     (stays_tell (c.args.spot.now.claimed ∷ []) c.args.spot.now c.is_waiting.ensures)) c.in_ok-is_aside.ensures
 
--- The file stands at its claimed path alone, and the removal of that is done or failed.
+-- The file stands at its claimed path alone, and the removal of this path is done or failed.
 pub returns : goal.returns
 returns g c = removes_claimed (apart_of c.args.spot.now c.is_claimed.ensures.apart) c.if-branch.false c.if-branch-2.false
     (stays_tell (c.args.spot.now.claimed ∷ []) c.args.spot.now c.is_claimed.ensures.tells) c.in_ok-is_waiting.ensures

@@ -4,7 +4,7 @@ use Rattle.ill_disk.specs.declared.disk.DiskFault.{DiskFault}
 use Rattle.ill_mail_disk.proofs.Flushing.{flushed_next, got_below}
 use Rattle.ill_mail_disk.proofs.run.flush_each.Goals as goal
 
--- The claimed name of one more mail is flushed.
+-- The invariant holds after the claimed name of one more mail is flushed.
 pub loop-mail-preserved : goal.loop-mail-preserved
 loop-mail-preserved g c = flushed_next c.args.spots.now c.requires c.loop-mail.mail (g.D.Disk.state c.args.disk.now)
     (g.D.Disk.state c.loop-mail.disk) (g.D.Disk.state c.flush_at.new.disk) DiskFault (c.loop-mail.mail + 1)

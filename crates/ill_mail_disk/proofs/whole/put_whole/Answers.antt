@@ -2,7 +2,7 @@
 use Rattle.ill_mail_disk.proofs.Wholly.{placed_whole, unplaced_whole}
 use Rattle.ill_mail_disk.proofs.whole.put_whole.Goals as goal
 
--- The file was placed.
+-- The new file was made, flushed and renamed to the path.
 pub returns-in-Ok : goal.returns-in-Ok
 returns-in-Ok g c differ = placed_whole differ c.remove.ensures.changes (c.in-Ok.ensures.places differ)
     (c.in-Ok.ensures.puts differ)

@@ -4,6 +4,6 @@ use Rattle.ill_mail_disk.proofs.Calling.{at_path}
 use Rattle.ill_mail_disk.proofs.Kept.{clear_puts}
 use Rattle.ill_mail_disk.proofs.keeper.Keeper.forget.Goals as goal
 
--- The path that `clear` was given is that of the file.
+-- `clear` was given the path of the file. By `clear_puts` None is put in the place of the file.
 pub returns : goal.returns
 returns g c = clear_puts c.args.self.now (at_path (λ p. Clears p) c.path.ensures c.clear.ensures)

@@ -15,13 +15,13 @@ pub returns-in_err-clear_aside : goal.returns-in_err-clear_aside
 returns-in_err-clear_aside g c = puts_nothing c.from_residual-in_err-clear_aside.ensures.0
     (leaves_then (look_leaves c.look_up.ensures) c.clear_aside.ensures)
 
--- The bytes were put, and the flush of the name, done or failed, leaves them.
+-- The bytes were put, and the flush of the name, done or failed, leaves the file.
 pub returns-in-Ok : goal.returns-in-Ok
 returns-in-Ok g c = puts_before c.flush_name.result
     (puts_after (leaves_then (look_leaves c.look_up.ensures) c.clear_aside.ensures) c.in-Ok.ensures)
     (name_leaves (at_path (λ p. Changes (after_flush_name p)) c.path-in-Ok.ensures c.flush_name.ensures))
 
--- The bytes could not be put, and the removal beside the file leaves it.
+-- The bytes could not be put, and the removal of what stands beside the file leaves the file.
 pub returns-in-Err : goal.returns-in-Err
 returns-in-Err g c = puts_failed
     (puts_after (leaves_then (look_leaves c.look_up.ensures) c.clear_aside.ensures) c.in-Err.ensures)

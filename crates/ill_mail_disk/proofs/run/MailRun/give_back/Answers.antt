@@ -18,7 +18,7 @@ returns-clause-moves g c =
     subst (λ r. GivesBackInRun c.args.mail (run_state g.D.Disk.state r)
     (state_at c.self.inside.asked c.self.inside.spots.items (g.D.Disk.state c.give_back_at.new.disk))) c.self.view_is moves
 
--- Each mail survived that.
+-- Each mail survived the call, whether the mail was given back or left.
 pub returns-clause-survive : goal.returns-clause-survive
 returns-clause-survive g c =
     let survive = given_survive c.self.inside.asked c.self.inside.spots.items c.self.invariant.spread

@@ -26,7 +26,7 @@ returns-clause-moves g c =
     subst (λ r. MovesInRun Aside c.args.mail (run_state g.D.Disk.state r) c.put_aside_at.result
     (state_at c.self.inside.asked c.self.inside.spots.items (g.D.Disk.state c.put_aside_at.new.disk))) c.self.view_is moves
 
--- Each mail survived that.
+-- Each mail survived the call, whether the mail was put aside or left.
 pub returns-clause-survive : goal.returns-clause-survive
 returns-clause-survive g c =
     let does = subst (λ s. DoesAt (λ spot. PutsMailAside spot s c.put_aside_at.result

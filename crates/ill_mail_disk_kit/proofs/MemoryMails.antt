@@ -28,7 +28,7 @@ made_found_with : (count : ℕ) (path : List ℕ) (found : Option ℕ) (names : 
 made_found_with count path None names below made = made_without count path names made
 made_found_with count path (Some file) names below made = made_with count path file names below made
 
--- If `found` is of the first `count` files by the definition of `ill_disk`, it is by the one here.
+-- If `found` is of the first `count` files by `IsBelow` of `ill_disk`, it is so by `IsBelow` of this crate.
 below_as : (count : ℕ) (found : Option ℕ) → IsFoundBelow count found → IsBelow count found
 below_as count None below = tt
 below_as count (Some file) below = below
@@ -50,7 +50,7 @@ flush_name_whole path d whole =
       now = in_mapped settle d.may_stand d.names whole.now;
     }
 
--- If `k` is below the number of files, a file is found at `k`. Here `number` stands in its place.
+-- If `k` is below the number of files, there is a file at `k`. `option_map` then gives `number` in place of the file.
 got_made : (files : List File) (k number : ℕ) → k < length files →
     option_map (λ f. number) (slice_get files k) ≡ Some number
 got_made [] k number lt = absurd (omega (arith, lt))

@@ -4,7 +4,7 @@ use Rattle.ill_disk.specs.Disk.{Name, with_name, without}
 use Rattle.ill_mail_disk_kit.specs.declared.memory_mail_disk.Change.{Change}
 use Rattle.ill_mail_disk_kit.specs.declared.memory_mail_disk.Change.TheVariants.{Make, Remove, Rename}
 
--- Returns the names after a change.
+-- Returns the names after a change: a file put at a path, a path removed, or a path renamed to another.
 abbrev pub names_after : Change → List Name → List Name
 names_after (Make path file) names = with_name path.now file names
 names_after (Remove path) names = without path.now names

@@ -42,7 +42,7 @@ enum Call {
 /// The calls that lose no mail.
 const KEEPING: [Call; 3] = [Call::PutAside, Call::GiveBack, Call::KeepAsked];
 
-/// Lets the mail wait on a new disk, whatever crash comes.
+/// Makes the waiting mail and the file of the messages that ask on a new disk, and flushes both and their names.
 fn bring_mail(disk: &mut MemoryMailDisk) -> Result<(), DiskFault> {
     disk.create_new(PATHS.waiting, MAIL)?;
     disk.flush(PATHS.waiting)?;
@@ -51,8 +51,8 @@ fn bring_mail(disk: &mut MemoryMailDisk) -> Result<(), DiskFault> {
     disk.flush_names()
 }
 
-/// Returns a disk on which the mail was claimed. A crash may still leave it where it waited. Its first `calls` calls from
-/// then on do not fail.
+/// Returns a disk on which the mail was claimed. A crash may still leave it where it waited. Its first `calls` calls
+/// from then on do not fail.
 fn disk_with_claim(alloc: Global, calls: u32) -> Result<MemoryMailDisk, DiskFault> {
     let mut disk = MemoryMailDisk::new(alloc, MANY)?;
     bring_mail(&mut disk)?;
@@ -74,7 +74,7 @@ fn run_on(alloc: Global, disk: MemoryMailDisk) -> Result<MailRun<MemoryMailDisk>
     Ok(run)
 }
 
-/// Performs a call, and returns true if it is done.
+/// Performs `call` on the one mail of `run`, and returns true if the call is done.
 fn is_done(run: &mut MailRun<MemoryMailDisk>, call: Call) -> bool {
     match call {
         Call::Remove => run.remove(0).is_ok(),
@@ -103,9 +103,9 @@ fn has(
 enum Question {
     /// Is true if the mail stands at one of its three paths.
     HasMail,
-    /// Is true if it stands at none.
+    /// Is true if the mail stands at none of its three paths.
     IsGone,
-    /// Is true if the messages that ask are those before or those after, whole.
+    /// Is true if the file of the messages that ask has the bytes before the call, or those after it.
     HasAsked,
     /// Is true if the mail waits or stands aside.
     IsSettled,
@@ -174,26 +174,28 @@ fn answer_now(alloc: Global, disk: &MemoryMailDisk, question: Question) -> Resul
     answer_after(alloc, disk, disk.count_lists().saturating_sub(1), question)
 }
 
-/// Returns true if the answer is true after each crash, when the first `calls` calls of a call on the mail have passed.
+/// Returns true if the answer is true after each crash, when the first `calls` calls of the disk in `call` have passed.
 fn is_so_at(alloc: Global, call: Call, calls: u32, question: Question) -> Result<bool, DiskFault> {
     let mut run = run_on(alloc, disk_with_claim(alloc, calls.saturating_add(1))?)?;
     let _ = is_done(&mut run, call);
     is_so_after_each(alloc, run.disk(), question)
 }
 
-/// Returns true if a call is done, all of whose calls pass, and the answer is true then.
+/// Returns true if `call` is done on a disk none of whose calls fails, and the answer is true of the disk afterwards.
 fn is_so_when_done(alloc: Global, call: Call, question: Question) -> Result<bool, DiskFault> {
     let mut run = run_on(alloc, disk_with_claim(alloc, MOST)?)?;
     Ok(is_done(&mut run, call) && answer_now(alloc, run.disk(), question)?)
 }
 
-/// Returns true if a run after a crash settles the mail.
+/// Returns true if a run gives the mail back on the disk that a crash leaves with the list of names `which`. The mail
+/// then waits or stands aside.
 fn settles_next(alloc: Global, disk: &MemoryMailDisk, which: usize) -> Result<bool, DiskFault> {
     let mut run = run_on(alloc, disk.after_crash(which, MANY)?)?;
     Ok(is_done(&mut run, Call::GiveBack) && answer_now(alloc, run.disk(), Question::IsSettled)?)
 }
 
-/// Returns true if a run after each crash settles the mail, when the first `calls` calls of a call on it have passed.
+/// Returns true if a run after each crash settles the mail, when the first `calls` calls of the disk in `call` have
+/// passed.
 fn settles_after(alloc: Global, call: Call, calls: u32) -> Result<bool, DiskFault> {
     let mut run = run_on(alloc, disk_with_claim(alloc, calls.saturating_add(1))?)?;
     let _ = is_done(&mut run, call);
@@ -205,14 +207,14 @@ fn settles_after(alloc: Global, call: Call, calls: u32) -> Result<bool, DiskFaul
     Ok(true)
 }
 
-/// Gives the mail back without a flush of its name.
+/// Gives the claimed mail back, but does not flush its waiting name before its claimed one is removed.
 fn give_back_unflushed(disk: &mut MemoryMailDisk) -> Result<(), DiskFault> {
     disk.flush_names()?;
     disk.link(PATHS.claimed, PATHS.waiting)?;
     disk.remove(PATHS.claimed)
 }
 
-/// Returns true if no crash loses a mail that was given back without a flush.
+/// Returns true if each crash leaves a mail that was given back without a flush of its waiting name.
 fn is_left_unflushed(alloc: Global) -> Result<bool, DiskFault> {
     let mut disk = disk_with_claim(alloc, MANY)?;
     give_back_unflushed(&mut disk)?;

@@ -49,14 +49,14 @@ enum Change<'a> {
     Make(&'a [u8], usize),
     /// A path is removed.
     Remove(&'a [u8]),
-    /// A path is renamed to another, which then gives this file.
+    /// The first path is renamed to the second, at which the file then stands.
     Rename(&'a [u8], &'a [u8], usize),
 }
 
 /// A disk in memory that has mails, for tests. It keeps each list of names that a crash may leave.
 ///
-/// It passes its first calls, and each later one fails and changes nothing. So a test can let it crash at any moment of a
-/// run.
+/// It passes its first calls, and each later one fails and changes nothing. So a test can let it crash at any moment of
+/// a run.
 #[derive(Drop)]
 pub struct MemoryMailDisk {
     alloc: Global,
@@ -66,8 +66,8 @@ pub struct MemoryMailDisk {
     calls: u32,
 }
 
-// The value of the disk has all but the calls that are left. By the invariant it is whole: each name is of a file that
-// was made.
+// The value of the disk has its files, its names and the lists that may stand. By the invariant it is whole: each name
+// is of a file that was made.
 impl Model for MemoryMailDisk {
     ghost Value = { disks.Disk };
 
@@ -87,7 +87,7 @@ impl MemoryFile {
         })
     }
 
-    /// Returns the bytes. More than `limit` are `TooLarge`.
+    /// Returns the bytes. If there are more than `limit`, fails with `TooLarge`.
     fn read(&self, alloc: Global, limit: usize) -> Result<Vec<u8>, DiskFault>
         ensures bytes { IfOk result (λ bytes. bytes.items ≡ self.now.bytes) }
         ensures within { IfOk result (λ bytes. length bytes.items ≤ limit) }
@@ -162,7 +162,7 @@ impl MemoryName {
     }
 }
 
-/// Returns the file that stands at `path`.
+/// Returns the file that stands at `path`, or `None` if none does.
 fn find(names: &[MemoryName], path: &[u8]) -> Option<usize>
     ensures { result ≡ found_at path.now names.now }
 {
@@ -306,7 +306,7 @@ fn both(
     Ok(all)
 }
 
-/// Returns a copy of the list at a place. Fails if there is none.
+/// Returns a copy of the list at the place `which` of `lists`. Fails if there is no such list.
 fn copy_list(
     alloc: Global,
     lists: &[Vec<MemoryName>],
@@ -334,7 +334,8 @@ fn crash_files(alloc: Global, files: &[MemoryFile]) -> Result<Vec<MemoryFile>, A
     Ok(after)
 }
 
-/// Returns a copy of the names as the one list that may stand.
+/// Returns a list of lists that has a copy of `names` alone. After a crash or a flush of all names it is what may
+/// stand.
 fn one_list(alloc: Global, names: &[MemoryName]) -> Result<Vec<Vec<MemoryName>>, AllocError>
     ensures { IfOk result (λ lists. lists_of lists.items ≡ names.now ∷ []) }
 {
@@ -354,7 +355,8 @@ fn flush_at(files: &mut [MemoryFile], file: usize)
     }
 }
 
-/// Returns the bytes of a file, if it was made. More than `limit` bytes are `TooLarge`.
+/// Returns the bytes of the file `file`, or `None` if it was not made. If there are more than `limit`, fails with
+/// `TooLarge`.
 fn read_at(
     alloc: Global,
     files: &[MemoryFile],
@@ -419,7 +421,7 @@ impl MemoryMailDisk {
         self.calls = calls;
     }
 
-    /// Takes a call away. Fails if none is left.
+    /// Takes one of the calls that do not fail away. Fails if none is left.
     fn burn(&mut self) -> Result<(), DiskFault>
         ensures same { self.new ≡ self.old }
         ensures cause { IfErr result (λ fault. fault ≡ Failed) }
@@ -432,7 +434,8 @@ impl MemoryMailDisk {
         Ok(())
     }
 
-    /// Changes the names, or nothing if memory runs out.
+    /// Changes the names by `change`. A crash may then leave each list of names with the change or without it. If
+    /// memory runs out, changes nothing.
     fn change(&mut self, change: Change<'_>) -> Result<(), AllocError>
         requires { IsMadeBy (length self.old.files) change }
         ensures done { OnOk result (self.new ≡ after_change (names_after change.entry) self.old) }
@@ -445,7 +448,8 @@ impl MemoryMailDisk {
     }
 }
 
-/// A call that fails changes nothing: all memory is taken before the first change.
+/// Each call takes one of the calls that do not fail away. A call that fails changes nothing: all memory is taken
+/// before the first change.
 impl Disk for MemoryMailDisk {
     ghost state = { memory_state };
 
@@ -550,7 +554,8 @@ impl Disk for MemoryMailDisk {
     }
 }
 
-/// A call for a folder changes nothing, since the disk has no folders.
+/// `find`, `link` and `flush_name` take calls away and fail as the calls of `Disk` do. A call for a folder changes
+/// nothing and does not fail, since the disk has no folders.
 impl MailDisk for MemoryMailDisk {
     fn find(&mut self, path: &[u8]) -> Result<Option<Found>, DiskFault>
         ensures finds { Finds path.now self.old result self.new }
@@ -600,7 +605,7 @@ impl MailDisk for MemoryMailDisk {
     }
 }
 
-/// Returns the file with its size, if it was made.
+/// Returns the number `file` and the size of that file, or `None` if it was not made.
 fn found_file(files: &[MemoryFile], file: usize) -> Option<Found>
     ensures file { option_map (λ f. f.file) result ≡ option_map (λ f. file) (slice_get files.now file) }
     ensures size { option_map (λ f. f.size) result ≡ option_map length (bytes_of files.now (Some file)) }

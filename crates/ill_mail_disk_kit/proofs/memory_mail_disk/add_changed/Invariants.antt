@@ -4,7 +4,7 @@ use Rattle.ill_disk.specs.MemoryDisk.{lists_of}
 use Rattle.ill_mail_disk_kit.specs.MemoryMails.{names_after}
 use Rattle.ill_mail_disk_kit.proofs.memory_mail_disk.add_changed.Given as goal
 
--- The lists so far are added with the change.
+-- `all` has the lists that it had at first, and then each list so far, with the change.
 abbrev pub invariant-loop-names : goal.invariant-loop-names
 invariant-loop-names l = lists_of l.all.items
     ≡ lists_of l.initial.all.items ++ map (names_after l.change) (lists_of (take l.names-index l.lists))

@@ -3,6 +3,6 @@ use Rattle.std.proofs.Common.{◌≡◌, ◌++◌, take}
 use Rattle.ill_disk.specs.MemoryDisk.{lists_of}
 use Rattle.ill_mail_disk_kit.proofs.memory_mail_disk.add_lists.Given as goal
 
--- The lists so far are added.
+-- `all` has the lists that it had at first, and then the lists so far.
 abbrev pub invariant-loop-names : goal.invariant-loop-names
 invariant-loop-names l = lists_of l.all.items ≡ lists_of l.initial.all.items ++ lists_of (take l.names-index l.lists)

@@ -19,8 +19,8 @@ no_pair : (mail : Option Mail) (rest : List (Mail × Verdict)) → pair_at mail 
 no_pair None rest = refl
 no_pair (Some mail) rest = refl
 
--- If a call of `get` lends `found` at `place` of `xs`, the value of `found` is the element there. Beyond the end it is
--- None.
+-- Let a call of `get` at `place` of `xs` return `found`. Then the value of `found` is the element of `xs` at `place`,
+-- or None if `place` is beyond the end.
 pub item_at : {X : Type 0} (xs : List X) (place : ℕ) (found : Option (Bor X)) → IsItemAt xs place found
     → option_map (λ (x : Bor X). x.now) found ≡ slice_get xs place
 item_at xs place (Some x) at = sym (slice_get_read xs (length xs) place x.now refl at.3.0 at.1)

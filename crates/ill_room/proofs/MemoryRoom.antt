@@ -1,4 +1,4 @@
--- The moves of mails in a room in memory.
+-- Lemmas on the calls that move a mail in a room in memory, and on the lists of places.
 use Rattle.std.proofs.Common.{◌≡◌, inl, refl, sym, ap, ◌∙◌, ℕ, zero, suc, ◌<◌, ◌≤◌, List, [], ◌∷◌, length}
 use Rattle.std.proofs.Common.{get_or, slice_get, slice_set, Some, Result, Ok, Err, arith}
 use Rattle.ill_text.specs.declared.fault.ToolFault.{ToolFault}
@@ -27,7 +27,8 @@ set_other (x ∷ xs) zero (suc m) v differ = refl
 set_other (x ∷ xs) (suc k) zero v differ = refl
 set_other (x ∷ xs) (suc k) (suc m) v differ = set_other xs k m v (λ same. differ (ap suc same))
 
--- Let a call set the place of `mail` to its old place moved to `to`, and change nothing else. Then it moves `mail`.
+-- Let a call set the place of `mail` to its old place moved to `to`, and change nothing else. Then it answers as
+-- `Moves` says.
 pub set_moves : {A : Type 0} (x y : RoomState) (mail : ℕ) (to v other : Place) (done : A) → mail < length x.places →
     v ≡ moved to (get_or x.places mail other) → y.places ≡ slice_set x.places mail v → y.asked ≡ x.asked →
     Moves to mail x (Ok done) y
@@ -40,7 +41,7 @@ set_moves x y mail to v other done lt is places asked = record {
   };
 }
 
--- If the room has no mail `mail`, a call that is done and changes nothing answers a move of `mail`.
+-- If the room has no mail `mail`, a call that is done and changes nothing answers as `Moves` says.
 pub none_moves : {A : Type 0} (x : RoomState) (mail : ℕ) (to : Place) (done : A) → length x.places ≤ mail →
     Moves to mail x (Ok done) x
 none_moves x mail to done beyond = record {
@@ -48,7 +49,7 @@ none_moves x mail to done beyond = record {
   else_same = record { others = λ m differ. refl; asked = refl };
 }
 
--- A call that fails and changes nothing answers a move of `mail`.
+-- A call that fails and changes nothing answers as `Moves` says of any `mail` and place.
 pub fails_to_move : {A : Type 0} (x : RoomState) (mail : ℕ) (to : Place) (fault : ToolFault) →
     Moves {A = A} to mail x (Err fault) x
 fails_to_move x mail to fault = record {
@@ -64,7 +65,8 @@ gives_back x y mail answer moves = record {
   else_same = moves.else_same;
 }
 
--- If a call moves `mail` and does not change `is_honest`, it answers a move of any room, honest or not.
+-- If a call moves `mail` and does not change `is_honest`, it does what a room asks of a move (`Answers`), honest or
+-- not.
 pub moves_in_all : {A : Type 0} (x y : RoomState) (mail : ℕ) (to : Place) (answer : Result A ToolFault) →
     Moves to mail x answer y → y.is_honest ≡ x.is_honest → Answers is_honest_room (Moves to mail) x answer y
 moves_in_all x y mail to answer moves same = record { done = λ honest. moves; honest = same }

@@ -20,7 +20,7 @@ slice_beyond [] n end = refl
 slice_beyond (x ∷ xs) zero end = absurd (not-suc-le-zero end)
 slice_beyond (x ∷ xs) (suc n) end = slice_beyond xs n (le_of_suc-le-suc end)
 
--- ---- one mail
+-- ---- one mail: its moves to a place, and the call that settles its file
 
 -- A second move to the same place `to` changes nothing.
 moved_twice : (to : Place) (place : Option Place) → moved_at to (moved_at to place) ≡ moved_at to place
@@ -39,7 +39,7 @@ may_then to a b c first (inl stays) = subst (λ place. MayMove to a place) (sym 
 may_then to a b c (inl stays) (inr moves) = inr (moves ∙ ap (moved_at to) stays)
 may_then to a b c (inr before) (inr moves) = inr (moves ∙ ap (moved_at to) before ∙ moved_twice to a)
 
--- If a call was to move a mail to `to`, done or not, its place `a` stays, or moves there.
+-- If a call was to move a mail from the place `a` to `to`, done or failed, the mail stays or has moved to `to`.
 pub may_move : {A : Type 0} (to : Place) (a b : Option Place) (answer : Result A ToolFault) → MovesPlace to a answer b →
     MayMove to a b
 may_move to a b (Ok done) moves = inr moves
@@ -66,7 +66,7 @@ else_same mail (verdicts.Done outcome) x y answer one = one.else_same
 else_same mail (verdicts.Aside unfit) x y answer one = one.else_same
 else_same mail (verdicts.Left delay) x y answer one = one.else_same
 
--- ---- mails up to a number
+-- ---- the mails below a number: how `SettlesTo` begins, and how it holds after one more mail that has a verdict
 
 -- The files of the mails below the number `count` were settled, or stay. If `all_done`, each was settled. The further
 -- mails stay.
@@ -149,7 +149,7 @@ settles_some_next count all verdict x y z all_done answer to is one =
           ∙ to.rest mail (le_of_lt above);
     }
 
--- ---- the states of a room, honest or not
+-- ---- the loop of `settle_each`, in a room that is honest or not: its start, a step with or without a verdict, its end
 
 -- In any room, honest or not, `SettlesTo` holds of the mails below zero if no call was made.
 pub none_settled : (all : List Verdict) (x : RoomState) → Answers is_honest_room (SettlesTo zero all) x true x
@@ -218,7 +218,8 @@ one_settled count all x y z all_done done to one = record {
   honest = one.honest ∙ to.honest;
 }
 
--- In any room: if a call for the mail `count` fails or not, `SettlesTo` holds up to `count + 1`, with `all_done` false.
+-- In any room: let a call for the mail `count` be done or fail. Then `SettlesTo` holds of the mails below `count + 1`,
+-- with `all_done` false.
 pub one_not_settled : {A : Type 0} (count : ℕ) (all : List Verdict) (x y z : RoomState) (all_done : Bool)
     (answer : Result A ToolFault) → Answers is_honest_room (SettlesTo count all) x all_done y →
     Answers is_honest_room (SettlesAt count (slice_get all count)) y answer z →
@@ -229,8 +230,8 @@ one_not_settled count all x y z all_done answer to one = record {
   honest = one.honest ∙ to.honest;
 }
 
--- If memory runs out at the mail `count`, it and the mails before it were settled, or stay. So the loop keeps its
--- contract with that fault, in any room.
+-- In any room: let `SettlesTo` hold below `count`, and let a call for the mail `count` be done or fail. Then the loop
+-- may end with `fault`: the files up to `count` were settled, or stay, as `SettlesEach` asks.
 pub stops_there : {A : Type 0} (count : ℕ) (all : List Verdict) (x y z : RoomState) (all_done : Bool)
     (answer : Result A ToolFault) (fault : ToolFault) → Answers is_honest_room (SettlesTo count all) x all_done y →
     Answers is_honest_room (SettlesAt count (slice_get all count)) y answer z →
@@ -250,13 +251,13 @@ all_settled count all x y end to mail = ⊎_elim
     (to.rest mail above))
     (cases_lt mail count)
 
--- If no verdict is left at `count`, the loop may answer `all_done`, as `SettlesEach` says.
+-- If no verdict is left at `count`, `SettlesEach` holds of a loop that ends there and answers `all_done`.
 ends_each : (count : ℕ) (all : List Verdict) (x y : RoomState) (all_done : Bool) → length all ≤ count →
     SettlesTo count all x all_done y → SettlesEach all x (Ok all_done) y
 ends_each count all x y true end to = (to.so_far, all_settled count all x y end to)
 ends_each count all x y false end to = to.so_far
 
--- If no verdict is left at `count`, the loop may answer `all_done`, in any room.
+-- In any room: if no verdict is left at `count`, `SettlesEach` holds of a loop that ends there and answers `all_done`.
 pub each_settled : (count : ℕ) (all : List Verdict) (x y : RoomState) (all_done : Bool) → length all ≤ count →
     Answers is_honest_room (SettlesTo count all) x all_done y → Answers is_honest_room (SettlesEach all) x (Ok all_done) y
 each_settled count all x y all_done end to = record {
@@ -264,7 +265,7 @@ each_settled count all x y all_done end to = record {
   honest = to.honest;
 }
 
--- ---- the end of a run
+-- ---- the end of a run: the messages that ask are kept or not, and then the files of mails are settled
 
 -- If `x` and `y` have equal lists of places, each mail has the same place in both.
 same_places : (x y : RoomState) → y.places ≡ x.places → (mail : ℕ) → place_of y mail ≡ place_of x mail

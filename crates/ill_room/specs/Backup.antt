@@ -6,8 +6,8 @@ use Rattle.ill_text.specs.declared.fault.ToolFault.{ToolFault}
 use Rattle.ill_night.specs.CopyOver.{Replaces}
 use Rattle.ill_night.specs.declared.copy.Copied.TheVariants.{Done}
 
--- The state: the bytes of the copy, if there is one, and the number of signs of life. `keeps_copy` is true if a copy is
--- wanted, and `keeps_sign` if a sign of life is. `is_honest` is true if all is done as it is answered.
+-- The state of a backup: the bytes of the copy, if there is one, and the number of signs of life. `keeps_copy` is true
+-- if a copy is wanted, and `keeps_sign` if signs of life are. `is_honest` is true if the backup does as it answers.
 pub record BackupState : Type 0 where
   pub copied : Option (List ℕ)
   pub signs : ℕ
@@ -28,7 +28,8 @@ pub record IsSameWish (old new : BackupState) : Type 0 where
 abbrev pub HasCopy : SidesOf → BackupState → Type 0
 HasCopy own state = (state.keeps_copy ≡ false) ⊎ (state.copied ≡ Some (sides_encoding own))
 
--- The bytes of the copy are as before, or they are the record of `own`, which extends the copy before.
+-- The bytes of the copy are as before, or they are the record of `own`. In the second case `own` extends the copy
+-- before, if there was one.
 abbrev pub MayCopy : SidesOf → Option (List ℕ) → Option (List ℕ) → Type 0
 MayCopy own before after = (after ≡ before) ⊎ (Replaces own before Done × (after ≡ Some (sides_encoding own)))
 
@@ -37,7 +38,8 @@ abbrev pub HasCopyIfDone : {A : Type 0} → SidesOf → Result A ToolFault → B
 HasCopyIfDone own (Ok done) new = HasCopy own new
 HasCopyIfDone own (Err fault) new = Unit {0}
 
--- A call copies a desk that holds `own`. All else stays.
+-- A call copies a desk that holds `own`, from the state `old` to `new`. If it is done, the copy has the record of
+-- `own`, or no copy is wanted. If it failed, the copy may be new or as before. All else stays.
 pub record CopiesDesk {A : Type 0} (own : SidesOf) (old : BackupState) (answer : Result A ToolFault) (new : BackupState)
     : Type 0 where
   pub may : MayCopy own old.copied new.copied
@@ -49,12 +51,13 @@ pub record CopiesDesk {A : Type 0} (own : SidesOf) (old : BackupState) (answer :
 abbrev pub signs_after : BackupState → ℕ
 signs_after old = if old.keeps_sign then suc old.signs else old.signs
 
--- If a sign of life is done, `signs` is the number after it (`signs_after`). If it failed, that or the number before.
+-- If a sign of life is done, `signs` is the number after it (`signs_after`). If it failed, `signs` is that number or
+-- the number before.
 abbrev pub HasSigned : {A : Type 0} → BackupState → Result A ToolFault → ℕ → Type 0
 HasSigned old (Ok done) signs = signs ≡ signs_after old
 HasSigned old (Err fault) signs = (signs ≡ old.signs) ⊎ (signs ≡ signs_after old)
 
--- A call gives a sign of life. All else stays.
+-- A call gives a sign of life, if one is wanted (`HasSigned`). The copy stays, and what is wanted stays.
 pub record Signs {A : Type 0} (old : BackupState) (answer : Result A ToolFault) (new : BackupState) : Type 0 where
   pub signs : HasSigned old answer new.signs
   pub copied : new.copied ≡ old.copied

@@ -10,7 +10,7 @@ use Rattle.ill_room.specs.declared.room.Place.{Place}
 use Rattle.ill_room.specs.declared.room.Place.TheVariants.{Waiting, Claimed, Aside, Gone}
 use Rattle.ill_room.specs.Room.{RoomState, place_of}
 
--- The files of mails with these verdicts cannot be settled so, whatever the answer was.
+-- A settling of mails with the verdicts `all` cannot lead from the room `old` to `new`, whether it is done or failed.
 pub data IsBadSettling (all : List Verdict) (old new : RoomState) : Type 0 where
   -- A claimed mail was to wait, and is gone.
   left_gone : (mail : ℕ) (delay : Delay) → slice_get all mail ≡ Some (verdicts.Left delay) →
@@ -30,7 +30,7 @@ pub data IsBadSettling (all : List Verdict) (old new : RoomState) : Type 0 where
   -- The messages that ask have changed.
   other_asks : new.asked ≢ old.asked → IsBadSettling all old new
 
--- The files of mails with these verdicts cannot all be settled so.
+-- A settling of mails with the verdicts `all` that is done cannot lead from the room `old` to `new`.
 pub data IsBadEnd (all : List Verdict) (old new : RoomState) : Type 0 where
   -- A claimed mail was done, and is still claimed.
   done_stays : (mail : ℕ) (outcome : DeskOutcome) → slice_get all mail ≡ Some (Done outcome) →

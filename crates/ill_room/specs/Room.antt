@@ -64,8 +64,8 @@ pub record GivesBack {A : Type 0} (mail : ℕ) (old : RoomState) (answer : A) (n
   pub here : MayMove Waiting (place_of old mail) (place_of new mail)
   pub else_same : IsElseSame mail old new
 
--- A call keeps `asked`, messages that ask; they were `before`, and are `after`. If it failed, `after` is `before` or
--- `asked`.
+-- A call keeps `asked` as the messages that ask, in place of `before`, and `after` are kept in the end. If it failed,
+-- `after` is `before` or `asked`.
 abbrev pub KeepsBytes : {A : Type 0} → List ℕ → List ℕ → Result A ToolFault → List ℕ → Type 0
 KeepsBytes asked before (Ok done) after = after ≡ asked
 KeepsBytes asked before (Err fault) after = (after ≡ before) ⊎ (after ≡ asked)
@@ -89,7 +89,8 @@ abbrev pub MaySettle : Option Verdict → Option Place → Option Place → Type
 MaySettle None before after = after ≡ before
 MaySettle (Some verdict) before after = MayMove (place_for verdict) before after
 
--- The file of a mail with this verdict was settled. One that waits may stay claimed, for the next run.
+-- The file of a mail with this verdict was settled. If the mail is to wait, it may stay claimed, for the next run.
+-- Without a verdict the mail stays at its place.
 abbrev pub IsSettled : Option Verdict → Option Place → Option Place → Type 0
 IsSettled (Some (verdicts.Left delay)) before after = MayMove Waiting before after
 IsSettled (Some verdict) before after = after ≡ moved_at (place_for verdict) before
@@ -100,11 +101,12 @@ pub record Settles (all : List Verdict) (old new : RoomState) : Type 0 where
   pub each : (mail : ℕ) → MaySettle (slice_get all mail) (place_of old mail) (place_of new mail)
   pub asked : new.asked ≡ old.asked
 
--- The file of each mail with these verdicts was settled.
+-- The file of each mail was settled by its verdict in `all`. A mail without a verdict stays at its place.
 abbrev pub AreSettled : List Verdict → RoomState → RoomState → Type 0
 AreSettled all old new = (mail : ℕ) → IsSettled (slice_get all mail) (place_of old mail) (place_of new mail)
 
--- A call settles the files of mails with these verdicts. If it is done, each is settled.
+-- A call settles the files of mails with these verdicts. If it is done, each is settled. If it failed, each is settled
+-- or stays.
 abbrev pub SettlesAs : {A : Type 0} → List Verdict → RoomState → Result A ToolFault → RoomState → Type 0
 SettlesAs all old (Ok done) new = Settles all old new × AreSettled all old new
 SettlesAs all old (Err fault) new = Settles all old new
@@ -120,7 +122,8 @@ abbrev pub SettlesAt : {A : Type 0} → ℕ → Option Verdict → RoomState →
 SettlesAt mail None old answer new = new ≡ old
 SettlesAt mail (Some verdict) old answer new = SettlesOne mail verdict old answer new
 
--- A call settles the files of mails with these verdicts. If it answers true, each is settled.
+-- A call settles the files of mails with these verdicts. If it answers true, each is settled. If it answers false or
+-- failed, each is settled or stays.
 abbrev pub SettlesEach : List Verdict → RoomState → Result Bool ToolFault → RoomState → Type 0
 SettlesEach all old (Ok true) new = Settles all old new × AreSettled all old new
 SettlesEach all old answer new = Settles all old new

@@ -23,20 +23,20 @@ pub record Filling : Type 0 where
 abbrev pub no_texts : Filling
 no_texts = record { full = []; last = [] }
 
--- Returns the texts after one more message. A text has at most 1,048,576 bytes, so a message that does not fit begins the
--- next text.
+-- Returns the texts after one more message. If the last text would then have more than 1,048,576 bytes, the message
+-- begins the next text.
 abbrev pub with_message : Filling → List ℕ → Filling
 with_message old message =
     if nat_lt (1048576 - length old.last) (length message)
     then record { full = old.full ++ old.last ∷ []; last = message }
     else record { full = old.full; last = old.last ++ message }
 
--- Returns a text in a list, if it has any message.
+-- Returns a list with the text, or an empty list if the text is empty.
 abbrev pub if_any : List ℕ → List (List ℕ)
 if_any [] = []
 if_any (byte ∷ bytes) = (byte ∷ bytes) ∷ []
 
--- Returns all texts.
+-- Returns all texts, one after another. The last one is left out if it is empty.
 abbrev pub all_texts : Filling → List (List ℕ)
 all_texts texts = texts.full ++ if_any texts.last
 
@@ -51,8 +51,8 @@ pub record Sealing : Type 0 where
   pub key : List ℕ
   pub sender : Sender
 
--- Returns the name of the file of a letter. It is of the digest of the letter, so letters that differ have names that
--- differ, and an equal letter has the same name.
+-- Returns the name of the file of a letter: `letter-` and the first 32 hexadecimal digits of the letter's digest. Equal
+-- letters have one name. Letters that differ have names that differ, as long as no digests collide.
 abbrev pub letter_name : List ℕ → List ℕ
 letter_name letter = codes "letter-" ++ take 32 (encode_lower (sha256 letter))
 
@@ -72,7 +72,8 @@ abbrev pub form_of : Option Sealing → List Letter → List Letter
 form_of None letters = letters
 form_of (Some sealing) letters = sealed_mails sealing letters
 
--- The messages were put into the outlet, in sealed letters if there is a key. Or some of these mails were.
+-- The messages of `letters` were put into the outlet, in sealed letters if there is a key. Or a prefix of these mails
+-- was, and the next one failed. If the call is done, its result is the number of messages.
 abbrev pub PutsWith : {M : Type 0} → (M → Letter → M) → Option Sealing → List Letter → Option M → Option M →
     Result ℕ ToolFault → Type 0
 PutsWith after sealing letters old new result = PutsAs after (form_of sealing) letters old new result

@@ -12,11 +12,11 @@ use std::io::Write;
 
 /// A copy of a desk, and a sign of life, if they are wanted.
 ///
-/// The clauses hold of an honest one alone. A fault is `STORE_FAILED`, or memory ran out. A line to `errors` tells the
-/// reason.
+/// The clauses `copies` and `signs` say what an honest backup does, and nothing of another one. A fault is
+/// `STORE_FAILED`, or memory ran out. A line to `errors` tells the reason.
 pub trait Backup {
-    /// Returns the state: the copy, and the number of signs of life. Its part `is_honest` is true if all is done as it is
-    /// answered.
+    /// Returns the state: the copy, the number of signs of life, and which of them are wanted. Its part `is_honest` is
+    /// true if the backup does as it answers.
     ghost state: { Self → BackupState };
 
     /// Copies `desk`, if a copy is wanted. A copy that the desk does not extend is not replaced, which is a failure.
@@ -25,7 +25,7 @@ pub trait Backup {
             (state self.new) }
         ensures faults { IfErr result IsFileFault };
 
-    /// Gives a sign of life, if it is wanted.
+    /// Gives one sign of life, if signs are wanted.
     fn sign<E: Write>(&mut self, errors: &mut E) -> Result<(), ToolFault>
         ensures signs { Answers is_honest_backup Signs (state self.old) result (state self.new) }
         ensures faults { IfErr result IsFileFault };

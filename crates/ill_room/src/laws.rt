@@ -12,8 +12,8 @@ ghost use Rattle.ill_room.specs.Sealed.{texts_of};
 
 use ill_seal::laws::nobody_forges_a_letter;
 
-/// Settling moves no mail to another place than that of its verdict. It moves no mail that is not claimed, and changes no
-/// message that asks.
+/// Settling neither removes nor puts aside a mail that is to wait, and removes no mail that is to be put aside. It
+/// gives no done mail back, moves no mail that is not claimed, and changes no message that asks.
 pub fn no_mail_comes_to_a_wrong_place()
     ensures { (all : List Verdict) (old new : RoomState) → IsBadSettling all old new → Settles all old new → ⊥ }
 {}
@@ -24,7 +24,7 @@ pub fn letters_have_all_messages()
     ensures { (messages : List (List ℕ)) → concat (texts_of messages) ≡ concat messages }
 {}
 
-/// If nobody else seals, the messages that are opened are all those of a text that the other library has sealed. The
+/// If nobody else seals, the messages of a letter that opens are all messages of a text that its sender has sealed. The
 /// premise rests on the secrecy of the key and on SHA-256, and no proof can give it.
 pub fn nobody_forges_a_message()
     ensures { (key letter : List ℕ) (messages : List (List ℕ)) (texts : Sender → List (List ℕ)) (came : List (List ℕ))

@@ -10,8 +10,8 @@ use ill_seal::{Key, Sender, unseal};
 use ill_values::OutOfMemory;
 use std::alloc::Global;
 
-/// Returns the messages in `letter`, one after another, if `sender` has sealed it with `key`. What follows them and is no
-/// message is the last one.
+/// Returns the messages in `letter`, one after another, or `None` if `sender` has not sealed it with `key`. Bytes after
+/// the messages that are no message are returned as the last element.
 pub fn messages_in(
     alloc: Global,
     key: &Key,
@@ -27,7 +27,8 @@ pub fn messages_in(
     }
 }
 
-/// Returns the messages in `text`, one after another. What follows them and is no message is the last one.
+/// Returns the messages in `text`, one after another. Bytes after the messages that are no message are returned as the
+/// last element.
 fn parted(alloc: Global, text: &[u8]) -> Result<Vec<Vec<u8>>, OutOfMemory>
     ensures { IfOk result (λ messages. concat (map (λ message. message.items) messages.items) ≡ text.now) }
 {
@@ -41,7 +42,8 @@ fn parted(alloc: Global, text: &[u8]) -> Result<Vec<Vec<u8>>, OutOfMemory>
     Ok(messages)
 }
 
-/// Returns the size of the message with which `text` begins. If it begins with none, that is the size of all.
+/// Returns the size of the message with which `text` begins. If `text` begins with no message, returns the size of
+/// `text`.
 fn first_size(text: &[u8]) -> usize
     requires { 1 ≤ length text.now }
     ensures least { 1 ≤ result }
@@ -53,8 +55,8 @@ fn first_size(text: &[u8]) -> usize
     }
 }
 
-/// Returns the verdicts by which the files of `mails` are settled. A mail in a letter shares its file, which has the worst
-/// verdict of the mails in it.
+/// Returns the verdicts by which the files of `mails` are settled. A mail in a letter shares its file, which has the
+/// worst verdict of the mails in it.
 pub fn file_verdicts(
     alloc: Global,
     mails: &[Mail],
@@ -88,7 +90,8 @@ fn push_file_verdict(
     }
 }
 
-/// Returns the verdict by which the file of a mail with `verdict` is settled, if it is in `letter`.
+/// Returns the verdict by which the file of a mail with `verdict` is settled. `letter` is the letter that the mail is
+/// in, if there is one. `mails` and `verdicts` are those of the run.
 fn file_verdict(
     letter: Option<InLetter>,
     verdict: Verdict,
@@ -114,7 +117,8 @@ fn worst_in(number: usize, verdict: Verdict, mails: &[Mail], verdicts: &[Verdict
     worst
 }
 
-/// Returns the worse of `worst` and the verdict of a mail, if both are there and the mail is in the letter `number`.
+/// Returns the worse of `worst` and `verdict`, if there are a mail and a verdict and the mail is in the letter
+/// `number`. Else returns `worst`.
 fn worse_at(
     number: usize,
     worst: Verdict,
@@ -130,7 +134,8 @@ fn worse_at(
     }
 }
 
-/// Returns the worse of `worst` and `verdict`, the verdict of `mail`, if that is in the letter `number`.
+/// Returns the worse of `worst` and `verdict`, if `mail`, whose verdict that is, is in the letter `number`. Else
+/// returns `worst`.
 fn worse_if_in(number: usize, worst: Verdict, mail: &Mail, verdict: Verdict) -> Verdict
     ensures { result ≡ worse_if_in number worst (mail.now, verdict) }
 {
@@ -141,7 +146,7 @@ fn worse_if_in(number: usize, worst: Verdict, mail: &Mail, verdict: Verdict) -> 
     }
 }
 
-/// Returns true if a mail is in the letter `number`.
+/// Returns true if a mail is in the letter `number`. `letter` is the letter that the mail is in, if there is one.
 fn is_in(number: usize, letter: Option<InLetter>) -> bool
     ensures { result ≡ is_in number letter }
 {
@@ -151,7 +156,8 @@ fn is_in(number: usize, letter: Option<InLetter>) -> bool
     }
 }
 
-/// Returns the worse of two verdicts of mails in one file.
+/// Returns the worse of two verdicts of mails in one file: `Left` is worse than `Aside`, and `Aside` is worse than
+/// `Done`.
 fn worse(worst: Verdict, other: Verdict) -> Verdict
     ensures { result ≡ worse worst other }
 {

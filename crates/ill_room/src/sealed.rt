@@ -25,15 +25,16 @@ const DIGITS: usize = 32;
 pub struct Seal<'k> {
     /// The key, which the other library holds too.
     pub key: &'k Key,
-    /// The sender.
+    /// The library that sends the letters. Each letter names it.
     pub sender: Sender,
 }
 
-/// Puts the messages of `run_desk_outbox` into `out`, and returns their number. With `seal` they leave in sealed letters,
-/// as many messages in each as it may have. Else each leaves in a mail of its own.
+/// Puts the messages of `run_desk_outbox` into `out`, and returns the number of messages. `asking` has the messages
+/// that came for loans that are over. With `seal` the messages leave in sealed letters, as many in each as it may have.
+/// Else each message leaves in a mail of its own.
 ///
-/// After a fault, `out` has a prefix of these mails, and no part of another. All letters are sealed before the first one is
-/// put.
+/// After a fault, `out` has a prefix of these mails, and no part of another. All letters are sealed before the first
+/// one is put.
 pub fn run_outbox_with<S: Store, O: Outgoing>(
     alloc: Global,
     desk: &Desk<S>,
@@ -80,8 +81,8 @@ fn run_sealed_outbox<S: Store, O: Outgoing>(
 
 /// Puts `messages` into `out`, one after another, in sealed letters.
 ///
-/// After a fault, `out` has a prefix of these letters, and no part of another. All letters are sealed before the first one
-/// is put.
+/// After a fault, `out` has a prefix of these letters, and no part of another. All letters are sealed before the first
+/// one is put.
 pub fn put_sealed<O: Outgoing>(
     alloc: Global,
     seal: Seal<'_>,
@@ -155,7 +156,7 @@ fn seal_all(
     Ok(letters)
 }
 
-/// Returns the letter that has `text`.
+/// Returns the letter that has `text`, sealed with the key and the sender of `with`.
 fn seal_one(alloc: Global, with: Seal<'_>, text: &[u8]) -> Result<SealedLetter, OutOfMemory>
     ensures { IfOk result (λ letter. mail_of letter ≡ sealed_mail (sealing_of with.entry) text.now) }
 {
@@ -210,7 +211,8 @@ fn texts_of(alloc: Global, messages: &[Vec<u8>]) -> Result<Vec<Vec<u8>>, OutOfMe
 }
 
 impl Texts {
-    /// Adds `message` to the last text, or to a new one if it does not fit there.
+    /// Adds `message` to the last text. If the last text would then have more than `TEXT` bytes, `message` begins a new
+    /// one.
     fn add(&mut self, message: &[u8]) -> Result<(), OutOfMemory>
         ensures { OnOk result (filling_of self.new ≡ with_message (filling_of self.old) message.now) }
     {
@@ -223,7 +225,7 @@ impl Texts {
         Ok(())
     }
 
-    /// Returns all texts that have a message.
+    /// Returns all texts, one after another. The last one is left out if it is empty.
     fn all(self) -> Result<Vec<Vec<u8>>, OutOfMemory>
         ensures { IfOk result (λ texts. map (λ text. text.items) texts.items ≡ all_texts (filling_of self)) }
     {

@@ -43,7 +43,8 @@ pub fn end_run<R: Room, E: Write>(
 
 /// Settles the file of each mail by its verdict. It removes the file of a done mail, and puts a mail aside that no desk
 /// will ever take. It gives the others back to their folder. If that fails for a file, a line to `errors` names its
-/// mail, and the fault is then a failure of the store. If memory runs out, all further files stay.
+/// mail, and the further files are settled. The call then fails with `STORE_FAILED`. If memory runs out, all further
+/// files stay.
 fn settle_mails<R: Room, E: Write>(
     alloc: Global,
     room: &mut R,
@@ -62,7 +63,8 @@ fn settle_mails<R: Room, E: Write>(
     }
 }
 
-/// Settles the files of mails, and returns true if each of them could be settled.
+/// Settles the file of each mail, and returns true if no call failed. Writes a line to `errors` for each mail whose
+/// call failed. If memory runs out, it fails, and all further files stay.
 #[tactic(auto, using(crate::proofs::RoomLemmas::none_settled, crate::proofs::RoomLemmas::each_settled))]
 fn settle_each<R: Room, E: Write>(
     alloc: Global,
@@ -87,14 +89,15 @@ fn settle_each<R: Room, E: Write>(
     Ok(all_done)
 }
 
-/// Writes a line about the mail `mail`, which could not be settled.
+/// Writes a line to `errors` about the mail `mail` of `mails`, which could not be settled. Without such a mail, writes
+/// nothing.
 fn warn_of_stuck<E: Write>(alloc: Global, mails: &[Mail], mail: usize, errors: &mut E) {
     if let Some(stuck) = mails.get(mail) {
         warn(alloc, &stuck.name, STUCK, errors);
     }
 }
 
-/// Settles the file of the mail `mail` by its verdict among `verdicts`.
+/// Settles the file of the mail `mail` by its verdict among `verdicts`. Without a verdict, does nothing.
 fn settle_at<R: Room>(room: &mut R, mail: usize, verdicts: &[Verdict]) -> Result<(), ToolFault>
     ensures settles { Answers is_honest_room (SettlesAt mail (slice_get verdicts.now mail)) (R.state room.old) result
         (R.state room.new) }
@@ -106,7 +109,7 @@ fn settle_at<R: Room>(room: &mut R, mail: usize, verdicts: &[Verdict]) -> Result
     }
 }
 
-/// Settles the file of the mail `mail` by its verdict.
+/// Settles the file of the mail `mail` by `verdict`: removes it, puts it aside or gives it back.
 fn settle<R: Room>(room: &mut R, mail: usize, verdict: Verdict) -> Result<(), ToolFault>
     ensures settles { Answers is_honest_room (SettlesOne mail verdict) (R.state room.old) result (R.state room.new) }
     ensures faults { IfErr result IsFileFault }

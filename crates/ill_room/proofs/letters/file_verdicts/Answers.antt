@@ -9,7 +9,8 @@ use Rattle.ill_room.specs.Letters.{file_verdict, pair_at}
 use Rattle.ill_room.proofs.LettersLemmas.{split_at, verdict_of_pair}
 use Rattle.ill_room.proofs.letters.file_verdicts.Goals as goal
 
--- Proves the loop invariant after one more mail. `split_at` splits it off.
+-- Proves the loop invariant after one more mail. `here` has the mail at `place` with its verdict, if there are both,
+-- and `left` has the later pairs. By `split_at` they are the pairs from `place` on (`further`).
 pub loop-place-preserved : goal.loop-place-preserved
 loop-place-preserved c =
     let mails = c.args.mails.now in

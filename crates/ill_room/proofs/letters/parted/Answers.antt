@@ -5,7 +5,8 @@ use Rattle.std.proofs.lemmas.List.{append-nil, map-append}
 use Rattle.std.proofs.lemmas.List.Folds.{concat-append}
 use Rattle.ill_room.proofs.letters.parted.Goals as goal
 
--- One more message was parted. It is the front of what was left.
+-- Proves the loop invariant after one more message. The message and `others` are what was left (`parts`, and `here` for
+-- the copy of the message). `before` has the bytes of the messages before it.
 pub loop-rest-preserved : goal.loop-rest-preserved
 loop-rest-preserved c =
     let others = c.split_at.result.1.now in

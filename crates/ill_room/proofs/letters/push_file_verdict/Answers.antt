@@ -9,7 +9,7 @@ use Rattle.ill_room.specs.Letters.{verdict_at}
 use Rattle.ill_room.proofs.LettersLemmas.{item_at, no_verdict}
 use Rattle.ill_room.proofs.letters.push_file_verdict.Goals as goal
 
--- The mail has no verdict.
+-- There is no verdict at `place`. Then nothing is appended, and `verdict_at` is empty.
 pub returns-in_default : goal.returns-in_default
 returns-in_default c =
     let items = c.args.settled.now.items in
@@ -20,7 +20,7 @@ returns-in_default c =
     ∙ ap (option_map (λ (verdict : Bor Verdict). verdict.now)) c.in_default.is-1 in
     sym (append-nil items) ∙ ap (λ more. items ++ more) (sym (ap (verdict_at all mail) none ∙ no_verdict all mail))
 
--- There is no mail.
+-- There is no mail at `place`. Then nothing is appended, and `verdict_at` is empty.
 pub returns-in_default-2 : goal.returns-in_default-2
 returns-in_default-2 c =
     let items = c.args.settled.now.items in

@@ -9,7 +9,9 @@ use Rattle.ill_room.specs.Letters.{pair_at, worse_if_in}
 use Rattle.ill_room.proofs.LettersLemmas.{item_at, split_at}
 use Rattle.ill_room.proofs.letters.worst_in.Goals as goal
 
--- Proves the loop invariant after one more mail. `split_at` splits it off.
+-- Proves the loop invariant after one more mail. `here` has the mail at `place` with its verdict, if there are both,
+-- and `left` has the later pairs. The call gets the pair `here` (`found`). By `split_at` the pairs from `place` on are
+-- `here` and `left` (`further`).
 pub loop-place-preserved : goal.loop-place-preserved
 loop-place-preserved c =
     let mails = c.args.mails.now in

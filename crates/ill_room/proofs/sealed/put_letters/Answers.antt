@@ -7,7 +7,7 @@ use Rattle.ill_room.specs.Sealed.{mail_of}
 use Rattle.ill_room.proofs.SealedLemmas.{each_letter_put}
 use Rattle.ill_room.proofs.sealed.put_letters.Goals as goal
 
--- A letter could not be put. The outlet then has the letters before it.
+-- A letter could not be put. The outlet then has the letters before it, whose number is `size`.
 pub returns-in-Err : goal.returns-in-Err
 returns-in-Err g c =
     let after = g.O.Outgoing.after in

@@ -28,7 +28,8 @@ module _ {D : Type 0} (state : D → DiskState) where
   place_found run mail spot found = slice_get-map (place_of (state run.disk).now.names) run.spots mail
       ∙ ap (option_map (place_of (state run.disk).now.names)) found
 
-  -- If the disk and the mails of `new` are those of `old`, and the mails were kept, they are kept.
+  -- If `new` has the disk and the mails of `old`, and the mails of `old` were kept (`AreKept`), those of `new` are
+  -- kept.
   pub same_kept : (old new : MailRunOf D) → new.spots ≡ old.spots → state new.disk ≡ state old.disk →
       AreKept state old → AreKept state new
   same_kept old new spots disk kept h mail spot found =

@@ -13,14 +13,14 @@ use Rattle.ill_mail_disk.specs.Runs.{MailRunOf, MailsSurvive, RunState}
 use Rattle.ill_mail_disk.proofs.Steps.{survives_none}
 use Rattle.ill_disk_room.specs.DiskRooms.{Agree, place_on, room_on}
 
--- A mail moves in the room as it does on the disk.
+-- To move `place` on the disk, and then take the room's place for it, is to take the room's place and then move it.
 place_moves : (to place : disks.Place) → place_on (disks.moved to place) ≡ moved (place_on to) (place_on place)
 place_moves to disks.Waiting = refl
 place_moves to disks.Claimed = refl
 place_moves to disks.Aside = refl
 place_moves to disks.Gone = refl
 
--- The mail, if there is one, moves in the room as it does on the disk.
+-- As `place_moves`, for a place that may be None.
 moves_on : (to : disks.Place) (place : Option disks.Place) →
     option_map place_on (option_map (disks.moved to) place) ≡ moved_at (place_on to) (option_map place_on place)
 moves_on to None = refl
@@ -30,8 +30,9 @@ moves_on to (Some place) = ap Some (place_moves to place)
 place_is : (run : RunState) (mail : ℕ) → place_of (room_on run) mail ≡ option_map place_on (slice_get run.places mail)
 place_is run mail = slice_get-map place_on run.places mail
 
--- Let the answers agree, and let a mail stay or move in the room as on the disk. Then it comes to `to` in the room if
--- it comes to `on` on the disk.
+-- A call leads a mail from the place `here` to `there` on the disk, and from `before` to `after` in the room. Let the
+-- answers agree, and let the mail stay or move in the room as on the disk. If it comes to `on` on the disk, it comes to
+-- `to` in the room.
 comes_to : {A B E : Type 0} (to : Place) (before after : Option Place) (on : disks.Place) (here there : Option disks.Place)
     (answer : Result A E) (other : Result B ToolFault) → Agree answer other →
     (there ≡ here → after ≡ before) → (there ≡ option_map (disks.moved on) here → after ≡ moved_at to before) →

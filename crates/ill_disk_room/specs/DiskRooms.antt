@@ -14,7 +14,7 @@ place_on disks.Claimed = places.Claimed
 place_on disks.Aside = places.Aside
 place_on disks.Gone = places.Gone
 
--- Returns the state of a room by that of the run on its disk.
+-- Returns the state of a room by the state of its run on the disk.
 abbrev pub room_on : RunState → RoomState
 room_on run = record { places = map place_on run.places; asked = run.asked; is_honest = run.is_honest }
 

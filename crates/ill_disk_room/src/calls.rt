@@ -13,7 +13,8 @@ use ill_night::verdict::{Unfit, push_unfit};
 use ill_text::fault::{STORE_FAILED, ToolFault};
 use std::alloc::Global;
 
-/// Returns the answer of a room for that of its run.
+/// Returns the answer of a room for the answer of its run. If the run's memory ran out, so did the room's. Each other
+/// fault becomes `STORE_FAILED`.
 fn answer_of(answer: Result<(), DiskFault>) -> Result<(), ToolFault>
     ensures agree { Agree answer result }
     ensures faults { IfErr result IsFileFault }
@@ -25,7 +26,8 @@ fn answer_of(answer: Result<(), DiskFault>) -> Result<(), ToolFault>
     }
 }
 
-/// Flushes the claimed name of each mail of a run, so that no crash loses one.
+/// Flushes the claimed name of each mail of which a run takes care, so that each crash leaves these mails. Fails if a
+/// file does not stand at its claimed path, or a flush fails.
 pub(crate) fn flush_claims_of<D: MailDisk>(run: &mut MailRun<D>) -> Result<(), ToolFault>
     ensures kept { OnOk result (AreKept D.state run.new) }
     ensures faults { IfErr result IsFileFault }
@@ -38,7 +40,7 @@ pub(crate) fn flush_claims_of<D: MailDisk>(run: &mut MailRun<D>) -> Result<(), T
     }
 }
 
-/// Removes the mail `mail` of a run.
+/// Removes the mail `mail` of a run. A mail that is not claimed stays.
 pub(crate) fn remove_from<D: MailDisk>(run: &mut MailRun<D>, mail: usize) -> Result<(), ToolFault>
     ensures moves { Answers is_honest_room (Moves places.Gone mail) (room_state D.state run.old) result
         (room_state D.state run.new) }
@@ -64,7 +66,7 @@ fn put_aside_from<D: MailDisk>(
     answer_of(run.put_aside(mail, why))
 }
 
-/// Returns the line of the reason why a mail is put aside.
+/// Returns the line that tells `unfit`, the reason why a mail is put aside.
 fn reason_of(alloc: Global, unfit: Unfit) -> Result<Vec<u8>, ToolFault>
     ensures { IfErr result IsFileFault }
 {
@@ -74,7 +76,8 @@ fn reason_of(alloc: Global, unfit: Unfit) -> Result<Vec<u8>, ToolFault>
     Ok(why)
 }
 
-/// Puts the mail `mail` of a run aside, with the reason `unfit`.
+/// Puts the mail `mail` of a run aside, with the line of the reason `unfit`. If memory runs out for the line, changes
+/// nothing.
 #[tactic(auto, using(crate::proofs::RoomOnDisk::fails_in_room, crate::proofs::RoomOnDisk::all_survive))]
 pub(crate) fn put_unfit_aside<D: MailDisk>(
     alloc: Global,
@@ -94,7 +97,8 @@ pub(crate) fn put_unfit_aside<D: MailDisk>(
     }
 }
 
-/// Gives the mail `mail` of a run back.
+/// Gives the mail `mail` of a run back to the folder from which it was claimed. If another mail of its name has come
+/// there, or is in the run, it stays claimed.
 pub(crate) fn give_back_from<D: MailDisk>(
     run: &mut MailRun<D>,
     mail: usize,

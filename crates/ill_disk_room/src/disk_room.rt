@@ -51,8 +51,9 @@ impl<'a, D: MailDisk> Model for DiskRoom<'a, D> {
 }
 
 impl<'a, D: MailDisk + Drop> DiskRoom<'a, D> {
-    /// Returns the room of the mails of `run`, after it has flushed the claimed name of each. Lines about faults name
-    /// `file`. If there are mails `told`, it tells a person of them. At its end it removes those of `folders` that are empty.
+    /// Returns the room of the mails of `run`, after it has flushed the claimed name of each. Fails if a mail does not
+    /// stand at its claimed path, or a flush fails. Lines about faults name `file`. If there are mails `told`, the room
+    /// writes a line about each of them that wants a person. `clear` removes those of `folders` that are empty.
     pub fn at(
         alloc: Global,
         run: MailRun<D>,
@@ -88,7 +89,8 @@ impl<'a, D: MailDisk> DiskRoom<'a, D> {
     }
 }
 
-/// Writes a line about the messages that ask at the desk in `file`, if a store has failed to keep them.
+/// Writes a line about the messages that ask at the desk in `file`, if `kept` is a fault other than a lack of memory.
+/// `kept` is the answer of the call that was to keep them.
 fn warn_unless_kept<E: Write>(
     alloc: Global,
     file: &[u8],
@@ -101,7 +103,8 @@ fn warn_unless_kept<E: Write>(
     }
 }
 
-/// Each call of a room is one of its run. All that `Room` asks holds on an honest disk.
+/// Each call that moves a mail, keeps messages or removes folders is a call of the run. On an honest disk these calls
+/// do all that `Room` asks. `tell_person` writes lines about the mails `told`, if there are any.
 impl<'a, D: MailDisk> Room for DiskRoom<'a, D> {
     ghost state = { λ room. room_state D.state room };
 

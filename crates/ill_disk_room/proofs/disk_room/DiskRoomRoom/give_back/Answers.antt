@@ -4,11 +4,11 @@ use Rattle.ill_room.specs.Room.{Answers, GivesBack, is_honest_room}
 use Rattle.ill_disk_room.specs.DiskRooms.{room_state}
 use Rattle.ill_disk_room.proofs.disk_room.DiskRoomRoom.give_back.Goals as goal
 
--- `give_back_from` says it of the run, which is the value of the room (`view_is`).
+-- The contract of `give_back_from` gives this clause for the run, which is the value of the room (`view_is`).
 pub returns-clause-moves : goal.returns-clause-moves
 returns-clause-moves g c = subst (λ r. Answers is_honest_room (GivesBack c.args.mail) (room_state g.D.Disk.state r)
     c.give_back_from.result (room_state g.D.Disk.state c.give_back_from.new.run)) c.self.view_is c.give_back_from.ensures.moves
 
--- `give_back_from` keeps the mails of the run.
+-- If the mails of the run were kept, `give_back_from` keeps them (`AreKept`), which is the invariant of the room.
 pub invariant_of-self : goal.invariant_of-self
 invariant_of-self g c = c.give_back_from.ensures.kept c.self.invariant

@@ -99,8 +99,8 @@ handled_join handles before middle after [] more first second = subst (λ s. Han
 handled_join handles before middle after (apdu ∷ prefix) more first second =
     (first.0, first.1, handled_join handles first.0 middle after prefix more first.2 second)
 
--- If the count is at most 100,000, counting and handling `apdus` raises it by their number, and it stays so. Without
--- the count, `handles` has handled `apdus`.
+-- Let the count be at most 100,000 before `apdus` are counted and handled. Then it is greater by their number
+-- afterwards, and still at most 100,000. Without the count, `handles` has handled `apdus`.
 counted_on : {S : Type 0} (handles : Handles S ToolFault) (before after : ℕ × S) (apdus : List Apdu)
     → before.0 ≤ 100000 → Handled (CountsOn handles) before apdus after
     → (after.0 ≡ before.0 + length apdus) × (after.0 ≤ 100000) × Handled handles before.1 apdus after.1
@@ -224,7 +224,8 @@ ShortLaw = (bytes : List ℕ) (n : ℕ) → apdu_at bytes ≡ Err (Short n) → 
 few_held : ShortLaw → (held : List ℕ) → IsUnfinished held → length held ≤ 358
 few_held law held is = (law held (length held) is).1
 
--- If `piece` is read after `held`, the bytes read end with `held` and then `piece`.
+-- If `piece` is read after `apdus` and `held`, all bytes read are the encodings of `apdus`, then `held`, and then
+-- `piece`.
 piece_read : (old now new : Option (List ℕ)) (apdus : List Apdu) (held piece : List ℕ)
     → Consumes old now (encodings apdus ++ held) → Consumes now new piece
     → Consumes old new (encodings apdus ++ (held ++ piece))
@@ -232,7 +233,8 @@ piece_read old now new apdus held piece read more =
     subst (Consumes old new) (append_assoc (encodings apdus) held piece)
     (Consumes-trans old now new (encodings apdus ++ held) piece read more)
 
--- If `held` and `piece` together are the encodings of `more` and a `rest`, all bytes read end with these.
+-- Let `piece` be read after `apdus` and `held`, and let `held ++ piece` be the encodings of `more` and then `rest`.
+-- Then all bytes read are the encodings of `apdus ++ more`, and then `rest`.
 apdus_read : (old now new : Option (List ℕ)) (apdus more : List Apdu) (held piece rest : List ℕ)
     → Consumes old now (encodings apdus ++ held) → Consumes now new piece → Begins (held ++ piece) more rest
     → Consumes old new (encodings (apdus ++ more) ++ rest)
@@ -240,7 +242,7 @@ apdus_read old now new apdus more held piece rest read piece_is begins =
     subst (Consumes old new) (ap (λ (x : List ℕ). encodings apdus ++ x) begins.parts ∙ encoded_join apdus more rest)
     (piece_read old now new apdus held piece read piece_is)
 
--- ---- one piece more
+-- ---- one piece more: what it adds to the APDUs so far, and that the measure of the loop falls
 
 -- Returns an upper bound of the bytes that may still be read, or 0 if the feed is closed.
 abbrev pub most_bytes_left : ℕ → FeedState → ℕ
@@ -324,7 +326,7 @@ one_piece_more {H = H} {C = C} handles law old now new before middle after feed 
           is.unfinished leaves.1 some,
     )
 
--- ---- the end of an input
+-- ---- the end of an input: no bytes left, a reader that fails, a fault of bytes, or an APDU that is not handled
 
 -- If the input ends after `apdus` and the bytes `held`, `ReadsInput` holds of it.
 ends_held : {S : Type 0} (handles : Handles S ToolFault) → ShortLaw

@@ -38,7 +38,7 @@ unfolding joined
 joined_map text f before [] = refl
 joined_map text f before (item ∷ items) = ap (λ left. before ++ text (f item) ++ left) (joined_map text f (codes ",") items)
 
--- ---- further items
+-- ---- further items, which are joined after others
 
 -- With a comma before each item, the join of `items ++ more` is that of `items`, and then that of `more`.
 joined_more : {X : Type 0} (text : X → List ℕ) (items more : List X)
@@ -50,7 +50,7 @@ joined_more text (item ∷ items) more =
     ap (λ left. this ++ left) (joined_more text items more)
     ∙ sym (append_assoc this (joined text (codes ",") items) (joined text (codes ",") more))
 
--- If `shown` ends with the join of `first ∷ items`, appending that of `more` makes it the join of all.
+-- If `shown` ends with the join of `first ∷ items`, and the join of `more` is appended, it ends with the join of all.
 pub joined_further : {X : Type 0} (text : X → List ℕ) (before old shown : List ℕ) (first : X) (items more : List X)
     → shown ≡ old ++ joined text before (first ∷ items)
     → shown ++ joined text (codes ",") more ≡ old ++ joined text before ((first ∷ items) ++ more)

@@ -1,4 +1,4 @@
--- Proves how desks are visited one after another.
+-- Proves that `VisitsEach` holds before the first visit to a desk, and after one more visit.
 use Rattle.std.proofs.Common.{◌≡◌, ◌-◌, Bool, true, false, Result, Ok, Err, refl, arith, ℕ, zero, suc, ◌+◌, ◌<◌, ◌++◌, List, []}
 use Rattle.std.proofs.Common.{◌∷◌, length, map, fold, take, get_or, Option, ap, sym, subst, ◌∙◌, add-one}
 use Rattle.ill_text.specs.declared.fault.ToolFault.{ToolFault}
@@ -45,8 +45,8 @@ first_visited (path ∷ paths) [] (suc place) within is = absurd cc
 first_visited (path ∷ paths) (stop ∷ stops) zero within is = absurd cc
 first_visited (path ∷ paths) (stop ∷ stops) (suc place) within is = sym (not_first place)
 
--- Let `stops` lead from `before` to `between`, and let `stop` begin there. Then `stops` and `stop` lead from `before`
--- to the output after `stop`.
+-- Let `stops` lead from the output `before` to `between`, and let `stop` begin with `between`. Then `stops` and then
+-- `stop` lead from `before` to the output after `stop`.
 follow_more : (before between : Option (List ℕ)) (stops : List Stop) (stop : Stop)
     → AreConsecutive before stops between → stop.before ≡ between → AreConsecutive before (stops ++ stop ∷ []) stop.after
 unfolding AreConsecutive

@@ -62,7 +62,7 @@ apdu_fields a = head_fields a ++ body_fields a.body
 abbrev pub line_fields : Apdu → List Field
 line_fields a = (codes "kind", quoted (codes "message")) ∷ apdu_fields a
 
--- Returns an APDU in the lines of `show`, or as an object.
+-- Returns the text of an APDU in a form: its lines (`lines_of`), or its object on one line.
 abbrev pub apdu_text : Form → Apdu → List ℕ
 apdu_text Lines a = lines_of a
 apdu_text Json a = object_line (line_fields a)

@@ -24,7 +24,8 @@ pub record Stamped : Type 0 where
 abbrev pub stamped : Stamp → Stamped
 stamped stamp = record { day = stamp.day; by = option_map (λ name. name.now) stamp.by }
 
--- Returns true if a diary may name a person so: an item could have this text, no space is in it, and it is no dash.
+-- Returns true if a diary may name a person by `text`. An item could have this text, it has no space, and it is no
+-- dash.
 abbrev pub is_name : List ℕ → Bool
 is_name text = is_ok (item_check text) && (not (list_any (λ byte. byte == 0x20) text) && not (bytes_eq text (codes "-")))
 
@@ -33,12 +34,12 @@ abbrev pub name_or_dash : Option (List ℕ) → List ℕ
 name_or_dash None = codes "-"
 name_or_dash (Some name) = escaped name
 
--- Returns the text that names a message: its loan, `what` it is, and its number. `what` is the verb of an issued message,
--- and the type of one that came.
+-- Returns the text that names a message: its loan, `what` it is, and its number. `what` is the verb of an issued
+-- message, and the type of one that came.
 abbrev pub message_key : Qualifiers → (what : List ℕ) → ℕ → List ℕ
 message_key txn what number = loan_key txn ++ (what ++ (codes " " ++ decimal number))
 
--- Returns the text before the key of a message: the day, and the name of a person.
+-- Returns the text before the key of a message: the day, and the name of a person or a dash.
 abbrev pub stamp_text : Date → Option (List ℕ) → List ℕ
 stamp_text day by = date_text day ++ (codes " " ++ (name_or_dash by ++ codes " "))
 
@@ -61,12 +62,12 @@ came_lines begin apdus = flat_map (came_line begin) apdus
 
 -- ---- a diary that is written
 
--- A diary that is written: its bytes, if they are known, and true if it has failed.
+-- A diary that is written: its bytes, if they are known. `has_failed` is true if a line could not be entered.
 pub record DiaryState : Type 0 where
   pub bytes : Option (List ℕ)
   pub has_failed : Bool
 
--- Returns the state of a diary with these bytes.
+-- Returns the state of a diary with these bytes, which has failed if `has_failed` is true.
 abbrev pub diary_state : Option (List ℕ) → Bool → DiaryState
 diary_state bytes has_failed = record { bytes = bytes; has_failed = has_failed }
 
@@ -75,6 +76,7 @@ abbrev pub GrowsBy : (has_failed : Bool) → List ℕ → Option (List ℕ) → 
 GrowsBy false lines old new = Appends old new lines
 GrowsBy true lines old new = (size : ℕ) × Appends old new (take size lines)
 
--- `lines` were entered in a diary. A diary that has failed before stays as it is.
+-- A call was to enter `lines` in a diary. All of them were entered, or only a prefix if the diary has failed. A diary
+-- that had failed before stays as it is.
 abbrev pub Enters : List ℕ → DiaryState → DiaryState → Type 0
 Enters lines old new = GrowsBy new.has_failed lines old.bytes new.bytes × (old.has_failed ≡ true → new ≡ old)

@@ -85,14 +85,14 @@ abbrev pub is_control : ℕ → Bool
 is_control byte = nat_lt byte 0x20 || (byte == 0x7F)
 
 -- Returns the text of a byte that begins no acting character of two bytes or more. A control character of
--- ASCII becomes an escape, since a path may have one.
+-- ASCII becomes an escape, since a path may have one. In JSON a quotation mark and a backslash get a backslash.
 abbrev pub byte_text : Escaping → ℕ → List ℕ
 byte_text Screen byte = if is_control byte then escape Screen byte else byte ∷ []
 byte_text Json byte =
     if needs_backslash byte then 0x5C ∷ byte ∷ [] else (if is_control byte then escape Json byte else byte ∷ [])
 
--- Returns `text` with an escape for each acting character. Other bytes stay, but for quotation marks and
--- backslashes in JSON.
+-- Returns `text` with an escape for each acting character and each control character of ASCII. In JSON a quotation mark
+-- and a backslash get a backslash. All other bytes stay.
 unfoldable pub written : Escaping → List ℕ → List ℕ
 written escaping (first ∷ second ∷ third ∷ fourth ∷ rest) =
     if is_acting_pair first second
@@ -116,8 +116,8 @@ written escaping [] = []
 abbrev pub escaped : List ℕ → List ℕ
 escaped text = written Screen text
 
--- Given `Some (number, rest)`, `written` writes `first ∷ after` as the escape of `number`, and then writes `rest`.
--- Given None, `written` writes the byte `first` by itself.
+-- Given `Some (number, rest)`, `written` writes `first ∷ after` as the escape of `number`, and then writes `rest`,
+-- which is not longer than `after`. Given None, `written` writes the byte `first` by itself.
 abbrev pub IsActingPrefix : Escaping → ℕ → List ℕ → Option (ℕ × List ℕ) → Type 0
 IsActingPrefix escaping first after (Some (number, rest)) =
     (written escaping (first ∷ after) ≡ escape escaping number ++ written escaping rest)

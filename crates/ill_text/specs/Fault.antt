@@ -1,4 +1,4 @@
--- The faults that commands make of those of a desk and its store.
+-- The faults of commands, made of the faults of a desk and its store.
 use Rattle.std.specs.Prelude.{◌≡◌, ◌⊎◌, ℕ, ◌≤◌, Result, Err}
 use Rattle.ill_saved.specs.declared.fault.DeskFault.{DeskFault}
 use Rattle.ill_saved.specs.declared.fault.DeskFault.TheVariants as desks
@@ -16,13 +16,15 @@ desk_fault other = Desk other
 abbrev pub IsFileFault : ToolFault → Type 0
 IsFileFault fault = (fault ≡ Desk (desks.Store Failed)) ⊎ (fault ≡ OutOfMemory)
 
--- The fault is one with which a file is not opened, or its lock not taken.
+-- The fault is one of a desk (`Desk`), or a lack of memory. If a file is not opened or its lock not taken, it is no
+-- other.
 abbrev pub IsOpenFault : ToolFault → Type 0
 IsOpenFault (Desk fault) = Unit {0}
 IsOpenFault OutOfMemory = Unit {0}
 IsOpenFault other = ⊥
 
--- If the answer is a failure of the store, the count of these has risen, or is at its maximum.
+-- If the answer is a failure of the store, the count of such failures has risen from `old` to `new`, or is at its
+-- maximum.
 abbrev pub ToolFailsCounted : {X : Type 0} → Result X ToolFault → ℕ → ℕ → Type 0
 ToolFailsCounted (Err (Desk (desks.Store Failed))) old new = HasRisen old new
 ToolFailsCounted answer old new = Unit {0}

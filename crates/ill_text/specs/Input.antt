@@ -18,8 +18,8 @@ encodings apdus = flat_map encoding apdus
 
 -- ---- the end of an input
 
--- The part of an input after the APDUs that were handled. `bytes` come first: the end is about them. Then comes
--- `ahead`, which was read but not decoded, and then `unread`, which may be unknown.
+-- The part of an input after the APDUs that were handled. `bytes` come first: a fault at the end is a fault of them.
+-- Then comes `ahead`, which was read but not decoded, and then `unread`, which may be unknown.
 pub record Rest : Type 0 where
   pub bytes : List ℕ
   pub ahead : List ℕ
@@ -41,7 +41,7 @@ StopsReading TooMany count rest = (count ≡ 100000) × EncodesOne rest.bytes
 StopsReading Read count rest = IsUnfinished rest.bytes × (rest.ahead ≡ [])
 StopsReading other count rest = ⊥
 
--- `bytes` encode an APDU, `count` before it are fewer than 100,000, and its handling failed with `fault`.
+-- `bytes` encode an APDU, the `count` APDUs before it are fewer than 100,000, and its handling failed with `fault`.
 abbrev pub FailsHandling : {S : Type 0} → Handles S ToolFault → ToolFault → ℕ → List ℕ → S → S → Type 0
 FailsHandling handles fault count bytes before after =
     (apdu : Apdu) × IsApdu apdu × (bytes ≡ encoding apdu) × (count < 100000)
@@ -56,10 +56,10 @@ Ends handles (Err fault) count rest before after =
     (StopsReading fault count rest × (after ≡ before))
     ⊎ FailsHandling handles fault count rest.bytes before after
 
--- The input was read from `old` to `new`, with this result. The bytes read were the encodings of `apdus`, then
--- `bytes`, and then `ahead`. The APDUs were handled one after another, from the state `before` to `last`. The
--- end of the input led on to `after`. `bytes` and `ahead` together are less than an APDU and a piece of 4,096
--- bytes.
+-- The input was read from `old` to `new`, with this result. The bytes read were the encodings of `apdus`, then `bytes`,
+-- and then `ahead`. The APDUs were handled one after another, from the state `before` to `last`. The end of the input
+-- led on to `after`. There are at most 100,000 APDUs. `bytes` and `ahead` together are less than the 359 bytes of the
+-- longest APDU and a piece of 4,096 bytes.
 pub record ReadsInput {S : Type 0} (handles : Handles S ToolFault) (old new : Option (List ℕ)) (before : S)
     (result : Result ℕ ToolFault) (after : S) : Type 0 where
   pub apdus : List Apdu

@@ -3,12 +3,13 @@ use Rattle.std.specs.Prelude.{ℕ, ◌==◌, if◌then◌else◌, List, [], ◌�
 use Rattle.std.specs.List.{flat_map}
 use Rattle.ill_values.specs.TxnId.{Qualifiers}
 
--- Returns a byte of a qualifier. A space and a backslash are escapes, so a space ends the qualifier.
+-- Returns the text of a byte of a qualifier: an escape for a space or a backslash, else the byte. So the first space in
+-- a line ends the qualifier.
 abbrev pub key_byte : ℕ → List ℕ
 key_byte byte =
     if byte == 0x20 then codes "\\u{20}" else (if byte == 0x5C then codes "\\u{5c}" else byte ∷ [])
 
--- Returns a qualifier in a line.
+-- Returns the text of a qualifier in a line, with an escape for each space and each backslash.
 abbrev pub key : List ℕ → List ℕ
 key text = flat_map key_byte text
 

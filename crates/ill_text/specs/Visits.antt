@@ -5,8 +5,8 @@ use Rattle.ill_text.specs.declared.fault.ToolFault.TheVariants.{Left}
 
 -- ---- answers
 
--- Returns the graver of two answers. A fault is the gravest, then mails that wait, and then something that
--- wants a person.
+-- Returns the graver of two answers. A fault is the gravest, then mails that wait (`Left`), and then something that
+-- wants a person (`Ok false`). Of two other faults it is the first.
 abbrev pub graver : Result Bool ToolFault → Result Bool ToolFault → Result Bool ToolFault
 graver (Err Left) (Err fault) = Err fault
 graver (Err fault) other = Err fault

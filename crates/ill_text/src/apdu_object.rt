@@ -44,7 +44,7 @@ pub fn push_apdu_after(text: &mut Vec<u8>, apdu: &ApduView<'_>) -> Result<(), Ou
     )
 }
 
-/// Appends the fields of an APDU.
+/// Appends the fields of the APDU with this body, transaction and number, with a comma between two.
 pub fn push_apdu(
     text: &mut Vec<u8>,
     body: &BodyView<'_>,
@@ -59,7 +59,7 @@ pub fn push_apdu(
     push_body(text, body)
 }
 
-/// Appends the fields that all APDUs have: the type, the transaction and the number.
+/// Appends the fields that all APDUs have: the type, the transaction and the number. No comma is before the first.
 #[tactic(auto, unfolding(crate::specs::Json::joined))]
 fn push_head<'a>(
     text: &mut Vec<u8>,
@@ -83,7 +83,7 @@ fn push_head<'a>(
     )
 }
 
-/// Appends the fields that only APDUs of this type have.
+/// Appends the fields that only APDUs of this type have, each after a comma.
 #[tactic(auto, unfolding(crate::specs::Json::joined))]
 fn push_body(text: &mut Vec<u8>, body: &BodyView<'_>) -> Result<(), OutOfMemory>
     ensures { OnOk result (text.new.items ≡ text.old.items
@@ -116,7 +116,7 @@ fn push_body(text: &mut Vec<u8>, body: &BodyView<'_>) -> Result<(), OutOfMemory>
     }
 }
 
-/// Appends the date of a request, if it has one, and its item.
+/// Appends the fields of a request, each after a comma: its expiry day, if it has one, and its item.
 #[tactic(auto, unfolding(crate::specs::Json::joined))]
 fn push_request(text: &mut Vec<u8>, expiry: Option<Day>, item: &[u8]) -> Result<(), OutOfMemory>
     ensures { OnOk result (text.new.items ≡ text.old.items
@@ -129,7 +129,7 @@ fn push_request(text: &mut Vec<u8>, expiry: Option<Day>, item: &[u8]) -> Result<
     }
 }
 
-/// Appends the number of the message that is answered, and the reply.
+/// Appends the fields of a reply, each after a comma: the number of the message that it answers, and true for yes.
 #[tactic(auto, unfolding(crate::specs::Json::joined))]
 fn push_reply(text: &mut Vec<u8>, answers: Number, yes: bool) -> Result<(), OutOfMemory>
     ensures { OnOk result (text.new.items ≡ text.old.items
@@ -145,7 +145,7 @@ fn push_reply(text: &mut Vec<u8>, answers: Number, yes: bool) -> Result<(), OutO
     )
 }
 
-/// Appends `day`, if there is one.
+/// Appends the field `date` after a comma, if there is a `day`.
 #[tactic(auto, unfolding(crate::specs::Json::joined))]
 fn push_date(text: &mut Vec<u8>, day: Option<Day>) -> Result<(), OutOfMemory>
     ensures { OnOk result (text.new.items ≡ text.old.items

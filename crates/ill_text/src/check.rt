@@ -38,7 +38,8 @@ fn write_count<W: Write>(alloc: Global, writer: &mut W, count: u32) -> Result<u3
     Ok(count)
 }
 
-/// Counts the APDUs of the input, up to its end, and keeps none of them.
+/// Returns the number of APDUs of the input, read up to its end, and keeps none of them. Fails at the first bad APDU,
+/// at one too many, or if the reader fails.
 fn count_apdus<R: Read>(alloc: Global, reader: &mut R) -> Result<u32, ToolFault>
     ensures { Counts (R.remaining reader.old) (R.remaining reader.new) result }
 {

@@ -27,7 +27,8 @@ pub struct Stamp<'a> {
     pub by: Option<&'a str>,
 }
 
-/// Returns true if a diary may name a person so: an item could have this text, no space is in it, and it is no dash.
+/// Returns true if a diary may name a person by `text`. An item could have this text, it has no space, and it is no
+/// dash.
 pub fn is_name(text: &str) -> bool
     ensures { result ≡ is_name text.now }
 {
@@ -41,7 +42,8 @@ fn has_space(text: &[u8]) -> bool
     text.iter().any(|byte| *byte == b' ')
 }
 
-/// Returns the key of a message of the loan `txn`. `what` is the verb of an issued message, and the type of one that came.
+/// Returns the key of a message of the loan `txn`. `what` is the verb of an issued message, and the type of one that
+/// came.
 pub fn message_key(
     alloc: Global,
     txn: &TxnId,
@@ -57,7 +59,7 @@ pub fn message_key(
     Ok(key)
 }
 
-/// Returns the text before the key of a message in a line: the day, and the name of a person.
+/// Returns the text before the key of a message in a line: the day, and the name of a person or a dash.
 fn stamp_text(alloc: Global, stamp: &Stamp<'_>) -> Result<Vec<u8>, OutOfMemory>
     ensures { IfOk result (λ text. text.items
         ≡ stamp_text stamp.now.day (option_map (λ name. name.now) stamp.now.by)) }
@@ -238,7 +240,8 @@ pub struct CameDiary<D> {
 }
 
 impl<D> CameDiary<D> {
-    /// Returns the diary that is written to `stream`. Each line begins with `begin`; if it is empty, nothing is entered.
+    /// Returns the diary that is written to `stream`. Each line begins with `begin`; if it is empty, nothing is
+    /// entered.
     pub fn new(begin: Vec<u8>, stream: D) -> CameDiary<D>
         ensures begin { result.begin ≡ begin }
         ensures stream { result.diary.stream ≡ stream }
@@ -259,7 +262,8 @@ impl<D> CameDiary<D> {
         self.diary.has_failed()
     }
 
-    /// Remembers `bytes` of messages, if lines are entered.
+    /// Remembers `bytes` of messages for the next flush, if lines are entered. If memory runs out, the diary has
+    /// failed.
     fn remember(&mut self, bytes: &[u8]) {
         if !self.begin.is_empty() && self.recent.extend_from_slice(bytes).is_err() {
             self.diary.has_failed = true;
@@ -268,7 +272,8 @@ impl<D> CameDiary<D> {
 }
 
 impl<D: Write> CameDiary<D> {
-    /// Enters the lines of the messages since the last flush.
+    /// Enters the lines of the messages since the last flush, and forgets these. If memory runs out, the diary has
+    /// failed.
     fn enter_recent(&mut self) {
         let alloc = *self.recent.allocator();
         let recent = replace(&mut self.recent, Vec::new(alloc));
@@ -279,7 +284,8 @@ impl<D: Write> CameDiary<D> {
     }
 }
 
-/// Returns the lines of the messages in `bytes`, which came. Each begins with `begin`.
+/// Returns the lines of the messages in `bytes`, which came, up to the first part that is no message. Each line begins
+/// with `begin`.
 fn recent_lines(alloc: Global, begin: &[u8], bytes: &[u8]) -> Result<Vec<u8>, OutOfMemory>
     ensures { IfOk result (λ lines. (apdus : List Apdu) × AreIn bytes.now apdus
         × (lines.items ≡ came_lines begin.now apdus)) }

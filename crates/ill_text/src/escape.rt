@@ -31,15 +31,16 @@ const ACTING: [(u32, u32); 10] = [
     (0xE0000, 0xE007F),
 ];
 
-/// Appends `item`, a text of UTF-8, for a screen. An escape such as `\u{202e}` replaces each acting character, which is
-/// one on which a terminal or an editor may act.
+/// Appends `item`, a text of UTF-8, for a screen. An escape such as `\u{202e}` replaces each character on which a
+/// terminal or an editor may act, also a control character of ASCII.
 pub fn push_escaped(text: &mut Vec<u8>, item: &[u8]) -> Result<(), OutOfMemory>
     ensures { OnOk result (text.new.items ≡ text.old.items ++ escaped item.now) }
 {
     push_written(text, Escaping::Screen, item)
 }
 
-/// Appends `item`, a text of UTF-8, with an escape for each acting character.
+/// Appends `item`, a text of UTF-8, as a text of the kind `escaping`. An escape replaces each acting character and each
+/// control character of ASCII. In JSON a quotation mark and a backslash get a backslash.
 pub(crate) fn push_written(
     text: &mut Vec<u8>,
     escaping: Escaping,
@@ -54,7 +55,8 @@ pub(crate) fn push_written(
     Ok(())
 }
 
-/// Appends the first character if it is escaped, else its first byte, and returns the bytes after it.
+/// Appends the beginning of the text `first` and then `after`, and returns what is left of it. The beginning is the
+/// escape of the first character, if that is an acting one, else the text of the byte `first`.
 fn push_heading<'a>(
     text: &mut Vec<u8>,
     escaping: Escaping,
@@ -77,7 +79,8 @@ fn push_heading<'a>(
     }
 }
 
-/// Returns the number of the first character and the bytes after it, if it is an acting one.
+/// Returns the number of the first character and the bytes after it, if it is an acting one of two bytes or more. Else
+/// returns `None`. The text is `first`, and then `after`. Only the contract needs `_escaping`.
 #[tactic(auto, using(crate::proofs::EscapeLemmas::two_escape, crate::proofs::EscapeLemmas::three_escape, crate::proofs::EscapeLemmas::four_escape, crate::proofs::EscapeLemmas::first_stays))]
 fn acting_prefix(_escaping: Escaping, first: u8, after: &[u8]) -> Option<(u32, &[u8])>
     ensures { IsActingPrefix _escaping first after.now (option_map (λ found. (found.0, found.1.now)) result) }
@@ -104,7 +107,7 @@ fn acting_prefix(_escaping: Escaping, first: u8, after: &[u8]) -> Option<(u32, &
 }
 
 /// Appends a byte that begins no acting character of two bytes or more. A control character of ASCII becomes an
-/// escape.
+/// escape. In JSON a quotation mark and a backslash get a backslash.
 fn push_byte(text: &mut Vec<u8>, escaping: Escaping, byte: u8) -> Result<(), OutOfMemory>
     ensures { OnOk result (text.new.items ≡ text.old.items ++ byte_text escaping byte) }
 {
@@ -114,7 +117,7 @@ fn push_byte(text: &mut Vec<u8>, escaping: Escaping, byte: u8) -> Result<(), Out
     }
 }
 
-/// Appends a byte to a text for a screen.
+/// Appends a byte to a text for a screen, or the escape of a control character of ASCII.
 fn push_screen_byte(text: &mut Vec<u8>, byte: u8) -> Result<(), OutOfMemory>
     ensures { OnOk result (text.new.items ≡ text.old.items ++ byte_text escapings.Screen byte) }
 {
@@ -125,7 +128,8 @@ fn push_screen_byte(text: &mut Vec<u8>, byte: u8) -> Result<(), OutOfMemory>
     Ok(())
 }
 
-/// Appends a byte to a string of JSON.
+/// Appends a byte to a string of JSON, with a backslash before a quotation mark or a backslash. A control character of
+/// ASCII becomes an escape.
 fn push_json_byte(text: &mut Vec<u8>, byte: u8) -> Result<(), OutOfMemory>
     ensures { OnOk result (text.new.items ≡ text.old.items ++ byte_text escapings.Json byte) }
 {

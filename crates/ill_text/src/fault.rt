@@ -15,7 +15,7 @@ use thiserror::Error;
 /// The fault of a file that cannot be read or written.
 pub const STORE_FAILED: ToolFault = ToolFault::Desk(DeskFault::Store(StoreFault::Failed));
 
-/// The reason why a key cannot be used.
+/// The reason why a key cannot be used: a fault of its file, or of the text from which it is made.
 #[derive(Clone, Copy, Debug, PartialEq, Eq, Hash, Error)]
 pub enum BadKey {
     /// There is no file of the key.
@@ -55,7 +55,8 @@ pub enum ToolFault {
     /// The line of the script with this number, from 1 on, is bad.
     #[error("script at line {0}")]
     Script(u32),
-    /// The side refused, its store failed, or its record is invalid. This is never `DeskFault::OutOfMemory`.
+    /// The side refused, its store or another file failed, or its record is invalid. This is never
+    /// `DeskFault::OutOfMemory`.
     #[error("{0}")]
     Desk(DeskFault),
     /// A key cannot be used.
@@ -120,7 +121,8 @@ impl From<io::Error> for ToolFault {
     }
 }
 
-/// Returns the fault of a desk that did not start, and drops the store.
+/// Returns the fault of a command for that of a desk (`desk_fault`), and drops the store that the desk gave back with
+/// it.
 impl<S: Drop> From<(DeskFault, S)> for ToolFault {
     ghost from_gives = { λ refused tool. tool ≡ desk_fault refused.0 };
 
@@ -129,7 +131,7 @@ impl<S: Drop> From<(DeskFault, S)> for ToolFault {
     }
 }
 
-/// Returns the fault of a desk that did not begin, and drops the store.
+/// Returns the fault as it is, and drops the store that came back with it.
 impl<S: Drop> From<(ToolFault, S)> for ToolFault {
     ghost from_gives = { λ refused tool. tool ≡ refused.0 };
 
@@ -138,7 +140,8 @@ impl<S: Drop> From<(ToolFault, S)> for ToolFault {
     }
 }
 
-/// Returns the graver of two answers. A fault is the gravest, then mails that wait, then something that wants a person.
+/// Returns the graver of two answers. A fault is the gravest, then mails that wait (`Left`), then something that wants
+/// a person (`Ok(false)`). Of two other faults it is the first.
 pub fn graver(
     one: Result<bool, ToolFault>,
     other: Result<bool, ToolFault>,

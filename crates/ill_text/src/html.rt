@@ -18,7 +18,8 @@ pub fn push_text(page: &mut Vec<u8>, text: &[u8]) -> Result<(), OutOfMemory>
     push_html(page, &shown)
 }
 
-/// Appends `text` to `page`, with an HTML entity for each character that may begin or end an element or attribute.
+/// Appends `text` to `page`, with an HTML entity for each `&`, `<`, `>` and quote. Other bytes stay as they are, so
+/// unlike `push_text` it escapes no character that changes the direction of a text.
 pub fn push_html(page: &mut Vec<u8>, text: &[u8]) -> Result<(), OutOfMemory>
     ensures { OnOk result (page.new.items ≡ page.old.items ++ html_escaped text.now) }
 {

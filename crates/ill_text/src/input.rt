@@ -91,7 +91,8 @@ pub fn handle_input<R: Read, C, H: Handler<C, Fault = ToolFault>>(
     }
 }
 
-/// Returns `count`, if the input may end here.
+/// Returns `count` if the input may end here: no part of an APDU is left in `feed`. Else fails with the fault of
+/// `feed`.
 fn end(feed: &Feed, count: u32) -> Result<u32, ToolFault>
     ensures { result ≡ answer_at_end (end_of feed.now) count }
 {
@@ -101,8 +102,8 @@ fn end(feed: &Feed, count: u32) -> Result<u32, ToolFault>
     }
 }
 
-/// Returns all bytes of the input. If they are more than `limit`, the fault is `too_long`. It reads at most 4,096 bytes
-/// at a time, and less than a piece after the limit.
+/// Returns all bytes of the input. If they are more than `limit`, the fault is `too_long`, and if the reader fails, it
+/// is `Read`. It reads at most 4,096 bytes at a time, and less than a piece after the limit.
 pub fn read_whole<R: Read>(
     alloc: Global,
     reader: &mut R,

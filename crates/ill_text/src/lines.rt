@@ -12,7 +12,7 @@ use ill_der::{ApduView, BodyView};
 use ill_values::{Apdu, Day, Number, OutOfMemory};
 use itoa::Buffer;
 
-/// Appends the lines of `apdu`.
+/// Appends the lines of `apdu`, with its item as it is.
 #[tactic(auto, unfolding(crate::specs::Lines::lines_of))]
 pub fn push_apdu(lines: &mut Vec<u8>, apdu: &ApduView<'_>) -> Result<(), OutOfMemory>
     ensures { OnOk result (lines.new.items ≡ lines.old.items ++ lines_of apdu.now) }
@@ -152,7 +152,7 @@ pub fn push_whether(lines: &mut Vec<u8>, label: &str, yes: bool) -> Result<(), O
     push_line(lines, label, if yes { b"yes" } else { b"no" })
 }
 
-/// Appends the line of `day`, if there is one.
+/// Appends the line of the label `date` and of `day`, if there is a day.
 fn push_optional_date(lines: &mut Vec<u8>, day: Option<Day>) -> Result<(), OutOfMemory>
     ensures { OnOk result (lines.new.items ≡ lines.old.items ++ optional_date_line day) }
 {
@@ -162,28 +162,28 @@ fn push_optional_date(lines: &mut Vec<u8>, day: Option<Day>) -> Result<(), OutOf
     }
 }
 
-/// Appends the line of `day`.
+/// Appends the line of the label `date` and of `day`, in eight digits.
 fn push_date(lines: &mut Vec<u8>, day: Day) -> Result<(), OutOfMemory>
     ensures { OnOk result (lines.new.items ≡ lines.old.items ++ date_line day) }
 {
     push_line(lines, "date", &day.digits())
 }
 
-/// Appends the line of the number of a message.
+/// Appends the line of `label` and of the number of a message.
 pub fn push_number(lines: &mut Vec<u8>, label: &str, number: Number) -> Result<(), OutOfMemory>
     ensures { OnOk result (lines.new.items ≡ lines.old.items ++ number_line label.now number) }
 {
     push_decimal(lines, label, usize::from(number.get()))
 }
 
-/// Appends the line of any number.
+/// Appends the line of `label` and of any number.
 pub fn push_decimal(lines: &mut Vec<u8>, label: &str, number: usize) -> Result<(), OutOfMemory>
     ensures { OnOk result (lines.new.items ≡ lines.old.items ++ number_line label.now number) }
 {
     push_line(lines, label, Buffer::new().format(number).as_bytes())
 }
 
-/// Appends the line of the number of APDUs.
+/// Appends the line `COUNT apdus`.
 pub fn push_count(lines: &mut Vec<u8>, count: u32) -> Result<(), OutOfMemory>
     ensures { OnOk result (lines.new.items ≡ lines.old.items ++ count_line count) }
 {

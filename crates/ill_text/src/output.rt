@@ -6,7 +6,7 @@ use crate::fault::ToolFault;
 use ill_der::write_bytes;
 use std::io::Write;
 
-/// Writes all of `bytes`, or a prefix of them if the writer fails.
+/// Writes all of `bytes`. If the writer fails, a prefix of them is written, and the fault is `Write`.
 pub fn write_whole<W: Write>(writer: &mut W, bytes: &[u8]) -> Result<(), ToolFault>
     ensures { WritesPrefix (W.contents writer.old) (W.contents writer.new) bytes.now result }
 {
@@ -16,7 +16,8 @@ pub fn write_whole<W: Write>(writer: &mut W, bytes: &[u8]) -> Result<(), ToolFau
     }
 }
 
-/// Writes all of `bytes` and flushes the writer, so that none of them wait in it.
+/// Writes all of `bytes` and flushes the writer, so that none of them wait in it. If either fails, the fault is
+/// `Write`.
 pub fn write_and_flush<W: Write>(writer: &mut W, bytes: &[u8]) -> Result<(), ToolFault>
     ensures { WritesPrefix (W.contents writer.old) (W.contents writer.new) bytes.now result }
 {

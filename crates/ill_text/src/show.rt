@@ -47,7 +47,7 @@ pub fn run_show_as<R: Read, W: Write>(
     }
 }
 
-/// Shows each APDU of the input, in objects or in lines.
+/// Shows each APDU of the input, as `run_show` does: in objects if `JSON` is true, else in lines.
 fn show<R: Read, W: Write, const JSON: bool>(
     alloc: Global,
     reader: &mut R,
@@ -86,7 +86,7 @@ impl<W: Write, const JSON: bool> Handler<W> for Showing<JSON> {
     }
 }
 
-/// Appends the text of `apdu`.
+/// Appends the text of `apdu`: its object if `JSON` is true, else its lines.
 fn push_text<const JSON: bool>(text: &mut Vec<u8>, apdu: &ApduView<'_>) -> Result<(), OutOfMemory>
     ensures { OnOk result (text.new.items ≡ text.old.items ++ apdu_text (form_of JSON) apdu.now) }
 {

@@ -8,7 +8,8 @@ use ill_values::OutOfMemory;
 use std::alloc::Global;
 use std::io::Write;
 
-/// Writes a line of `name` and `text`. If memory runs out, no line is written.
+/// Writes a line to `errors`: the name of the program, `name`, and `text` right after it. If memory runs out, no line
+/// is written.
 pub fn warn<E: Write>(alloc: Global, name: &[u8], text: &str, errors: &mut E) {
     let mut line = Vec::new(alloc);
     if push_warning(&mut line, name, text).is_ok() {
@@ -16,14 +17,14 @@ pub fn warn<E: Write>(alloc: Global, name: &[u8], text: &str, errors: &mut E) {
     }
 }
 
-/// Writes a line of the desk at `path` and of its fault. If memory runs out, no line is written.
+/// Writes a line to `errors`, of the desk at `path` and of its fault. If memory runs out, no line is written.
 pub fn warn_of_fault<E: Write>(alloc: Global, path: &str, fault: ToolFault, errors: &mut E) {
     if let Ok(text) = format!(in alloc; ": {fault}") {
         warn(alloc, path.as_bytes(), text.as_str(), errors);
     }
 }
 
-/// Appends a line of `name` and `text`.
+/// Appends the line that `warn` writes.
 fn push_warning(line: &mut Vec<u8>, name: &[u8], text: &str) -> Result<(), OutOfMemory> {
     push_name(line, name)?;
     line.extend_from_slice(text.as_bytes())?;
@@ -31,8 +32,8 @@ fn push_warning(line: &mut Vec<u8>, name: &[u8], text: &str) -> Result<(), OutOf
     Ok(())
 }
 
-/// Writes a line of the mail `name`, of the heading of its message, and of `text`. If memory runs out, no line is
-/// written.
+/// Writes a line to `errors`, of the mail `name`, of the heading of its `message`, and of `text`. If memory runs out,
+/// no line is written.
 pub fn warn_of_message<E: Write>(
     alloc: Global,
     name: &[u8],
@@ -46,7 +47,7 @@ pub fn warn_of_message<E: Write>(
     }
 }
 
-/// Appends a line of the mail `name`, of the heading of its message, and of `text`.
+/// Appends the line that `warn_of_message` writes.
 fn push_told_message(
     line: &mut Vec<u8>,
     name: &[u8],
@@ -61,7 +62,7 @@ fn push_told_message(
     Ok(())
 }
 
-/// Appends the beginning of each line to a person: the name of the program, and `name`.
+/// Appends the beginning of each line to a person: the name of the program, and `name`, escaped for a screen.
 pub fn push_name(line: &mut Vec<u8>, name: &[u8]) -> Result<(), OutOfMemory> {
     line.extend_from_slice(b"ill: ")?;
     push_escaped(line, name)?;

@@ -10,7 +10,8 @@ use Rattle.ill_text.proofs.input.handle_input.Goals as goal
 pub loop-feed-init : goal.loop-feed-init
 loop-feed-init g c = record { size = search rules; so_far = none_read _ _ _ _ _ c.requires c.new-feed.ensures }
 
--- Proves the contract of `handle_input` if a read gives no byte. Then the reader is at its end.
+-- Proves the contract of `handle_input` if a read gives no byte. Then the reader is at its end. `nothing` says that the
+-- read took no byte, and `still` that `ReadSoFar` holds after it.
 pub returns-in-Ok-eq0 : goal.returns-in-Ok-eq0
 returns-in-Ok-eq0 g c =
     let remaining = g.R.Read.remaining in
@@ -22,8 +23,8 @@ returns-in-Ok-eq0 g c =
     (ends_at_end _ c.short_has_the_size.ensures _ _ _ _ c.loop-feed.counted.count c.loop-feed.feed still
     (c.in-Ok-eq0.ensures.bytes.1 c.in-Ok-eq0.field-0-test (omega (arith, size))))
 
--- Proves that each pass of the loop of `handle_input` lowers its measure. The piece has a byte, so by `one_piece_more`
--- `most_bytes_left` is smaller.
+-- Proves that each pass of the loop of `handle_input` lowers its measure. The piece has `size` bytes (`long`), which is
+-- not 0 (`some`), so by `one_piece_more` `most_bytes_left` is smaller.
 pub loop-feed-smaller : goal.loop-feed-smaller
 loop-feed-smaller g c =
     let few : c.in-Ok.size ≤ length c.read.new.buf = search rules in
@@ -37,7 +38,8 @@ loop-feed-smaller g c =
     c.in-Ok-None.field-0-is c.in-Ok-None.ensures in
     more.1
 
--- Proves the loop invariant of `handle_input` after one more piece. By `one_piece_more` its APDUs join those so far.
+-- Proves the loop invariant of `handle_input` after one more piece. The piece has `size` bytes (`long`), which is not 0
+-- (`some`). By `one_piece_more` its APDUs join those so far.
 pub loop-feed-preserved : goal.loop-feed-preserved
 loop-feed-preserved g c =
     let few : c.in-Ok.size ≤ length c.read.new.buf = search rules in

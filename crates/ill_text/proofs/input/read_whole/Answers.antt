@@ -4,7 +4,8 @@ use Rattle.std.proofs.KnownBytes.{Consumes-trans}
 use Rattle.std.proofs.lemmas.List.{length-append, length-take-le}
 use Rattle.ill_text.proofs.input.read_whole.Goals as goal
 
--- Proves that the input has more than `limit` bytes, if the next piece has more than are left of them.
+-- Proves that the input has more than `limit` bytes, if the next piece has more bytes than `limit` leaves (`over`).
+-- `long` says that the piece has as many bytes as were read.
 pub returns-then-size-saturating_sub-clause-fault : goal.returns-then-size-saturating_sub-clause-fault
 returns-then-size-saturating_sub-clause-fault g c =
     let few : c.in-Ok.size ≤ length c.read.new.buf = search rules in

@@ -11,6 +11,6 @@ invariant-loop-bytes g l = record {
   few : length l.bytes.items ≤ l.limit;
 }
 
--- Returns an upper bound of the bytes that may still be read.
+-- Returns the number of bytes that may still be read: what `limit` leaves.
 abbrev pub decreases-loop-bytes : goal.decreases-loop-bytes
 decreases-loop-bytes g l = l.limit - length l.bytes.items

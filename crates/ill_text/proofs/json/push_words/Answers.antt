@@ -4,7 +4,7 @@ use Rattle.ill_text.specs.Json.{quoted}
 use Rattle.ill_text.proofs.JsonLemmas.{joined_map}
 use Rattle.ill_text.proofs.json.push_words.Goals as goal
 
--- Proves the contract of `push_words`. By `joined_map` the array of `words` is that of their texts.
+-- Proves the contract of `push_words`. By `joined_map` an array of `words` is an array of their texts.
 pub returns : goal.returns
 returns c =
     subst (λ texts. OnOk c.push_array.result (c.push_array.new.text.items ≡ c.args.text.now.items ++ 91 ∷ (texts ++ 93 ∷ [])))

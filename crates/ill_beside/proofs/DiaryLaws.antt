@@ -11,7 +11,7 @@ use Rattle.ill_words.specs.Words.{◌>>=◌}
 use Rattle.ill_beside.specs.Diary.{Named, Said, Told, history_of, is_named, is_of_record, part_at}
 use Rattle.ill_beside.specs.Diary.{part_of, part_said, said_by, tells_of}
 
--- ---- one line
+-- ---- one line: what it adds to the history
 
 -- A line tells nothing if a later one names its message.
 pub older_tells_nothing : (messages : List Named) (line : List ℕ) (later : List (List ℕ)) (says : Said) → said_by line ≡ Some says
@@ -23,7 +23,7 @@ older_tells_nothing messages line later says is named =
     else option_map (part_of says) (find (λ message. bytes_eq message.key says.message) messages))
     ++ history_of messages later) named
 
--- The last line that names a message of the record tells it.
+-- If a line names `message` of the record, and no later line names it, the line's part comes first in the history.
 pub last_tells : (messages : List Named) (line : List ℕ) (later : List (List ℕ)) (says : Said) (message : Named)
     → said_by line ≡ Some says → is_named says.message later ≡ false
     → find (λ message. bytes_eq message.key says.message) messages ≡ Some message
@@ -36,7 +36,7 @@ last_tells messages line later says message is last found =
     ++ history_of messages later) last
     ∙ ap (λ (met : Option Named). option_to_list (option_map (part_of says) met) ++ history_of messages later) found
 
--- ---- all lines
+-- ---- all lines: each part of a history tells of a message of the record
 
 -- A part tells of the message from which it has its word and its number.
 tells_its_own : (says : Said) (message : Named) → tells_of (part_of says message) message ≡ true
@@ -67,7 +67,7 @@ found_there says test [] message is = absurd (true≢false (ap is_some (sym is))
 found_there says test (first ∷ others) message is =
     found_here says test first others message (test first) (found_there says test others message) is
 
--- `messages` are those of the record of a loan.
+-- `messages` are the messages of the record of a loan.
 module _ (messages : List Named) where
   -- The part is ours: it tells of one of `messages`.
   abbrev pub IsOurs : Told → Type 0

@@ -7,7 +7,7 @@ use Rattle.std.proofs.lemmas.Bool.{false_from_ne_true}
 use Rattle.std.proofs.lemmas.Str.{IsUtf8-from_is_utf8, is_utf8-from_IsUtf8}
 use Rattle.ill_beside.specs.Diary.{Said, said_by, said_in}
 
--- ---- a line
+-- ---- a line: what it says if it is UTF-8, and if it is not
 
 -- Returns what `text` says, if the Bool is true.
 abbrev said_if : List ℕ → Bool → Option Said
@@ -22,7 +22,7 @@ pub other_says_nothing : (text : List ℕ) → ¬ (IsUtf8 text) → None ≡ sai
 other_says_nothing text none =
     sym (ap (said_if text) (false_from_ne_true (is_utf8 text) (λ yes. none (IsUtf8-from_is_utf8 text yes))))
 
--- ---- lists that are mapped
+-- ---- lists that are mapped: tests of their items
 
 -- To map a value twice is to map it once by both functions.
 pub mapped_twice : {A B C : Type 0} (first : A → B) (second : B → C) (value : Option A)

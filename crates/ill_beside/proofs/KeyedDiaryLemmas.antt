@@ -17,7 +17,7 @@ use Rattle.ill_beside.specs.Places.{ArePlaces, ByKey, has_key}
 use Rattle.ill_beside.specs.Since.{day_said, day_told, last_day}
 use Rattle.ill_beside.proofs.PlacesLemmas.{counted, kept_enough}
 
--- ---- keys
+-- ---- keys: they may be compared in either order
 
 -- If `one` is true exactly if `other` is, they are equal.
 same_test : (one other : Bool) → (one ≡ true → other ≡ true) → (other ≡ true → one ≡ true) → one ≡ other
@@ -142,9 +142,9 @@ module _ (last : List ℕ → Option LastLine) (names : List ℕ → Bool) (new 
       messages)
       (names message.key)
 
--- ---- all lines
+-- ---- all lines: the last day is the day of the latest of the last lines
 
--- `messages` are those of the record of a loan.
+-- `messages` are the messages of the record of a loan.
 module _ (messages : List Named) where
   -- Let all lines so far stand before `place`. The line there changes the last day as it changes the day of the latest
   -- line.
@@ -178,7 +178,7 @@ module _ (messages : List Named) where
       none [] = refl
       none (message ∷ messages) = none messages
 
--- ---- the lines that are kept
+-- ---- the lines at the places that are kept: they give the last line and the last day of all lines
 
 -- If `line` names no message with this `key`, the last line `found` stays.
 of_another : (key : List ℕ) (found : Option LastLine) (place : ℕ) (line : Vec ℕ Global) → has_key key (key_said line) ≡ false

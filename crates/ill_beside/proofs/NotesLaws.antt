@@ -38,7 +38,8 @@ own_words begin words utf8 =
         ∙ ap (λ (text : List ℕ). if is_utf8 text then Some text else None) is
         ∙ ap (λ (b : Bool). if b then Some words else None) (is_utf8-from_IsUtf8 words utf8)
 
--- After one more line, the last words are those of this line, or else those so far.
+-- After one more line, the last words are the words of this line. If it has none, they are the last words of the lines
+-- before.
 last_after : (begin : List ℕ) (lines : List (List ℕ)) (line : List ℕ)
     → last_words begin (lines ++ line ∷ []) ≡ option_or (words_after begin line) (last_words begin lines)
 last_after begin lines line =

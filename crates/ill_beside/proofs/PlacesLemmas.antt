@@ -12,7 +12,7 @@ use Rattle.ill_beside.specs.Places.{ArePlaces, ByKey, Enters, has_key, is_same_k
 use Rattle.ill_beside.specs.Places.{places_in}
 use Rattle.ill_beside.specs.Places.{places_of, with_thing}
 
--- ---- all things
+-- ---- all things: a walk over them, with and without a count
 
 -- A walk over the values of `things` gives what a walk over `things` gives that takes the `value` of each.
 pub walk_over : {A B C : Type 0} (step : B → C → B) (value : A → C) (start : B) (things : List A)
@@ -34,7 +34,8 @@ uncounted step place start (thing ∷ things) = uncounted step (suc place) (step
 
 -- ---- things at their places
 
--- If `item` is the thing at `place` in `things`, or None if there is none, `slice_get` returns it.
+-- Let a call of `get` at `place` of `things` return `item`. Then the value of `item` is what `slice_get` returns: the
+-- thing at `place`, or None.
 pub item_at : {A : Type 0} (things : List A) (place : ℕ) (item : Option (Bor A)) → IsItemAt things place item
     → option_copied item ≡ slice_get things place
 item_at things place None is = sym (slice_get_past things place is.3)
@@ -90,7 +91,8 @@ module _ {A B : Type 0} (key_of : A → Option (List ℕ)) (key : List ℕ) (loo
           go None has = is ∙ sym (skips so_far place thing (ap (has_key key) has))
           go (Some own) has = choose own has (bytes_eq own key) refl
 
-      -- The places with the key give what all things give, if that is so of the things so far.
+      -- If the places `found` give what the things so far give (`so_far`), the places with the key give what all things
+      -- give.
       enough_from : (place : ℕ) (found : List ℕ) (so_far : B) (things : List A) → AreAt get place things
           → given found ≡ so_far
           → given (fold (with_thing key_of key) (place, found) things).1 ≡ (fold (counted look) (place, so_far) things).1

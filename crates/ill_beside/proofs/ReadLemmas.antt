@@ -32,7 +32,7 @@ use Rattle.ill_beside.proofs.DiaryLaws.{last_tells}
 one_more : (n : ℕ) → 1 + n ≡ suc n
 one_more n = omega arith
 
--- Without a space in a word, the first space of a text that begins with it is at its end.
+-- If `word` has no space, the first space of the text `word ++ 32 ∷ rest` is right after `word`.
 space_at : (word rest : List ℕ) → list_any is_space word ≡ false
     → position_or_len is_space (word ++ 32 ∷ rest) ≡ length word
 space_at [] rest none = refl
@@ -45,7 +45,7 @@ space_at (byte ∷ word) rest none = go (is_space byte) none (space_at word rest
     go false others later = one_more (position_or_len is_space (word ++ 32 ∷ rest)) ∙ ap suc (later others)
     go true others later = absurd (true≢false others)
 
--- Returns two texts.
+-- Returns the pair of two texts, as `at_space` does if there is a space.
 abbrev pub both : (front back : List ℕ) → Option (List ℕ × List ℕ)
 both front back = Some (front, back)
 
@@ -64,7 +64,7 @@ behind word rest =
     (subst (λ (whole : List ℕ). drop (length (word ++ 32 ∷ [])) whole ≡ rest) (append_assoc word (32 ∷ []) rest)
     (drop-append_seam (word ++ 32 ∷ []) rest))
 
--- Without a space in a word, a text splits at the space after it.
+-- If `word` has no space, `at_space` splits the text `word ++ 32 ∷ rest` into `word` and `rest`.
 pub splits : (word rest : List ℕ) → list_any is_space word ≡ false → at_space (word ++ 32 ∷ rest) ≡ Some (word, rest)
 splits word rest none =
     let text = word ++ 32 ∷ rest in
@@ -73,7 +73,7 @@ splits word rest none =
     ∙ ap (λ (front : List ℕ). both front (drop (length word + 1) text)) (take-append_seam word (32 ∷ rest))
     ∙ ap (both word) (behind word rest)
 
--- ---- the words of a line
+-- ---- the words of a line: a day has no space, a key of a loan is ASCII, and a line is UTF-8
 
 -- Decimal digits are no spaces.
 digits_have_no_space : (numbers : List ℕ) → list_any is_space (map last_digit numbers) ≡ false
@@ -162,9 +162,10 @@ line_utf8 day by message name key =
     (IsUtf8-append (codes " ") (by ++ 32 ∷ message) space
     (IsUtf8-append by (32 ∷ message) name (IsUtf8-append (codes " ") message space key)))
 
--- ---- a line
+-- ---- a line: what it says
 
--- If no space is in `by`, a text of `day`, `by` and `message`, with a space between two, says these.
+-- If no space is in `by`, the text of `day`, `by` and `message`, with a space between two, says this day, name and
+-- message.
 words_say : (day : Date) (by message : List ℕ) → IsDate day → list_any is_space by ≡ false
     → said_in (date_text day ++ (32 ∷ (by ++ 32 ∷ message))) ≡ Some (says_of day by message)
 words_say day by message is word =
@@ -173,7 +174,7 @@ words_say day by message is word =
     ∙ ap (λ (found : Option (List ℕ × List ℕ)). found >>= said_on (date_text day)) (splits by message word)
     ∙ ap (λ (found : Option Date). option_map (λ d. says_of d by message) found) (ap result_ok (date_again day is))
 
--- If `by` is a word and `message` is UTF-8, the line of `day`, `by` and `message` says these.
+-- If `by` is a word and `message` is UTF-8, the line of `day`, `by` and `message` says this day, name and message.
 line_says : (day : Date) (by message : List ℕ) → IsDate day → IsWord by → IsUtf8 message
     → said_by (date_text day ++ (32 ∷ (by ++ 32 ∷ message))) ≡ Some (says_of day by message)
 line_says day by message is word utf8 =

@@ -8,7 +8,8 @@ use Rattle.ill_words.specs.Words.{◌>>=◌}
 use Rattle.ill_beside.specs.Diary.{Named, Said, said_by}
 use Rattle.ill_beside.specs.Since.{day_said, day_told, last_day}
 
--- After one more line, the last day is that of this line, or else the one so far.
+-- After one more line, the last day is the day that this line tells. If it tells none, it is the last day of the lines
+-- before.
 last_after : (messages : List Named) (lines : List (List ℕ)) (line : List ℕ)
     → last_day messages (lines ++ line ∷ []) ≡ option_or (day_told messages line) (last_day messages lines)
 last_after messages lines line =
@@ -20,7 +21,7 @@ pub last_counts : (messages : List Named) (lines : List (List ℕ)) (line : List
 last_counts messages lines line day tells =
     last_after messages lines line ∙ ap (λ (told : Option Date). option_or told (last_day messages lines)) tells
 
--- If `line` tells no day, the last day after it is the one before it.
+-- If `line` tells no day, the last day stays when `line` is appended.
 pub others_stay : (messages : List Named) (lines : List (List ℕ)) (line : List ℕ) → day_told messages line ≡ None
     → last_day messages (lines ++ line ∷ []) ≡ last_day messages lines
 others_stay messages lines line none =

@@ -12,7 +12,8 @@ pub joined_as_texts : {X : Type 0} (text : X → List ℕ) (between : List ℕ) 
 joined_as_texts text between [] = refl
 joined_as_texts text between (item ∷ items) = ap (λ more. text item ++ more) (sym (flat_map-map (λ t. between ++ t) text items))
 
--- The texts of the kept items begin with that of `item`, if it is kept.
+-- The texts of `item`, if `is_kept` is true, and of `items` are the text of `item` by itself, and then those of
+-- `items`.
 kept_first : {X : Type 0} (text : X → List ℕ) (is_kept : Bool) (item : X) (items : List X)
     → flat_map text (cond is_kept (item ∷ items) items) ≡ flat_map text (cond is_kept (item ∷ []) []) ++ flat_map text items
 kept_first text true item items = ap (λ first. first ++ flat_map text items) (sym (append-nil (text item)))

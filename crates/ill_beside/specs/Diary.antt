@@ -56,7 +56,7 @@ at_space text =
     if nat_lt (position_or_len is_space text) (length text) then Some (before_first is_space text, after_first is_space text)
     else None
 
--- Returns what a line says whose first word is `day` and whose other words are `parts`, if `day` is a day.
+-- Returns what a line says whose first word is `day`, if that is a day. `parts` are the name and the key of a message.
 abbrev pub said_on : (day : List ℕ) → (parts : List ℕ × List ℕ) → Option Said
 said_on day parts = option_map (λ d. says_of d parts.0 parts.1) (day_of day)
 
@@ -93,7 +93,7 @@ pub record Named : Type 0 where
   pub number : ℕ
   pub key : List ℕ
 
--- Returns what names a message.
+-- Returns the model of a message: its word, its number and its key.
 abbrev pub named : Message → Named
 named message = record { what = message.what.now; number = message.number; key = message.key.items }
 
@@ -114,8 +114,8 @@ abbrev pub request_taken : Side → List Apdu
 request_taken (Requester x) = []
 request_taken (Responder y) = option_to_list y.request
 
--- Returns the messages that the record of a side has: those that it issued, and those of `kept` that it shows as taken. A
--- responder's record has the request itself.
+-- Returns the messages that the record of a side has: those that it issued, and those of `kept` that it shows as taken.
+-- A responder's record has the request itself.
 abbrev pub messages_of : Side → (kept : List Apdu) → List Named
 messages_of side kept =
     map issued_named (issued_of side) ++ map taken_named (request_taken side ++ filter (is_heard side) kept)
@@ -155,14 +155,14 @@ has_key key (Some line) = bytes_eq line.message key
 abbrev pub is_named : (key : List ℕ) → (lines : List (List ℕ)) → Bool
 is_named key lines = list_any (λ line. has_key key (said_by line)) lines
 
--- Returns the part of the history that a line tells, if one of `messages` is the one that it names, and no line of `later`
--- names that one.
+-- Returns the part of the history that a line tells of the first of `messages` with the key that it names. Returns None
+-- if no message has this key, or a line of `later` names this key too.
 abbrev pub part_said : (messages : List Named) → (later : List (List ℕ)) → Said → Option Told
 part_said messages later line =
     if is_named line.message later then None
     else option_map (part_of line) (find (λ message. bytes_eq message.key line.message) messages)
 
--- Returns the part of the history that a line tells before `later`, if it tells one.
+-- Returns the part of the history that a line tells, if it tells one. `later` are the lines after it.
 abbrev pub part_at : (messages : List Named) → (later : List (List ℕ)) → List ℕ → Option Told
 part_at messages later text = said_by text >>= part_said messages later
 
@@ -171,7 +171,7 @@ unfoldable pub history_of : (messages : List Named) → (lines : List (List ℕ)
 history_of messages [] = []
 history_of messages (line ∷ later) = option_to_list (part_at messages later line) ++ history_of messages later
 
--- Returns true if a part tells of `message`.
+-- Returns true if a part tells of `message`: it has its word and its number.
 abbrev pub tells_of : Told → Named → Bool
 tells_of part message = bytes_eq message.what part.what && message.number == part.number
 

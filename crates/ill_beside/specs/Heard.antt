@@ -1,4 +1,5 @@
--- The messages that a record shows as taken (this profile's own). Nothing is asked of the file that keeps them.
+-- The messages that a record shows as taken (this profile's own). The record alone tells it, whatever file keeps the
+-- messages.
 use Rattle.std.specs.Prelude.{ℕ, Bool, true, false, not, ◌&&◌, ◌||◌, ◌==◌, List, [], ◌∷◌, length, Option, None, Some}
 use Rattle.ill_values.specs.Day.{Date}
 use Rattle.ill_values.specs.declared.apdu.Apdu.{Apdu}
@@ -22,13 +23,13 @@ use Rattle.ill_record.specs.declared.side.Side.TheVariants.{Requester, Responder
 
 -- ---- at a requester
 
--- Returns true if the last message of the requester is the one with number `asked`, and waits for its answer in one of
--- `states`.
+-- Returns true if the last message of the requester has the number `asked`, and the state is one of `states`, in which
+-- it waits for its answer.
 abbrev pub waits_in : List State → RequesterRecord → ℕ → Bool
 waits_in states x asked = is_among states x.state && asked == length x.issued
 
 -- Returns true if the requester's record shows that the ILL-Answer with this number and result was taken. A promise
--- leaves no trace, so each is believed.
+-- (`WillSupply`, `HoldPlaced`) leaves no trace in the record, so each counts as taken.
 abbrev pub answer_heard : RequesterRecord → ℕ → AnswerResult → Bool
 answer_heard x number Conditional =
     is_equal_number number x.held || (is_at_most number (accepted_number x)
@@ -55,7 +56,8 @@ overdue_heard x day =
     is_among requesters.later x.state
     && not (is_due_on day x.due && is_among states_before_overdue x.state)
 
--- Returns true if the requester's record shows that the message with this number and body was taken.
+-- Returns true if the requester's record shows that the message with this number and body was taken. Returns false for
+-- a message that only a requester issues.
 abbrev pub requester_heard : RequesterRecord → ℕ → Body → Bool
 requester_heard x number (types.IllAnswer result) = answer_heard x number result
 requester_heard x number types.Expired = is_among (states.NotSupplied ∷ []) x.state
@@ -74,7 +76,8 @@ abbrev pub is_request_number : ℕ → Option Apdu → Bool
 is_request_number number None = false
 is_request_number number (Some request) = number == request.number
 
--- Returns true if the responder's record shows that the message with this number and body was taken.
+-- Returns true if the responder's record shows that the message with this number and body was taken. Returns false for
+-- a message that only a responder issues.
 abbrev pub responder_heard : ResponderRecord → ℕ → Body → Bool
 responder_heard y number (types.IllRequest expiry item) = is_request_number number y.request
 responder_heard y number (types.ConditionalReply answers true) = is_at_most answers y.accepted

@@ -30,11 +30,12 @@ kept_of txn came = fold (with_new txn) [] came
 abbrev pub apdu_key : Apdu → Option (List ℕ)
 apdu_key a = Some (loan_key a.txn)
 
--- Returns `kept`, and the message at its end if there is one, it is of the transaction `txn` and `kept` lacks it.
+-- Returns `kept` with the message at its end, if there is a message, it is of the transaction `txn` and `kept` lacks
+-- it. Else returns `kept`.
 abbrev pub found_with : Qualifiers → List Apdu → Option Apdu → List Apdu
 found_with txn kept None = kept
 found_with txn kept (Some a) = with_new txn kept a
 
--- Returns `kept`, and the message at a place at its end if it is there, it is of the transaction `txn` and `kept` lacks it.
+-- As `found_with`, with the `place` at which the message was found, which does not matter. So `looked_up` can take it.
 abbrev pub looks_kept : Qualifiers → List Apdu → (place : ℕ) → Option Apdu → List Apdu
 looks_kept txn kept place found = found_with txn kept found

@@ -48,13 +48,14 @@ news_words due (RenewAnswer answers None) = refused_words due
 news_words due (RenewAnswer answers (Some day)) = codes "renewed, due " ++ iso_text day
 news_words due Expired = codes "no: the request has expired"
 
--- Returns the words of a message in the news of a lender's loan. What a date has made due is the lender's own message.
+-- Returns the words of a message in the news of a lender's loan. Overdue and Expired are messages of the lender's own
+-- desk.
 abbrev pub lender_words : Option Date → Body → List ℕ
 lender_words due (Overdue day) = codes "overdue notice sent"
 lender_words due Expired = codes "expired"
 lender_words due other = news_words due other
 
--- Returns the words of a message in the news of a loan.
+-- Returns the words of a message in the news of a side's loan: those of `lender_words` if the side is a responder.
 abbrev pub told_words : Side → Body → List ℕ
 told_words (sides.Requester x) body = news_words (due_date_of (sides.Requester x)) body
 told_words (sides.Responder y) body = lender_words (due_date_of (sides.Responder y)) body

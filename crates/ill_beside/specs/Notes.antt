@@ -42,11 +42,11 @@ abbrev pub words_after : (begin line : List ℕ) → Option (List ℕ)
 words_after begin line =
     if starts_with nat_eq line begin && is_utf8 (drop (length begin) line) then Some (drop (length begin) line) else None
 
--- Returns the words of the last of `lines` that begins with `begin`.
+-- Returns the words of the last of `lines` that has words after `begin` (`words_after`), if one has.
 abbrev pub last_words : (begin : List ℕ) → (lines : List (List ℕ)) → Option (List ℕ)
 last_words begin lines = fold (λ found line. option_or (words_after begin line) found) None lines
 
--- Returns the words, unless there are none.
+-- Returns the words, or None if they are empty.
 abbrev pub unless_empty : Option (List ℕ) → Option (List ℕ)
 unless_empty None = None
 unless_empty (Some []) = None
@@ -66,11 +66,12 @@ first_words text = at_space text >>= λ first. at_space first.1 >>= λ second. S
 abbrev pub key_of_parts : (group transaction : List ℕ) → List ℕ
 key_of_parts group transaction = group ++ (codes " " ++ (transaction ++ codes " "))
 
--- Returns the key with which a line begins, if it begins with one.
+-- Returns the key with which a line begins: its first two words, with a space after each. Returns None if it has fewer
+-- than two spaces.
 abbrev pub begin_of : List ℕ → Option (List ℕ)
 begin_of text = option_map (λ parts. key_of_parts parts.0 parts.1) (first_words text)
 
--- Returns the key with which a line begins, if it begins with one.
+-- As `begin_of`, for a line of the code.
 abbrev pub line_key : Vec ℕ Global → Option (List ℕ)
 line_key text = begin_of text.items
 
@@ -79,18 +80,19 @@ abbrev pub words_found : (begin : List ℕ) → Option (Vec ℕ Global) → Opti
 words_found begin None = None
 words_found begin (Some text) = words_after begin text.items
 
--- Returns the words of the line at a place, if it is there, begins with `begin`, and they are UTF-8. Else those `found` stay.
+-- Returns the words of the line at `place`, if there is a line, it begins with `begin`, and its words are UTF-8. Else
+-- returns `found`, the words so far.
 abbrev pub looks_after : (begin : List ℕ) → (found : Option (List ℕ)) → (place : ℕ) → Option (Vec ℕ Global) → Option (List ℕ)
 looks_after begin found place text = option_or (words_found begin text) found
 
 -- ---- the texts
 
--- Returns the line of a note in `list`, below that of its loan.
+-- Returns the line of a note in `list`, below the line of its loan. It is empty if there is no note.
 abbrev pub listed_note : Option (List ℕ) → List ℕ
 listed_note None = []
 listed_note (Some words) = codes "    note " ++ (escaped words ++ codes "\n")
 
--- Returns the line of a note in `loan`.
+-- Returns the line of a note in `loan`. It is empty if there is no note.
 abbrev pub note_lines : Option (List ℕ) → List ℕ
 note_lines None = []
 note_lines (Some words) = line (codes "note") (escaped words)

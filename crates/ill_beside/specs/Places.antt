@@ -11,7 +11,8 @@ abbrev pub has_key : (key : List ℕ) → (own : Option (List ℕ)) → Bool
 has_key key None = false
 has_key key (Some own) = bytes_eq own key
 
--- Returns the places with this key, after a thing at `place` that has the key `own`, if it has one. `found` are those before.
+-- Returns the places with this key, after a thing at `place` that has the key `own`, if it has one. `found` are those
+-- before.
 abbrev pub places_after : (key : List ℕ) → (own : Option (List ℕ)) → (place : ℕ) → (found : List ℕ) → List ℕ
 places_after key None place found = found
 places_after key (Some own) place found = if bytes_eq own key then found ++ place ∷ [] else found
@@ -24,8 +25,8 @@ with_thing key_of key (place, found) thing = (suc place, places_after key (key_o
 abbrev pub places_in : {A : Type 0} → (key_of : A → Option (List ℕ)) → (key : List ℕ) → (things : List A) → List ℕ
 places_in key_of key things = (fold (with_thing key_of key) (0, []) things).1
 
--- Returns what the things at `places` give after `start`, one after another. `look` takes what is found so far, and then the
--- place and the thing there, if there is one.
+-- Returns what the things at `places` give after `start`, one after another. `look` takes what is found so far, and
+-- then the place and the thing there, if there is one.
 abbrev pub looked_up : {A B : Type 0} → (look : B → ℕ → Option A → B) → (things : List A) → (start : B) → (places : List ℕ) → B
 looked_up look things start places = fold (λ found place. look found place (slice_get things place)) start places
 
@@ -35,7 +36,7 @@ looked_up look things start places = fold (λ found place. look found place (sli
 abbrev pub is_same_key : Vec ℕ Global → Vec ℕ Global → Bool
 is_same_key one other = bytes_eq one.items other.items
 
--- Places, by their keys.
+-- Lists of places, each with its key.
 abbrev pub ByKey : Type 0
 ByKey = List (Vec ℕ Global × Vec ℕ Global)
 
@@ -57,7 +58,8 @@ abbrev pub Enters : (own : Option (List ℕ)) → (place : ℕ) → (old new : B
 Enters own place old new =
     (key : Vec ℕ Global) → places_of new key ≡ places_after key.items own place (places_of old key)
 
--- If there are places with the key `own`, `place` is entered after them. Else nothing changes.
+-- If `is` is true, `place` is entered after the places with the key `own`. If it is false, there are no places with
+-- this key, and nothing changes.
 abbrev pub EntersAmong : (own : Vec ℕ Global) → (place : ℕ) → (is : Bool) → (old new : ByKey) → Type 0
 EntersAmong own place true old new = Enters (Some own.items) place old new
 EntersAmong own place false old new = (new ≡ old) × (lookup (is_same_key own) old ≡ None)

@@ -13,8 +13,8 @@ use Rattle.ill_beside.specs.declared.annex.Annex.{Annex}
 use Rattle.ill_beside.specs.Diary.{Named, Said, messages_of, said_by}
 use Rattle.ill_beside.specs.Kept.{kept_of}
 
--- The annex of a desk: the lines of the notes of staff and of the diary, the messages that came, and those of them that are
--- told as news, if news are told.
+-- The annex of a desk: the lines of the notes of staff and of the diary, and the messages that came. If news are told,
+-- `news` are those of the messages that are told.
 pub record AnnexRead : Type 0 where
   pub notes : List (List ℕ)
   pub diary : List (List ℕ)
@@ -34,12 +34,12 @@ annex_of annex = record {
 abbrev pub notes_alone : AnnexRead → AnnexRead
 notes_alone annex = record { notes = annex.notes; diary = []; came = []; news = annex.news }
 
--- Returns the day of what a line says, if one of `messages` is the one that it names.
+-- Returns the day of what a line says, if the line names one of `messages`.
 abbrev pub day_said : (messages : List Named) → Said → Option Date
 day_said messages says =
     option_map (λ message. says.day) (find (λ message. bytes_eq message.key says.message) messages)
 
--- Returns the day that a line tells, if it tells one.
+-- Returns the day that a line tells: its own day, if the line names one of `messages`. Else returns None.
 abbrev pub day_told : (messages : List Named) → List ℕ → Option Date
 day_told messages text = said_by text >>= day_said messages
 
@@ -51,11 +51,12 @@ last_day messages lines = fold (λ found line. option_or (day_told messages line
 unfoldable pub since_of : AnnexRead → Side → Option Date
 since_of annex side = last_day (messages_of side (kept_of (txn_of side) annex.came)) annex.diary
 
--- Returns the line of this day in `list`, below that of its loan.
+-- Returns the line in `list` of the day since which a loan stands as it does, below the line of the loan. It is empty
+-- if no day is known.
 abbrev pub since_line : Option Date → List ℕ
 since_line None = []
 since_line (Some d) = line (codes "    since") (date_text d)
 
--- Returns the field of this day, which is `null` if it is not known.
+-- Returns the field of the day since which a loan stands as it does. The field is `null` if no day is known.
 abbrev pub since_fields : Option Date → List Field
 since_fields since = (codes "since", optional day since) ∷ []

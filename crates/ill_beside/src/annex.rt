@@ -16,12 +16,12 @@ pub struct Annex {
     pub diary: KeyedDiary,
     /// The messages that came.
     pub came: KeyedCame,
-    /// Those of the messages that are told as news, if news are told.
+    /// Those of the messages that came that are told as news. `None` if no news are told.
     pub news: Option<KeyedCame>,
 }
 
 impl Annex {
-    /// Returns `notes` alone.
+    /// Returns the annex that has `notes` alone: an empty diary, no messages that came, and no news.
     pub fn of_notes(alloc: Global, notes: Notes) -> Annex
         ensures { result.notes ≡ notes }
     {

@@ -56,7 +56,8 @@ fn at_space(text: &str) -> Option<(&str, &str)>
     text.split_once(' ')
 }
 
-/// Returns what a line says whose first word is `day`, if that is a day.
+/// Returns what a line says whose first word is `day`, if that is a day. `by` is the name, and `message` the key of a
+/// message.
 fn said_on<'a>(day: &str, by: &'a str, message: &'a str) -> Option<Entry<'a>>
     ensures { option_map said result ≡ said_on day.now (by.now, message.now) }
 {
@@ -77,7 +78,8 @@ pub struct Message {
     pub(crate) key: Vec<u8>,
 }
 
-/// Returns the messages that the record of `side` has: those that it issued, and those of `kept` that it shows as taken.
+/// Returns the messages that the record of `side` has: those that it issued, and those of `kept` that it shows as
+/// taken. A responder's record has the request itself.
 pub fn messages_of(alloc: Global, side: &Side, kept: &[Apdu]) -> Result<Vec<Message>, OutOfMemory>
     ensures { IfOk result (λ messages. map named messages.items ≡ messages_of side.now kept.now) }
 {
@@ -217,7 +219,7 @@ pub fn history_of<'a>(
     Ok(parts)
 }
 
-/// Appends the part of the history that `line` tells before `later`, if it tells one.
+/// Appends the part of the history that `line` tells, if it tells one. `later` are the lines after it.
 fn push_told<'a>(
     parts: &mut Vec<Part<'a>>,
     messages: &[Message],
@@ -233,7 +235,7 @@ fn push_told<'a>(
     Ok(())
 }
 
-/// Returns the part of the history that `line` tells before `later`, if it tells one.
+/// Returns the part of the history that `line` tells, if it tells one. `later` are the lines after it.
 fn part_at<'a>(messages: &[Message], later: &[Vec<u8>], line: &'a [u8]) -> Option<Part<'a>>
     ensures { option_map told result
         ≡ part_at (map named messages.now) (map (λ line. line.items) later.now) line.now }
@@ -244,8 +246,8 @@ fn part_at<'a>(messages: &[Message], later: &[Vec<u8>], line: &'a [u8]) -> Optio
     }
 }
 
-/// Returns the part of the history that `entry` tells, if one of `messages` is the one that it names, and no line of
-/// `later` names that one.
+/// Returns the part of the history that `entry` tells of the first of `messages` with the key that it names. Returns
+/// `None` if no message has this key, or a line of `later` names this key too.
 fn part_said<'a>(messages: &[Message], later: &[Vec<u8>], entry: &Entry<'a>) -> Option<Part<'a>>
     ensures { option_map told result
         ≡ part_said (map named messages.now) (map (λ line. line.items) later.now) (said entry.now) }
@@ -262,7 +264,7 @@ fn part_said<'a>(messages: &[Message], later: &[Vec<u8>], entry: &Entry<'a>) -> 
     }
 }
 
-/// Returns the first of `messages` with the key `key`.
+/// Returns the first of `messages` with the key `key`, if there is one.
 pub(crate) fn message_with<'a>(messages: &'a [Message], key: &[u8]) -> Option<&'a Message>
     ensures { option_map (λ message. named message.now) result
         ≡ find (λ message. bytes_eq message.key key.now) (map named messages.now) }
@@ -332,7 +334,7 @@ fn push_what(value: &mut Vec<u8>, part: &Part<'_>) -> Result<(), OutOfMemory>
     value.extend_from_slice(Buffer::new().format(part.number).as_bytes())
 }
 
-/// Appends the field of the history `parts`.
+/// Appends the field of the history `parts`, after a comma: an array of the objects of the parts.
 #[tactic(auto, unfolding(ill_text::specs::Json::joined))]
 pub fn push_history_field(text: &mut Vec<u8>, parts: &[Part<'_>]) -> Result<(), OutOfMemory>
     ensures { OnOk result (text.new.items ≡ text.old.items

@@ -12,7 +12,7 @@ use std::mem::replace;
 pub struct FileLines {
     /// The lines, without their ends.
     lines: Vec<Vec<u8>>,
-    /// The bytes after the last line.
+    /// The bytes after the end of the last line, which are no whole line.
     next: Vec<u8>,
 }
 
@@ -62,7 +62,7 @@ impl FileLines {
         &self.lines
     }
 
-    /// Returns the memory of the lines.
+    /// Returns the allocator from which the lines take memory.
     pub(crate) fn allocator(&self) -> Global {
         *self.next.allocator()
     }

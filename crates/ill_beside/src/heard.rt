@@ -41,7 +41,8 @@ fn requester_heard(requester: &Requester, number: Number, body: &Body) -> bool
     }
 }
 
-/// Returns true if the record of `requester` shows that the ILL-Answer with this number and result was taken.
+/// Returns true if the record of `requester` shows that the ILL-Answer with this number and result was taken. A promise
+/// (`WillSupply`, `HoldPlaced`) leaves no trace in the record, so each counts as taken.
 fn answer_heard(requester: &Requester, number: Number, answer: AnswerResult) -> bool
     ensures { result ≡ answer_heard requester.now number answer }
 {

@@ -9,7 +9,7 @@ use ill_der::encode;
 use ill_values::{Apdu, OutOfMemory, TxnId};
 use std::alloc::Global;
 
-/// Returns those of the messages at `places` in `came` that are of the transaction `txn`, each once.
+/// Returns those of the messages at `places` in `came` that are of the transaction `txn`, each once and in their order.
 pub(crate) fn kept_at(
     alloc: Global,
     txn: &TxnId,

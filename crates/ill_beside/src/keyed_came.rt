@@ -21,7 +21,8 @@ pub struct KeyedCame {
     places: Places,
 }
 
-/// Contracts see the messages alone. The invariant says that `places` are those of the messages, by their loans.
+/// Contracts see the messages alone. By the invariant `places` has the places of the messages, by the keys of their
+/// loans.
 impl Model for KeyedCame {
     ghost use Rattle.std.specs.Prelude.{List};
     ghost use Rattle.ill_values.specs.declared.apdu.Apdu.{Apdu};
@@ -37,7 +38,7 @@ impl Model for KeyedCame {
 }
 
 impl KeyedCame {
-    /// Returns no messages.
+    /// Returns an empty list of messages.
     pub fn none(alloc: Global) -> KeyedCame
         ensures { result ≡ [] }
     {
@@ -69,7 +70,7 @@ impl KeyedCame {
         &self.apdus
     }
 
-    /// Returns the messages of the transaction `txn`, each once.
+    /// Returns the messages of the transaction `txn`, each once and in their order.
     pub fn kept_of(&self, alloc: Global, txn: &TxnId) -> Result<Vec<Apdu>, OutOfMemory>
         ensures { IfOk result (λ kept. kept.items ≡ kept_of txn.now self.now) }
     {

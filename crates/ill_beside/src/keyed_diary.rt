@@ -32,8 +32,8 @@ pub struct KeyedDiary {
     places: Places,
 }
 
-/// Contracts see the lines alone. The invariant says that `places` are those of the lines, by the messages that they
-/// name.
+/// Contracts see the lines alone. By the invariant `places` has the places of the lines, by the keys of the messages
+/// that they name.
 impl Model for KeyedDiary {
     ghost use Rattle.std.specs.Prelude.{ℕ, List};
 
@@ -107,7 +107,8 @@ impl KeyForm<Vec<u8>> for LineKeys {
     }
 }
 
-/// Returns the latest of the last lines of `messages`, if one of `lines` names one. `places` are those of the lines.
+/// Returns the latest of `lines` that names one of `messages`, if a line does. `places` has the places of `lines`, by
+/// their keys.
 fn latest_among(places: &Places, lines: &[Vec<u8>], messages: &[Message]) -> Option<LastLine>
     ensures { result ≡ latest_among places.now.by_key.entries lines.now messages.now }
 {
@@ -130,8 +131,7 @@ fn last_line(key: &[u8], lines: &[Vec<u8>], places: &[usize]) -> Option<LastLine
     found
 }
 
-/// Returns the last line that names the message with this key, after the line at `place`, if it is there. `found` is the
-/// last one before.
+/// Returns what `last_after` returns for `line`, which is at `place`. If there is no line, returns `found`.
 fn last_at(
     found: Option<LastLine>,
     key: &[u8],
@@ -146,7 +146,8 @@ fn last_at(
     }
 }
 
-/// Returns the last line that names the message with this key, after `line` at `place`. `found` is the last one before.
+/// Returns the last line that names the message with this key, among `line`, which is at `place`, and the lines before
+/// it. `found` is the last one of the lines before it.
 fn last_after(found: Option<LastLine>, key: &[u8], place: usize, line: &[u8]) -> Option<LastLine>
     ensures { result ≡ last_after key.now place (said_by line.now) found }
 {
@@ -164,7 +165,7 @@ fn last_after(found: Option<LastLine>, key: &[u8], place: usize, line: &[u8]) ->
     }
 }
 
-/// Returns the later of two lines, or the one that there is.
+/// Returns the later of two lines. If there is one line alone, returns this line, and `None` if there is none.
 fn later(one: Option<LastLine>, other: Option<LastLine>) -> Option<LastLine>
     ensures { result ≡ later one other }
 {

@@ -1,5 +1,5 @@
-//! States the laws of the words of what came, of the notes on loans and of their diary, as contracts of functions that do
-//! nothing.
+//! The laws of the words of what came, of the notes on loans and of their diary. They are contracts of functions that
+//! do nothing.
 
 ghost use Rattle.std.specs.Prelude.{◌≡◌, ◌<◌, ◌^◌, ◌++◌, ◌∷◌, ℕ, true, false, bytes_eq, find, List, [], Option, Some, None, IsUtf8};
 ghost use Rattle.ill_values.specs.Day.{Date, IsDate};
@@ -18,8 +18,8 @@ ghost use Rattle.ill_beside.specs.Heard.{requester_heard};
 ghost use Rattle.ill_beside.specs.NewsWords.{news_words, says_no};
 ghost use Rattle.ill_beside.specs.Notes.{line_of, note_of};
 
-/// Words begin with `no: ` if, and only if, the message ends the request without the item. If the requester's record shows
-/// that it was taken, the requester is in NOT-SUPPLIED.
+/// The words of a message begin with `no: ` if, and only if, the message ends the request without the item. If they do,
+/// and the requester's record shows that the message was taken, the requester is in NOT-SUPPLIED.
 #[tactic(auto, using(crate::proofs::NewsWordsLemmas::no_is_unsupplied, crate::proofs::NewsWordsLemmas::no_ends))]
 pub fn a_no_ends_the_request()
     ensures words { (due : Option Date) (body : Body) → says_no (news_words due body) ≡ is_unsupplied body }
@@ -27,7 +27,7 @@ pub fn a_no_ends_the_request()
         requester_heard x a.number a.body ≡ true → x.state ≡ NotSupplied }
 {}
 
-/// The last note of a loan counts: after its line is appended, the note of the loan is that of the line.
+/// If a line of a loan is appended, its words are the note of the loan. The words are UTF-8 and not empty.
 #[tactic(auto, using(crate::proofs::NotesLaws::last_counts))]
 pub fn the_last_note_counts()
     ensures { (lines : List (List ℕ)) (txn : Qualifiers) (words : List ℕ) → IsUtf8 words → (words ≡ [] → ⊥) →
@@ -54,14 +54,15 @@ pub fn no_bad_note_passes()
         MisjudgesNote lines on txn words (note_of (lines ++ line_of on words ∷ []) txn) → ⊥ }
 {}
 
-/// A history has only messages of the record. So no line counts whose message the record lacks.
+/// Each part of a history tells of a message of the record. So no line counts whose message the record lacks.
 #[tactic(auto, using(crate::proofs::DiaryLaws::all_ours))]
 pub fn a_history_is_of_its_record()
     ensures { (messages : List Named) (lines : List (List ℕ)) →
         Each (λ part. is_of_record messages part ≡ true) (history_of messages lines) }
 {}
 
-/// The last line that names a message of the record tells its day.
+/// Let a line name a message of the record, and let no later line name it. Then the history has the line's day, name
+/// and message, before the parts of the later lines.
 #[tactic(auto, using(crate::proofs::DiaryLaws::last_tells))]
 pub fn the_last_line_tells_the_day()
     ensures { (messages : List Named) (line : List ℕ) (later : List (List ℕ)) (says : Said) (message : Named) →
@@ -70,15 +71,15 @@ pub fn the_last_line_tells_the_day()
         history_of messages (line ∷ later) ≡ part_of says message ∷ history_of messages later }
 {}
 
-/// A line tells nothing if a later one names its message.
+/// A line adds nothing to the history if a later line names its message.
 #[tactic(auto, using(crate::proofs::DiaryLaws::older_tells_nothing))]
 pub fn an_older_line_tells_nothing()
     ensures { (messages : List Named) (line : List ℕ) (later : List (List ℕ)) (says : Said) → said_by line ≡ Some says →
         is_named says.message later ≡ true → history_of messages (line ∷ later) ≡ history_of messages later }
 {}
 
-/// A line that was entered says its day, the text for the name, and its message. That text is the name with escapes, or a
-/// dash.
+/// A line that was entered says its day, the text for the name, and its message. That text is the name with escapes, or
+/// a dash.
 #[tactic(auto, using(crate::proofs::ReadLemmas::written_says))]
 pub fn a_line_is_read_back()
     ensures { (day : Date) (by : Option (List ℕ)) (txn : Qualifiers) (what : List ℕ) (number : ℕ) → IsDate day →

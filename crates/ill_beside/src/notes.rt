@@ -21,7 +21,8 @@ use ill_values::{Item, OutOfMemory, TxnId};
 use std::alloc::Global;
 use std::marker::Model;
 
-/// The notes of staff, and the places of the lines of each loan. So the note of a loan is found without a look at the others.
+/// The notes of staff, and the places of the lines of each loan. So the note of a loan is found without a look at the
+/// others.
 #[derive(Drop)]
 pub struct Notes {
     /// The lines of the file.
@@ -30,7 +31,7 @@ pub struct Notes {
     places: Places,
 }
 
-/// Contracts see the lines alone. The invariant says that `places` are those of the lines, by their loans.
+/// Contracts see the lines alone. By the invariant `places` has the places of the lines, by the keys of their loans.
 impl Model for Notes {
     ghost use Rattle.std.specs.Prelude.{ℕ, List};
 
@@ -46,7 +47,7 @@ impl Model for Notes {
 }
 
 impl Notes {
-    /// Returns no notes.
+    /// Returns the notes of an empty file.
     pub fn none(alloc: Global) -> Notes
         ensures { result ≡ [] }
     {
@@ -117,7 +118,7 @@ fn find_space(text: &[u8]) -> Option<usize>
     text.iter().position(|byte| *byte == b' ')
 }
 
-/// Returns the key with these parts, which are in a line already.
+/// Returns the key with these parts, with a space after each. Their escapes are there already, as in a line.
 fn key_of_parts(alloc: Global, group: &[u8], transaction: &[u8]) -> Result<Vec<u8>, OutOfMemory>
     ensures { IfOk result (λ key. key.items ≡ key_of_parts group.now transaction.now) }
 {
@@ -128,7 +129,8 @@ fn key_of_parts(alloc: Global, group: &[u8], transaction: &[u8]) -> Result<Vec<u
     Ok(key)
 }
 
-/// Returns the words of the last of the lines at `places` in `lines` that begins with `begin`.
+/// Returns the words of the last of the lines at `places` in `lines` that has words after `begin`. A line has none if
+/// it begins otherwise, or is not UTF-8 after `begin`.
 fn last_words<'a>(begin: &[u8], lines: &'a [Vec<u8>], places: &[usize]) -> Option<&'a str>
     ensures { option_copied result ≡ looked_up (looks_after begin.now) lines.now None places.now }
 {
@@ -162,7 +164,7 @@ fn words_after<'a>(begin: &[u8], line: &'a [u8]) -> Option<&'a str>
     }
 }
 
-/// Returns `words`, unless there are none.
+/// Returns `words`, or `None` if they are empty.
 fn unless_empty(words: Option<&str>) -> Option<&str>
     ensures { option_copied result ≡ unless_empty (option_copied words.entry) }
 {
@@ -195,7 +197,7 @@ pub fn push_note_lines(lines: &mut Vec<u8>, note: Option<&str>) -> Result<(), Ou
     }
 }
 
-/// Appends the line of a note with these words.
+/// Appends the line in `loan` of a note with these words, escaped for a screen.
 fn push_shown_line(lines: &mut Vec<u8>, words: &str) -> Result<(), OutOfMemory>
     ensures { OnOk result (lines.new.items ≡ lines.old.items ++ line (codes "note") (escaped words.now)) }
 {

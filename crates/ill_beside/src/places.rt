@@ -61,7 +61,7 @@ impl Places {
     }
 }
 
-/// Enters the place of a thing after the other places of its `key`, if it has one.
+/// Enters the `place` of a thing after the other places of its `key`. If the thing has no key, enters nothing.
 fn enter_thing(
     by_key: &mut IndexMap<Vec<u8>, Vec<usize>>,
     key: Option<Vec<u8>>,
@@ -93,7 +93,8 @@ fn enter(
     }
 }
 
-/// Enters `place` after the other places of `key`, if there are any. Returns true if there are.
+/// Enters `place` after the other places of `key`, and returns true. If there are no other places, enters nothing and
+/// returns false.
 fn enter_among(
     by_key: &mut IndexMap<Vec<u8>, Vec<usize>>,
     key: &Vec<u8>,
@@ -110,7 +111,7 @@ fn enter_among(
     }
 }
 
-/// Returns `place` alone.
+/// Returns a list that has `place` alone.
 fn first_place(alloc: Global, place: usize) -> Result<Vec<usize>, OutOfMemory>
     ensures { IfOk result (λ places. places.items ≡ place ∷ []) }
 {

@@ -14,7 +14,7 @@ returns-in-Some c =
     ∙ ap (option_map (around text)) (sym c.in-Some.is ∙ c.find_space.ensures.place)
     ∙ at_place text
 
--- Proves the contract of `at_space` if there is none.
+-- Proves the contract of `at_space` if there is no space. Then it returns None.
 pub returns-in-None : goal.returns-in-None
 returns-in-None c =
     let text = c.args.text.now in

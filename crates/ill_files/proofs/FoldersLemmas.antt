@@ -1,5 +1,6 @@
 -- Proves that the files that are found are found at the paths that were asked for (`src/folder.rt`).
-use Rattle.std.proofs.Common.{◌≡◌, ◌<◌, ℕ, zero, suc, ◌-◌, All, ◌⊎◌, List, [], ◌∷◌, ◌++◌, map, length, take, drop, get_or, replicate}
+use Rattle.std.proofs.Common.{◌≡◌, ◌<◌, ℕ, zero, suc, ◌-◌, All, ◌⊎◌, List, [], ◌∷◌, ◌++◌, map, length, take, drop, get_or}
+use Rattle.std.proofs.Common.{replicate}
 use Rattle.std.proofs.Common.{arith, le_refl, append-nil, append_assoc, take-append-drop, inl, inr, refl, sym, subst, ap, ◌∙◌}
 use Rattle.std.proofs.lemmas.List.{drop_all, get_or-map, length-map, map-append}
 use Rattle.std.proofs.lemmas.List.Elements.{All-append, All-nil, All-push}

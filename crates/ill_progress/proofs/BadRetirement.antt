@@ -52,11 +52,11 @@ not_last n last apart = go (n == last) refl
     go true same = absurd (apart (eqb-true n last same))
     go false same = refl
 
--- If an event does not happen, the shelves stay, and no desk is told.
+-- If an event cannot happen, the shelves stay, and its outcome is `no_desk`.
 stays_if : (w : MarkedShelves) (e : ShelfEvent) → can_happen w e ≡ false → retiring_happens w (on_shelf e) ≡ (no_desk, w)
 stays_if w e none = ap (after_if w e) none
 
--- If an event happens, it has its outcome of desks and its shelves.
+-- If an event can happen, it has its outcome of desks, and leads to its shelves.
 goes_if : (w : MarkedShelves) (e : ShelfEvent) → can_happen w e ≡ true
     → retiring_happens w (on_shelf e) ≡ after_if w e true
 goes_if w e can = ap (after_if w e) can

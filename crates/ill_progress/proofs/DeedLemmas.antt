@@ -1,4 +1,4 @@
--- Proves that after a deed of the responder `has_heard` still holds there of each message of the requester.
+-- Proves that after a deed of the responder `has_heard` still holds at the responder of each message of the requester.
 use Rattle.std.proofs.Common.{rules, arith, ◌≡◌, ◌⊎◌, inl, inr, ℕ, ◌+◌, ◌≤◌, ◌<◌, Bool, true, false, not, ◌&&◌, ◌||◌, nat_lt}
 use Rattle.std.proofs.Common.{List}
 use Rattle.std.proofs.Common.{[], ◌∷◌, length, length-append, Option, Some, None, is_some, Result, Ok, Err, if◌then◌else◌}
@@ -45,7 +45,7 @@ use Rattle.ill_world.proofs.Pairs.{message_within, most, neither, no_heard, rece
 use Rattle.ill_world.proofs.Pairs.{not_below, returned_heard, some_of}
 use Rattle.ill_world.proofs.Uniqueness.{message_number}
 
--- ---- the states to which a deed may lead
+-- ---- the states to which a deed may lead, and a deed that is done
 
 -- Returns the states to which a deed may lead from this state.
 abbrev may_lead : State → List State
@@ -171,7 +171,7 @@ from_in_process states.RenewOverdue next leads is = search rules
 from_in_process states.Returned next leads is = search rules
 from_in_process s next leads is = search rules
 
--- A deed leads to an undecided state from one, or from CANCEL-PENDING.
+-- A deed leads to an undecided state from an undecided state, or from CANCEL-PENDING.
 from_undecided : (s next : State) → is_among (may_lead s) next ≡ true → is_among records.undecided next ≡ true
     → (is_among records.undecided s ≡ true) ⊎ (is_among (states.CancelPending ∷ []) s ≡ true)
 from_undecided states.InProcess next leads is = inl refl
@@ -210,7 +210,7 @@ from_lent states.RenewOverdue next leads is = inl refl
 from_lent states.Returned next leads is = search rules
 from_lent s next leads is = search rules
 
--- A deed leads to SHIPPED or OVERDUE from there, from a Renew that waits, or from IN-PROCESS.
+-- A deed leads to SHIPPED or OVERDUE from SHIPPED or OVERDUE, from a Renew that waits, or from IN-PROCESS.
 from_settled : (s next : State) → is_among (may_lead s) next ≡ true
     → is_among (states.Shipped ∷ states.Overdue ∷ []) next ≡ true
     → (is_among (states.Shipped ∷ states.Overdue ∷ []) s ≡ true)
@@ -225,7 +225,7 @@ from_settled states.RenewOverdue next leads is = inr (inl refl)
 from_settled states.Returned next leads is = search rules
 from_settled s next leads is = search rules
 
--- ---- states
+-- ---- a state of one list, and other lists
 
 -- A side in CANCEL-PENDING or CANCELLED is in PENDING, CANCEL-PENDING or CANCELLED.
 cancel_is_among : (s : State) → is_among (states.CancelPending ∷ states.Cancelled ∷ []) s ≡ true

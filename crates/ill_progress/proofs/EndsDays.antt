@@ -82,29 +82,30 @@ faces_unsupplied : (s t : State) → is_among (faced_in s) t ≡ true → is_amo
 faces_unsupplied states.NotSupplied t faced is = refl
 faces_unsupplied s t faced is = search rules
 
--- ---- one day, at both sides
+-- ---- the count of one day, and an action that a side has done
 
--- The sides `requester` and `responder` have come to `after` and `answered`. Fewer acts are left, and no side has used
--- more numbers than acts. If no act is left, the numbers of the responder do not count.
+-- One day has led the requester's side from `requester` to `after`, and the responder's from `responder` to `answered`.
+-- Fewer acts are left. The acts left and the messages issued by a side are together no more than before. If no act is
+-- left, the responder may have issued more.
 pub record SidesCount (requester responder after answered : Side) : Type 0 where
   pub fewer : side_acts_to_end after < side_acts_to_end requester
   pub asked : side_acts_to_end after + length (issued_of after) ≤ side_acts_to_end requester + length (issued_of requester)
   pub lent : (side_acts_to_end after + length (issued_of answered)
       ≤ side_acts_to_end requester + length (issued_of responder)) ⊎ (side_acts_to_end after ≡ 0)
 
--- A wish that a requester's side has done was done by its record.
+-- If a requester's side has done a wish, and is `new` then, the result `r` of its record is Ok. `new` is made of it.
 wish_is : (r : Result RequesterRecord Refusal) (new : Side) → done_by sides.Requester r ≡ Ok new
     → (z : RequesterRecord) × (r ≡ Ok z) × (new ≡ sides.Requester z)
 wish_is (Ok z) new is = let same : sides.Requester z ≡ new = search rules in (z, refl, sym same)
 wish_is (Err refusal) new is = absurd cc
 
--- A deed that a responder's side has done was done by its record.
+-- If a responder's side has done a deed, and is `new` then, the result `r` of its record is Ok. `new` is made of it.
 deed_is : (r : Result ResponderRecord Refusal) (new : Side) → done_by sides.Responder r ≡ Ok new
     → (z : ResponderRecord) × (r ≡ Ok z) × (new ≡ sides.Responder z)
 deed_is (Ok z) new is = let same : sides.Responder z ≡ new = search rules in (z, refl, sym same)
 deed_is (Err refusal) new is = absurd cc
 
--- ---- one day, at both records
+-- ---- one day, of both records
 
 -- These facts of the tables are assumed here. Each action that is done issues one message.
 pub record OneEach : Type 0 where
@@ -145,7 +146,7 @@ wish_records one x new after y answered wish ends done kept waited fits settled 
     }
 
 -- If a deed towards the end leads to `new`, and a night then to `after` and `answered`, `SidesCount` holds. `settles`
--- says that a renewal lets no Renew wait.
+-- says: if both are in step then, and the deed answered a Renew, no Renew waits.
 deed_records : OneEach → (x after : RequesterRecord) (y new answered : ResponderRecord) (deed : Deed) (today : Date)
     → is_deed_to_end deed ≡ true → responder_actions.acts y deed today ≡ Ok new → RequesterKept x after
     → ResponderKept new answered → InStep x y → RequesterRules x → RequesterRules after
@@ -168,10 +169,10 @@ deed_records one x after y new answered deed today ends done waited kept step fi
         deed_counts x after y new answered it_ends kept step step_after fits waited fits_after (settles step_after)
     go it_ends (inr rest) = omega (arith, over_left after rest.requester, deed_left x y new it_ends step)
 
--- ---- one day, at both sides
+-- ---- one day, of both sides
 
 -- If a wish towards the end leads to `acted`, and a night then to `after` and `answered`, `SidesCount` holds. By the
--- invariants no other roles are possible.
+-- invariants no other roles are possible. `a` to `d` are the messages that the other side of each has sent.
 pub wish_sides : OneEach → (txn : Qualifiers) (requester acted after responder answered : Side) (a b c d : List (Option Apdu))
     (wish : Wish) → is_wish_to_end wish ≡ true → acts requester (actions.Wish wish) ≡ Ok acted → SideKept acted after
     → SideKept responder answered → RequesterSideInvariant txn requester a → ResponderSideInvariant txn responder b
@@ -192,7 +193,7 @@ wish_sides one txn (sides.Requester x) acted (sides.Requester after) (sides.Resp
     done kept waited asker lender asker_after lender_after settled = absurd lender_after
 
 -- If a deed towards the end leads to `acted`, and a night then to `after` and `answered`, `SidesCount` holds. By the
--- invariants no other roles are possible.
+-- invariants no other roles are possible. `a` to `d` are the messages that the other side of each has sent.
 pub deed_sides : OneEach → (txn : Qualifiers) (requester after responder acted answered : Side) (a b c d : List (Option Apdu))
     (deed : Deed) (today : Date) → is_deed_to_end deed ≡ true → acts responder (actions.Deed deed today) ≡ Ok acted
     → SideKept requester after → SideKept acted answered → RequesterSideInvariant txn requester a

@@ -1,4 +1,4 @@
--- The worked loan is in step, and its requester has used all its numbers.
+-- The loan of the example (`LastNumbers`) is in step, and its requester has used all its numbers.
 use Rattle.std.proofs.Common.{◌≡◌, length, refl}
 use Rattle.ill_core.specs.Requester as requester
 use Rattle.ill_core.specs.Requester.{IsRequester}

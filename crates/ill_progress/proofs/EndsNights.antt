@@ -45,25 +45,25 @@ asks x a = (requester_deliveries.takes x a).1
 abbrev pub lends : ResponderRecord → Apdu → ResponderRecord
 lends y a = (responder_deliveries.takes y a).1
 
--- These facts of the tables are assumed here. A requester that takes a message issues nothing, and leads neither back to
--- IDLE nor out of RETURNED. A responder issues nothing but an ILL-Answer unfilled, and stays in the state of an end.
+-- These facts of the tables are assumed here, one in each field. They say what a side does not lose when it takes a
+-- message.
 pub record RowsKeep : Type 0 where
   -- A requester that takes a message issues nothing.
   pub requester_issues : (x : RequesterRecord) (a : Apdu) → (asks x a).issued ≡ x.issued
-  -- It does not go back to IDLE.
+  -- If a requester that takes a message is not in IDLE, it does not go back to IDLE.
   pub requester_begun : (x : RequesterRecord) (a : Apdu) → is_among (states.Idle ∷ []) x.state ≡ false
       → is_among (states.Idle ∷ []) (asks x a).state ≡ false
-  -- It stays in CANCELLED, NOT-SUPPLIED and RETURNED.
+  -- A requester that takes a message stays in CANCELLED, NOT-SUPPLIED and RETURNED.
   pub requester_final : (x : RequesterRecord) (a : Apdu)
       → is_among (states.Cancelled ∷ states.NotSupplied ∷ states.Returned ∷ []) x.state ≡ true → (asks x a).state ≡ x.state
   -- A responder that takes a message issues nothing, or one ILL-Answer unfilled.
   pub responder_issues : (y : ResponderRecord) (a : Apdu) → IssuesUnfilled y a.body (lends y a)
-  -- If it issues a message that ends the request, it comes to the state of this message.
+  -- If a responder issues then a message that ends the request, it comes to the state of this message.
   pub responder_ends : (y : ResponderRecord) (a : Apdu) → Ends y (lends y a)
-  -- It stays in NOT-SUPPLIED, CANCELLED and CHECKED-IN.
+  -- A responder that takes a message stays in NOT-SUPPLIED, CANCELLED and CHECKED-IN.
   pub responder_final : (y : ResponderRecord) (a : Apdu)
       → is_among (states.NotSupplied ∷ states.Cancelled ∷ states.CheckedIn ∷ []) y.state ≡ true → (lends y a).state ≡ y.state
-  -- It stays in SHIPPED or later.
+  -- If a responder that takes a message is in SHIPPED or later, it stays in SHIPPED or later.
   pub responder_later : (y : ResponderRecord) (a : Apdu) → StaysLater y (lends y a)
 
 -- ---- states
@@ -78,7 +78,7 @@ unsupplied_final : (t : State) → is_among (states.NotSupplied ∷ []) t ≡ tr
     → is_among (states.NotSupplied ∷ states.Cancelled ∷ states.CheckedIn ∷ []) t ≡ true
 unsupplied_final t is = search rules
 
--- An ILL-Answer unfilled leaves the responder in NOT-SUPPLIED.
+-- If the test of a state after an ILL-Answer unfilled is true, the state is NOT-SUPPLIED.
 ends_there : (s : State) → (true && is_among (states.NotSupplied ∷ []) s
     || (false && is_among (states.Cancelled ∷ []) s || false && is_among later s)) ≡ true
     → is_among (states.NotSupplied ∷ []) s ≡ true
@@ -117,7 +117,7 @@ settled_still x new number body (checks_in was) settled = settled
 
 -- ---- messages that a side takes
 
--- Messages have led the first side to the second, as `RequesterKept` and `ResponderKept` say.
+-- Messages have led the first side to the second. Both have one role, and `RequesterKept` or `ResponderKept` holds.
 abbrev pub SideKept : Side → Side → Type 0
 SideKept (sides.Requester x) (sides.Requester new) = RequesterKept x new
 SideKept (sides.Responder y) (sides.Responder new) = ResponderKept y new
@@ -136,7 +136,7 @@ module _ (keep : RowsKeep) where
         settled = λ is. settled_still r (asks r a) a.number a.body (delivery_leads r a) (kept.settled is);
       }) x apdus (record { issued = refl; begun = λ is. is; returned = λ is. is; settled = λ is. is })
 
-  -- A responder that has issued nothing, or is in NOT-SUPPLIED, is so after a message.
+  -- If `r` has issued nothing since `y`, or is in NOT-SUPPLIED, this holds too after `r` takes one more message.
   issued_still : (y r : ResponderRecord) (a : Apdu) → (r.issued ≡ y.issued) ⊎ (is_among (states.NotSupplied ∷ []) r.state ≡ true)
       → IssuesUnfilled r a.body (lends r a)
       → ((lends r a).issued ≡ y.issued) ⊎ (is_among (states.NotSupplied ∷ []) (lends r a).state ≡ true)
@@ -167,14 +167,14 @@ module _ (keep : RowsKeep) where
 
 -- ---- a night
 
--- Messages have led both live sides of `w` to those of `new`.
+-- Each live side of `new` is that of `w` after it has taken these messages.
 pub record Heard (w new : Parties) : Type 0 where
   pub to_requester : List Apdu
   pub to_responder : List Apdu
   pub requester : new.requester.live ≡ takes_all w.requester.live to_requester
   pub responder : new.responder.live ≡ takes_all w.responder.live to_responder
 
--- The saves of both sides lead to no other live sides.
+-- The saves of both sides leave both live sides: each has taken no message.
 saves_heard : (w : Parties) → Heard w (run_of w (Save who.Requester ∷ Save who.Responder ∷ []))
 unfolding run_by takes_all
 saves_heard w = record { to_requester = []; to_responder = []; requester = refl; responder = refl }
@@ -196,7 +196,8 @@ module _ (txn : Qualifiers) (after : (w : Parties) (event : Event) → Invariant
         responder = rounds.responder;
       }
 
-  -- In a night each side takes messages of the other, or none.
+  -- In a night each side takes messages of the other, or none. Premises: a night is a round if the loan is open for the
+  -- requester, and else two saves.
   pub night_heard : (w : Parties) → Invariant txn w → (is_over w.requester.live ≡ false → night_of w ≡ round_of w)
       → (is_over w.requester.live ≡ true → night_of w ≡ Save who.Requester ∷ Save who.Responder ∷ [])
       → Heard w (run_of w (night_of w))

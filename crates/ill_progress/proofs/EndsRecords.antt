@@ -38,7 +38,7 @@ use Rattle.ill_progress.specs.Ends.{is_wish_to_end, is_deed_to_end, recalled_act
 
 -- ---- how many acts are left
 
--- At most two acts towards the end are left of an item that was received.
+-- In RECALL at most two acts towards the end are left, if the item was received.
 received_few : (received : Bool) → received ≡ true → recalled_acts received ≤ 2
 received_few true is = omega arith
 received_few false is = search rules
@@ -217,20 +217,20 @@ received_left s false checked_in is fits waits = search rules
 
 -- ---- a requester that takes messages
 
--- Messages have led requester `old` to `new`. The list is unchanged. They lead neither to IDLE nor out of RETURNED, and let
--- no Renew wait that did not.
+-- Messages have led requester `old` to `new`. It has issued nothing. The messages lead neither to IDLE nor out of
+-- RETURNED. If no Renew waited at `old`, none waits at `new`.
 pub record RequesterKept (old new : RequesterRecord) : Type 0 where
   pub issued : new.issued ≡ old.issued
   pub begun : is_among (states.Idle ∷ []) old.state ≡ false → is_among (states.Idle ∷ []) new.state ≡ false
   pub returned : is_among (states.Returned ∷ []) old.state ≡ true → is_among (states.Returned ∷ []) new.state ≡ true
   pub settled : is_among renewing old.state ≡ false → is_among renewing new.state ≡ false
 
--- A test of the messages holds after others were taken if it held before.
+-- If `says` holds of a message that `old` has issued, it holds of one that `new` has issued.
 still_says : (says : Body → Bool) (old new : RequesterRecord) → RequesterKept old new → has_message_with says old.issued ≡ true
     → has_message_with says new.issued ≡ true
 still_says says old new kept is = ap (has_message_with says) kept.issued ∙ is
 
--- A list has a message of which a test holds, if this message was issued last.
+-- If `says` holds of `body`, it holds of some message after one with `body` is issued.
 issued_says : (says : Body → Bool) (txn : Qualifiers) (apdus : List Apdu) (body : Body) → says body ≡ true
     → has_message_with says (with_next txn apdus body) ≡ true
 issued_says says txn apdus body is =
@@ -238,7 +238,8 @@ issued_says says txn apdus body is =
 
 -- ---- each wish
 
--- Records to which messages lead from `new` have fewer acts left than `x`. The conditions were not declined there.
+-- Each record `after` to which messages lead from `new` has fewer acts left than `x`. Premises: it satisfies its rules,
+-- and no conditions are declined (`is_declined`).
 abbrev Fewer : RequesterRecord → RequesterRecord → Type 0
 Fewer x new = (after : RequesterRecord) → RequesterKept new after → RequesterRules after → is_declined after ≡ false
     → acts_to_end after < acts_to_end x
@@ -273,7 +274,7 @@ recalled_left : (s : State) (received checked_in : Bool) → is_among (states.Re
 recalled_left states.Recall false checked_in is open_still = refl
 recalled_left s received checked_in is open_still = search rules
 
--- In the other states in which the requester has the item at least two acts are left.
+-- In RECEIVED, RENEW/PENDING, OVERDUE and RENEW/OVERDUE at least two acts are left.
 had_left : (s : State) (received checked_in : Bool)
     → is_among (states.Received ∷ states.RenewPending ∷ states.Overdue ∷ states.RenewOverdue ∷ []) s ≡ true
     → 2 ≤ acts_to_end_in s received checked_in
@@ -397,8 +398,8 @@ wish_counts x new wish ends done = rows.of_acts (Fewer x) x new wish (λ row the
 
 -- ---- a responder that takes messages
 
--- Messages have led responder `old` to `new`. An end without the item and CHECKED-IN stay, and a shipped item stays shipped.
--- The responder has issued nothing, unless it is in NOT-SUPPLIED.
+-- Messages have led responder `old` to `new`. NOT-SUPPLIED, CANCELLED and CHECKED-IN stay. If `old` was in SHIPPED or
+-- later, `new` is. The responder has issued nothing, or `new` is in NOT-SUPPLIED.
 pub record ResponderKept (old new : ResponderRecord) : Type 0 where
   pub final : is_among (states.NotSupplied ∷ states.Cancelled ∷ states.CheckedIn ∷ []) old.state ≡ true → new.state ≡ old.state
   pub later : is_among later old.state ≡ true → is_among later new.state ≡ true
@@ -410,13 +411,14 @@ pub record ResponderKept (old new : ResponderRecord) : Type 0 where
 abbrev pub open_requests : List State
 open_requests = states.InProcess ∷ states.Conditional ∷ states.CancelPending ∷ []
 
--- The responder has answered a Renew that waited. The item is still lent.
+-- A Renew waited at `y`. Its answer is the last message of `new`, which is in a state after the end of the request.
 abbrev pub HasRenewed : ResponderRecord → ResponderRecord → Type 0
 HasRenewed y new =
     (is_among renewing y.state ≡ true) × (is_among ended new.state ≡ true) × (granted : Option Date)
     × (new.issued ≡ with_next y.txn y.issued (types.RenewAnswer (unwrap_or y.last_renew 0) granted))
 
--- A deed towards the end ends an open request, leads from RETURNED to CHECKED-IN, or answers a Renew.
+-- A deed towards the end has led `y` to `new`. It ended an open request, led from RETURNED to CHECKED-IN, or answered a
+-- Renew.
 abbrev pub DeedEnds : ResponderRecord → ResponderRecord → Type 0
 DeedEnds y new =
     ((is_among open_requests y.state ≡ true)
@@ -520,7 +522,7 @@ deed_ends y new deed today ends done =
     by_row (DeedEnds y) y new (responder.transition_of y deed today) (next_number y.issued)
     (λ row there. deed_row y deed today row ends there) done
 
--- ---- the requester that faces it
+-- ---- both sides, before and after a deed
 
 -- A requester whose request the responder has to decide on is undecided.
 faces_open : (s t : State) → is_among (faced_in s) t ≡ true → is_among open_requests t ≡ true → is_among undecided s ≡ true
@@ -663,7 +665,7 @@ deed_left x y new (inr (inr renewed)) step =
           (faces_renewing x.state y.state step.faced renewed.0),
     )
 
--- The state after a deed towards the end is one of an end.
+-- The state after a deed towards the end is one after the end of the request.
 pub deed_ended : (y new : ResponderRecord) → DeedEnds y new → is_among ended new.state ≡ true
 deed_ended y new (inl (was, is)) = go new.state is
   where

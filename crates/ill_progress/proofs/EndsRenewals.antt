@@ -31,7 +31,7 @@ equal_is : (n : ℕ) (o : Option ℕ) → is_equal_number n o ≡ true → o ≡
 equal_is n None is = search rules
 equal_is n (Some m) is = ap Some (sym (eqb-true n m is))
 
--- The list that ends with `a` has `a` as its last message.
+-- If `a` follows `apdus`, it is message `length apdus` + 1 of the list.
 at_end : (apdus : List Apdu) (a : Apdu) → message (apdus ++ a ∷ []) (suc (length apdus)) ≡ Some a
 at_end [] a = refl
 at_end (b ∷ apdus) a = at_end apdus a
@@ -76,7 +76,7 @@ pub renewal_settles : (txn : Qualifiers) (x after : RequesterRecord) (y new answ
 renewal_settles txn x after y new answered a b c d borrower lender borrower_after lender_after issued heeded issued_after
     heeded_after waited kept step step_after renewed = false_from_ne_true _ apart
   where
-    -- The answer is among those of the responder, though its number waits.
+    -- Renew `n` cannot wait at `answered`: its answer is among the messages of the responder, or no Renew waits there.
     answered_twice : (n : ℕ) → y.last_renew ≡ Some n → answered.last_renew ≡ Some n → is_among renewing answered.state ≡ true
         → (answered.issued ≡ new.issued) ⊎ (is_among (states.NotSupplied ∷ []) answered.state ≡ true) → ⊥
     answered_twice n last last_after waits (inl same) =

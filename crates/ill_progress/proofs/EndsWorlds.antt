@@ -51,18 +51,20 @@ done_is : (p : Party) (r : Result Side Refusal) → IsOk r → (decides p r).0 �
 done_is p (Ok new) is = refl
 done_is p (Err refusal) is = absurd cc
 
--- A side does what its record does.
+-- If the result `r` of a record is Ok, the result of its side is Ok.
 side_does : {R : Type 0} (make : R → Side) (r : Result R Refusal) → IsOk r → IsOk (done_by make r)
 side_does make (Ok new) is = refl
 side_does make (Err refusal) is = absurd cc
 
 -- ---- a day
 
--- After a day both sides are in step or at rest, and fewer acts are left.
+-- `Day w new`: a day has led `w` to `new`. In `new` both sides are in step or at rest. `SidesCount` holds, so fewer
+-- acts are left.
 abbrev pub Day : Parties → Parties → Type 0
 Day w new = AreInStepOrAtRest new × SidesCount w.requester.live w.responder.live new.requester.live new.responder.live
 
--- These facts of a night are assumed here. It brings both sides in step or to rest, and is a round or two saves.
+-- These facts are assumed here. Each event keeps the invariant. A night brings both sides in step or to rest, and is a
+-- round or two saves.
 pub record Nights (txn : Qualifiers) : Type 0 where
   -- Each event keeps the invariant.
   pub after : (w : Parties) (event : Event) → Invariant txn w → Invariant txn (happens w event).1
@@ -91,7 +93,7 @@ module _ (txn : Qualifiers) (one : OneEach) (keep : RowsKeep) (nights : Nights t
       subst (SideKept w.responder.live) (sym (heard w stands).responder)
       (side_kept keep w.responder.live (heard w stands).to_responder)
 
-  -- After a wish towards the end, and a night, fewer acts are left.
+  -- If a wish towards the end is done, and a night follows, `Day` holds of the worlds before and after.
   wish_day : (w : Parties) (wish : Wish) → Invariant txn w → CanAnswer w.responder.live → is_wish_to_end wish ≡ true
       → (happens w (events.Wish wish)).0 ≡ Done → Day w (after_day w (events.Wish wish))
   wish_day w wish stands can ends done =
@@ -109,7 +111,7 @@ module _ (txn : Qualifiers) (one : OneEach) (keep : RowsKeep) (nights : Nights t
             stands_new.responder.live settled,
       )
 
-  -- After a deed towards the end, and a night, fewer acts are left.
+  -- If a deed towards the end is done, and a night follows, `Day` holds of the worlds before and after.
   deed_day : (w : Parties) (deed : Deed) (today : Date) → Invariant txn w → AreInStep w → is_deed_to_end deed ≡ true
       → (happens w (events.Deed deed today)).0 ≡ Done → Day w (after_day w (events.Deed deed today))
   deed_day w deed today stands step ends done =
@@ -133,7 +135,8 @@ module _ (txn : Qualifiers) (one : OneEach) (keep : RowsKeep) (nights : Nights t
             step settled,
       )
 
-  -- After each act towards the end, and a night, fewer acts are left.
+  -- If an act towards the end is done, and a night follows, `Day` holds of the worlds before and after. The act is a
+  -- wish or a deed.
   pub act_day : (w : Parties) (act : Event) → Invariant txn w → AreInStep w → CanAnswer w.responder.live
       → is_act_to_end act ≡ true → (happens w act).0 ≡ Done → Day w (after_day w act)
   act_day w (events.Wish wish) stands step can ends done = wish_day w wish stands can ends done
@@ -145,7 +148,7 @@ module _ (txn : Qualifiers) (one : OneEach) (keep : RowsKeep) (nights : Nights t
   act_day w (events.Noise of bytes) stands step can ends done = absurd cc
   act_day w (events.Restart of) stands step can ends done = absurd cc
 
--- ---- a loan that is not over
+-- ---- a loan that is not over for the requester, and who can act
 
 -- If two sides are at rest, the loan is over for the requester's.
 rest_over : (requester responder : Side) → Facing AtRest requester responder → is_over requester ≡ true
@@ -164,7 +167,7 @@ open_in_step requester responder (inr rest) is_open =
 not_over : (turn : Turn) → is_nobodys turn ≡ false → turn ≡ Over → ⊥
 not_over turn is_open over = let both : true ≡ false = sym (ap is_nobodys over) ∙ is_open in absurd cc
 
--- If the loan is not over, some act to the end is left.
+-- If the loan is not over for the requester, and both sides are in step, some act is left.
 some_left : (requester responder : Side) → Facing InStep requester responder → is_over requester ≡ false
     → 0 < side_acts_to_end requester
 some_left (sides.Requester x) responder step is_open = go (acts_to_end x) refl
@@ -181,12 +184,13 @@ SideCanAct requester responder =
     ((wish : Wish) × (is_wish_to_end wish ≡ true) × IsOk (acts requester (actions.Wish wish)))
     ⊎ ((deed : Deed) × (is_deed_to_end deed ≡ true) × ((today : Date) → IsOk (acts responder (actions.Deed deed today))))
 
--- In step one of two records can act towards the end. This law is assumed here.
+-- This law is assumed here: of two records in step one can act towards the end. The loan is not over for the requester,
+-- and each has a number left.
 abbrev pub OneCanAct : Type 0
 OneCanAct = (x : RequesterRecord) (y : ResponderRecord) → InStep x y → (requester_turn x ≡ Over → ⊥) → length x.issued < 255
     → length y.issued < 255 → CanWish x ⊎ CanDo y
 
--- If both sides are in step, and the loan is not over, one of both sides can act towards the end.
+-- If both sides are in step, and the loan is not over, one of them can act towards the end. Each has a number left.
 one_side_acts : OneCanAct → (requester responder : Side) → Facing InStep requester responder → is_over requester ≡ false
     → length (issued_of requester) < 255 → length (issued_of responder) < 255 → SideCanAct requester responder
 one_side_acts can (sides.Requester x) (sides.Responder y) step is_open asking lending =
@@ -222,7 +226,7 @@ module _ (txn : Qualifiers) (one : OneEach) (keep : RowsKeep) (nights : Nights t
   CanEndFrom days w = Invariant txn w → AreInStepOrAtRest w → acts_left w ≤ days → HasNumbers (acts_left w) w.requester.live
       → HasNumbers (acts_left w) w.responder.live → CanEnd days w
 
-  -- After a day with an act towards the end the loan can be ended in `days` days, if each such world allows it.
+  -- After a day with `act` the loan can be ended in `days` days, if `CanEndFrom days` holds of each world (`next`).
   after_act : (days : ℕ) → ((new : Parties) → CanEndFrom days new) → (w : Parties) (act : Event) → Invariant txn w → AreInStep w
       → acts_left w ≤ suc days → 0 < acts_left w → HasNumbers (acts_left w) w.requester.live
       → HasNumbers (acts_left w) w.responder.live → is_act_to_end act ≡ true → (happens w act).0 ≡ Done
@@ -236,7 +240,7 @@ module _ (txn : Qualifiers) (one : OneEach) (keep : RowsKeep) (nights : Nights t
       (numbers_lent w.requester.live w.responder.live new.requester.live new.responder.live day.1 lending
       (responder_few txn new.responder.live new.requester.sent stands_new.responder.live))
 
-  -- If the loan can be ended in `days` days from each such world, it can be ended in one more.
+  -- If `CanEndFrom` holds of `days` days and each world (`next`), it holds of one day more.
   one_more : (days : ℕ) → ((new : Parties) → CanEndFrom days new) → (w : Parties) → CanEndFrom (suc days) w
   unfolding CanEnd
   one_more days next w stands settled few asking lending = go (is_over w.requester.live) refl
@@ -265,7 +269,7 @@ module _ (txn : Qualifiers) (one : OneEach) (keep : RowsKeep) (nights : Nights t
                 )
           ]
 
-  -- If no act is left, both sides are at rest.
+  -- `CanEndFrom` holds of 0 days: if no act is left, both sides are at rest.
   none_more : (w : Parties) → CanEndFrom zero w
   unfolding CanEnd
   none_more w stands settled few asking lending = go (is_over w.requester.live) refl
@@ -281,7 +285,7 @@ module _ (txn : Qualifiers) (one : OneEach) (keep : RowsKeep) (nights : Nights t
                 (open_in_step w.requester.live w.responder.live settled is_open) is_open,
           ))
 
-  -- From each world of `CanEndFrom` the loan can be ended in `days` days, by induction on `days`.
+  -- `CanEndFrom` holds of all `days` and each world, by induction on `days`.
   pub can_end : (days : ℕ) (w : Parties) → CanEndFrom days w
   can_end zero w = none_more w
   can_end (suc days) w = one_more days (can_end days) w

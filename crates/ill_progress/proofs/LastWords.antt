@@ -73,7 +73,7 @@ last_message apdus a =
     let end : length (apdus ++ a ∷ []) ≡ suc (length apdus) = omega (arith, length-append apdus (a ∷ [])) in
     ap (message (apdus ++ a ∷ [])) end ∙ last_get apdus a
 
--- A record tells its end if the message tells it that was issued last.
+-- If `body` tells the end in `state`, a record that issues it and comes to `state` satisfies `TellsEnd`.
 issues_tell : (y : ResponderRecord) (body : Body) (state : State)
     → (is_among (NotSupplied ∷ Cancelled ∷ CheckedIn ∷ []) state ≡ true → tells_end state body ≡ true)
     → TellsEnd (issues_to y body state)
@@ -111,7 +111,7 @@ acts_tell y new deed today =
     of_acts TellsEnd y new deed today
     (λ transition is issues. issues_tell y transition.body transition.next (transition_tells y transition is))
 
--- If a record tells its end before a message, it does so after it.
+-- If `y` satisfies `TellsEnd`, the record `new` after a message does.
 change_tells : (y new : ResponderRecord) (number : ℕ) (body : Body) → Change y number body new → TellsEnd y → TellsEnd new
 change_tells y _ number _ (moves.leaves body) tells = tells
 change_tells y _ number _ (moves.requests expiry item a is) tells = λ final. absurd (true≢false (sym final))
@@ -219,7 +219,7 @@ ended_over txn (sides.Requester x) sent stands is = go x.state (is_declined x) x
     go state declined checked is = search rules
 ended_over txn (sides.Responder y) sent stands is = absurd stands
 
--- A requester in RETURNED that takes a Checked-In has the checked-in mark.
+-- If a requester in RETURNED takes a Checked-In, the loan is over for it.
 returned_over : (txn : Qualifiers) (state : State) (held : Option ℕ) (checked : Bool) (due : Option Date) (issued : List Apdu)
     → state ≡ Returned
     → is_over (sides.Requester (take_checked_in (requester_of txn state held checked due issued)).1) ≡ true

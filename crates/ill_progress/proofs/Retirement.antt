@@ -28,14 +28,14 @@ use Rattle.ill_world.proofs.Projections.{sent_after}
 
 -- ---- the two cases of an event
 
--- Returns the outcome of an event of shelves and the shelves after it, if it happens or not.
+-- Returns the outcome of an event of shelves, and the shelves after it. If `happens` is false, nothing changes.
 abbrev pub after_if : MarkedShelves → ShelfEvent → Bool → RetiringOutcome × MarkedShelves
 after_if w e happens =
     let after = shelves_happen w.shelves e in
     if happens then (at_desk after.0, record w { shelves = after.1 }) else (no_desk, w)
 
--- Returns the outcome of a retirement and the shelves after it, if there is a mark or not, and if all loans are over or
--- not.
+-- Returns the outcome of a retirement, and the shelves after it. `marked` says that there is a mark already. `over`
+-- says that all landed loans are over.
 abbrev pub retired_if : MarkedShelves → Role → List ℕ → Bool → Bool → RetiringOutcome × MarkedShelves
 retired_if w role group marked over =
     if marked then (done, w)
@@ -54,7 +54,8 @@ opens : (w : MarkedShelves) (role : Role) (group : List ℕ) → has_mark w role
     → can_happen w (opens_desk role group) ≡ true
 opens w role group unmarked = ap (λ b. not b || false) unmarked
 
--- The shelves after a retiring event are the old ones, or those after an event of shelves that can happen.
+-- Premises: `P` holds of the shelves of `w` (`same`). It holds of those after each event of shelves that can happen
+-- (`leads`).
 module _ (P : Shelves → Type 0) (w : MarkedShelves) (same : P w.shelves)
     (leads : (e : ShelfEvent) → can_happen w e ≡ true → P (shelves_happen w.shelves e).1) where
   -- An event of shelves keeps `P`.

@@ -111,7 +111,7 @@ sendings_keep w n (suc count) =
     let here = send_keeps w.responder n (message (issued_of w.responder.live) n) (nat_le n w.responder.released) in
     (rest.0 ∙ here.0, rest.1 ∙ here.1)
 
--- After the responder's half of a night its live side has landed.
+-- After the responder's half of a night the responder's live side has landed, and is unchanged.
 half_lands : (wants : Bool) (w : Parties) → let new = run_of w (half_if wants who.Responder w) in
     (new.responder.landed ≡ new.responder.live) × (new.responder.live ≡ w.responder.live)
 unfolding run_by
@@ -170,7 +170,7 @@ same_end x x_too y y_too same_x same_y end =
     subst (λ (s : Side). Facing InStep s y_too ⊎ Facing AtRest s y_too) same_x
     (subst (λ (s : Side). Facing InStep x s ⊎ Facing AtRest x s) same_y end)
 
--- Equal sides are over alike.
+-- If two sides are equal, and `is_over` is `over` for one, it is `over` for the other.
 over_too : (x y : Side) (over : Bool) → x ≡ y → is_over y ≡ over → is_over x ≡ over
 over_too x y over same is = ap is_over same ∙ is
 
@@ -217,7 +217,7 @@ module _ (txn : Qualifiers) (known : NightFacts txn) where
 
   -- ---- halves of a night
 
-  -- After the requester's half of a round the responder has taken all its messages.
+  -- After the requester's half of a round the responder has taken all messages of the requester.
   asked_all : (w : Parties) → Invariant txn w → HasPassed who.Requester w (run_of w (half_of who.Requester w))
       (issued_of w.requester.live)
   asked_all w stands = half_passes who.Requester w
@@ -228,7 +228,7 @@ module _ (txn : Qualifiers) (known : NightFacts txn) where
       few (sides.Requester x) sent is = is.few
       few (sides.Responder y) sent is = absurd is
 
-  -- After the responder's half of a round the requester has taken all its messages.
+  -- After the responder's half of a round the requester has taken all messages of the responder.
   answered_all : (w : Parties) → Invariant txn w → HasPassed who.Responder w (run_of w (half_of who.Responder w))
       (issued_of w.responder.live)
   answered_all w stands = half_passes who.Responder w

@@ -50,20 +50,21 @@ pub data IsMishandled (w : MarkedShelves) (outcome : RetiringOutcome) (new : Mar
   sends_earlier : (said : List ℕ) (txn : Qualifiers) (n : ℕ) → has_mark w Responder txn.group ≡ true →
       (n ≡ last_number txn (w.shelves txn.group) → ⊥) → (new.shelves txn.group ≡ w.shelves txn.group → ⊥) →
       IsMishandled w outcome new (on_shelf (sends_on_shelf said Responder txn n))
-  -- The last word of a loan is not sent as before.
+  -- The last word of a loan is not sent as on shelves without marks.
   keeps_last_word : (said : List ℕ) (txn : Qualifiers) (n : ℕ) → n ≡ last_number txn (w.shelves txn.group) →
       (new.shelves ≡ (shelves_happen w.shelves (sends_on_shelf said Responder txn n)).1 → ⊥) →
       IsMishandled w outcome new (on_shelf (sends_on_shelf said Responder txn n))
-  -- The library has not retired the group, and the event does not happen as before.
+  -- The library has not retired the group, and the event does not happen as on shelves without marks.
   stops_open : (e : ShelfEvent) → has_mark w (who_of (plain e.event)) (home e) ≡ false →
       (outcome ≡ at_desk (shelves_happen w.shelves e).0 → ⊥) ⊎ (new.shelves ≡ (shelves_happen w.shelves e).1 → ⊥) →
       IsMishandled w outcome new (on_shelf e)
   -- An event of shelves changes a mark.
   changes_mark : (e : ShelfEvent) → (new.marks ≡ w.marks → ⊥) → IsMishandled w outcome new (on_shelf e)
-  -- A retirement changes another group, or the other library's desk, or its mark.
+  -- A retirement of `group` changes the desks of `another` group, or its marks.
   changes_group : (who : Role) (group another : List ℕ) → (another ≡ group → ⊥) →
       (new.shelves another ≡ w.shelves another → ⊥) ⊎ (new.marks another ≡ w.marks another → ⊥) →
       IsMishandled w outcome new (retire who group)
+  -- A retirement by `who` changes the other library's desk of the group, or its mark.
   changes_other : (who : Role) (group : List ℕ) →
       (party (new.shelves group) (other who) ≡ party (w.shelves group) (other who) → ⊥)
       ⊎ (has_mark new (other who) group ≡ has_mark w (other who) group → ⊥) → IsMishandled w outcome new (retire who group)
@@ -71,7 +72,7 @@ pub data IsMishandled (w : MarkedShelves) (outcome : RetiringOutcome) (new : Mar
   retires_open : (who : Role) (group : List ℕ) (side : Side) → has_mark w who group ≡ false →
       Has (party (w.shelves group) who).landed.sides side → is_over side ≡ false →
       (outcome ≡ not_now → ⊥) ⊎ (new ≡ w → ⊥) → IsMishandled w outcome new (retire who group)
-  -- All loans that have landed are over. But the group is not retired then, or the desk is not the landed one.
+  -- All loans that have landed are over. But the outcome is not `done`, no mark is there, or the desk is not restarted.
   refuses_over : (who : Role) (group : List ℕ) → has_mark w who group ≡ false →
       ((side : Side) → Has (party (w.shelves group) who).landed.sides side → is_over side ≡ true) →
       (outcome ≡ done → ⊥) ⊎ (has_mark new who group ≡ false)

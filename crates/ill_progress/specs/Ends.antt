@@ -50,12 +50,14 @@ is_act_to_end other = false
 
 -- ---- how far a loan is from its end
 
--- Returns the acts to the end in RECALL: return and check in, and before these receive, if it was not received.
+-- Returns the number of acts to the end in RECALL. The Bool says that the item was received. Then two acts are left,
+-- return and check in. If not, three are left, since receive comes first.
 abbrev pub recalled_acts : Bool → ℕ
 recalled_acts true = 2
 recalled_acts false = 3
 
--- Returns the acts to the end in RETURNED: none if the requester has the checked-in mark, and else check in.
+-- Returns the number of acts to the end in RETURNED. The Bool is the requester's checked-in mark. With the mark no act
+-- is left, and else one, a check-in.
 abbrev pub returned_acts : Bool → ℕ
 returned_acts true = 0
 returned_acts false = 1
@@ -86,7 +88,7 @@ abbrev pub side_acts_to_end : Side → ℕ
 side_acts_to_end (sides.Requester x) = acts_to_end x
 side_acts_to_end (sides.Responder y) = 0
 
--- Returns the greatest number of acts towards the end that the loan can take.
+-- Returns the greatest number of acts towards the end that the loan can take. It is that of the requester's live side.
 abbrev pub acts_left : Parties → ℕ
 acts_left w = side_acts_to_end w.requester.live
 
@@ -96,8 +98,8 @@ acts_left w = side_acts_to_end w.requester.live
 abbrev pub after_day : Parties → Event → Parties
 after_day w event = let acted = (happens w event).1 in run_of acted (night_of acted)
 
--- The loan can be ended from `w` in at most this many days. Until both sides are at rest, each day has an act towards the
--- end that can be done, whatever day it is. A night follows it.
+-- `CanEnd days w`: the loan can be ended from `w` in at most `days` days. Until both sides are at rest, each day has an
+-- act towards the end. The act is done on whatever date `today` is, and a night follows the act.
 unfoldable pub CanEnd : ℕ → Parties → Type 0
 CanEnd zero w = AreAtRest w
 CanEnd (suc days) w = AreAtRest w ⊎ ((act : Date → Event) × ((today : Date) → (is_act_to_end (act today) ≡ true) ×
@@ -109,7 +111,8 @@ CanEnd (suc days) w = AreAtRest w ⊎ ((act : Date → Event) × ((today : Date)
 abbrev pub HasNumbers : ℕ → Side → Type 0
 HasNumbers count side = count + length (issued_of side) ≤ 255
 
--- Returns the refusal of an action by a side without a number: that of the table, or else `NumbersUsed`.
+-- Returns the refusal of an action by a side that has no number left. The argument is the answer of the table to the
+-- action. If it is a refusal, this refusal is returned, and else `NumbersUsed`.
 abbrev pub last_refusal : {T : Type 0} → Result T Refusal → Refusal
 last_refusal (Ok transition) = NumbersUsed
 last_refusal (Err refusal) = refusal

@@ -1,4 +1,4 @@
--- A worked loan that was recalled, and whose requester has used all its numbers. This is this profile's own.
+-- An example: a loan that was recalled, and whose requester has used all its numbers. This is this profile's own.
 use Rattle.std.specs.Prelude.{ℕ, zero, suc, ◌+◌, false, true, List, [], ◌∷◌, ◌++◌, Some, None, codes}
 use Rattle.ill_values.specs.Day.{Date}
 use Rattle.ill_values.specs.TxnId.{Qualifiers}
@@ -9,7 +9,7 @@ use Rattle.ill_core.specs.declared.state.State.TheVariants as states
 use Rattle.ill_core.specs.Requester.{RequesterRecord, requester_of}
 use Rattle.ill_core.specs.Responder.{ResponderRecord, responder_of}
 
--- The transaction of the loan.
+-- The transaction of the example.
 abbrev pub some_txn : Qualifiers
 some_txn = record { group = codes "G1"; transaction = codes "T1" }
 
@@ -17,7 +17,7 @@ some_txn = record { group = codes "G1"; transaction = codes "T1" }
 abbrev pub some_day : Date
 some_day = record { year = 2025; month = 3; day = 15 }
 
--- Returns message `number` of the loan, with this body.
+-- Returns the message with this number and this body, in the transaction of the example.
 abbrev pub message_of : ℕ → Body → Apdu
 message_of number body = record { txn = some_txn; number = number; body = body }
 

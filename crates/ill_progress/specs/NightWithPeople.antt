@@ -60,8 +60,8 @@ pub record HaveLanded (w : Parties) : Type 0 where
 -- ---- nights that the responder begins
 
 -- Returns two nights from `w` on that the responder begins: its half, the requester's, its half again, and the
--- requester's again. The two halves in the middle are a night that the requester begins. `asked` says that the responder
--- was asked before the first one.
+-- requester's again. The two halves in the middle are a night that the requester begins. `asked` says that the
+-- requester asked before the first half.
 abbrev pub two_late_nights_of : Bool → Parties → List Event
 two_late_nights_of asked w =
     let first = half_if (wants_sending asked w.responder.live) Responder w in

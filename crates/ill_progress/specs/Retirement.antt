@@ -20,7 +20,7 @@ use Rattle.ill_world.specs.Agreement.{Agrees}
 
 -- ---- the marks
 
--- Each of the two libraries may have a mark at each group.
+-- Gives for each group the marks of both libraries there: true if the library has retired the group.
 abbrev pub Marks : Type 0
 Marks = List ℕ → TwoOf Bool
 
@@ -37,7 +37,7 @@ first_marked_shelves = record { shelves = first_shelves; marks = λ group. recor
 abbrev pub has_mark : MarkedShelves → Role → List ℕ → Bool
 has_mark w who group = party (w.marks group) who
 
--- Returns `marks`, and the mark of `who` at the group `at`.
+-- Returns `marks` with one more mark: that of `who` at the group `at`.
 abbrev pub with_mark : Marks → Role → List ℕ → Marks
 with_mark marks who at = λ group. if bytes_eq group at then with_party (marks group) who true else marks group
 
@@ -48,12 +48,15 @@ pub data RetiringEvent : Type 0 where
   on_shelf : ShelfEvent → RetiringEvent
   retire : (who : Role) (group : List ℕ) → RetiringEvent
 
--- The outcome of a retiring event. An event of shelves has its outcome of desks, or no desk is there, only a mark. A
--- retirement is done, or not now.
+-- The outcome of a retiring event.
 pub data RetiringOutcome : Type 0 where
+  -- An event of shelves happened, with this outcome at the desk.
   at_desk : DeskOutcome → RetiringOutcome
+  -- An event of shelves did not happen: there is no desk any more, only a mark.
   no_desk : RetiringOutcome
+  -- The group has a mark after a retirement: it was set now, or before.
   done : RetiringOutcome
+  -- A landed loan of the desk is not over, so a retirement changed nothing.
   not_now : RetiringOutcome
 
 -- Returns true if the event sends a last word: the last message of a loan, as the responder's desk holds it. Only a
@@ -62,7 +65,7 @@ abbrev pub is_last_word : DeskParties → DeskEvent → Bool
 is_last_word w (Send Responder txn n) = n == length (issued_of (held_for txn w.responder.live).side)
 is_last_word w other = false
 
--- Returns true if the event happens. Its library has not retired its group, or the event sends a last word.
+-- Returns true if the event can happen: its library has not retired its group, or the event sends a last word.
 abbrev pub can_happen : MarkedShelves → ShelfEvent → Bool
 can_happen w e = not (has_mark w (who_of (plain e.event)) (home e)) || is_last_word (w.shelves (home e)) e.event
 
@@ -72,7 +75,7 @@ marked_shelves_happen w e =
     let after = shelves_happen w.shelves e in
     if can_happen w e then (at_desk after.0, record w { shelves = after.1 }) else (no_desk, w)
 
--- Returns true if all loans of a desk are over, as its file says.
+-- Returns true if all loans in the landed record of a desk are over.
 abbrev pub are_loans_over : DeskParty → Bool
 are_loans_over p = list_all is_over p.landed.sides
 
@@ -80,8 +83,9 @@ are_loans_over p = list_all is_over p.landed.sides
 abbrev pub opens_desk : Role → List ℕ → ShelfEvent
 opens_desk who group = record { group = group; event = Restart who }
 
--- Returns the outcome of the retirement of `group` by `who`, and the shelves after it. It sets a mark, if there is none
--- yet. If a loan is not over, it changes nothing.
+-- Returns the outcome of the retirement of `group` by `who`, and the shelves after it. If there is a mark already,
+-- nothing changes. If all landed loans are over, the desk is opened, and the mark is set. If a landed loan is not over,
+-- nothing changes.
 abbrev pub retires : MarkedShelves → Role → List ℕ → RetiringOutcome × MarkedShelves
 retires w who group =
     if has_mark w who group then (done, w)

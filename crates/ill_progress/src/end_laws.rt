@@ -98,8 +98,9 @@ pub fn each_act_towards_the_end_counts()
     numbers_are_few();
 }
 
-/// A loan whose sides are in step can be ended in as many days as acts are left. Each side must have as many numbers
-/// left. This holds if the world satisfies the invariant, and so after any events and a night.
+/// A loan in step or at rest can be ended in as many days as acts are left. The world must satisfy the invariant, and
+/// each side must have as many numbers left. So a loan with these numbers can be ended after any events and a night.
+/// Before the night the responder must be able to answer a Conditional-Reply no.
 pub fn every_loan_can_end()
     ensures stands { (txn : Qualifiers) (w : Parties) → Invariant txn w → AreInStepOrAtRest w →
         HasNumbers (acts_left w) w.requester.live → HasNumbers (acts_left w) w.responder.live →

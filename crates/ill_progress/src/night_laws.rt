@@ -37,8 +37,8 @@ fn night_facts()
     ill_world::laws::one_night_is_enough();
 }
 
-/// After the requester's half of a round the responder has heard all messages of the requester. If it has saved since
-/// then, its deeds, its saves and its restarts change nothing of that.
+/// After the requester's half of a round the responder has heard all messages of the requester. If the responder saves
+/// then, further events at its library, without deliveries, change nothing of this.
 pub fn the_responder_has_heard_all()
     ensures { (txn : Qualifiers) (w : Parties) (people : List Event) → Invariant txn w →
         list_all is_by_responder people ≡ true →
@@ -47,7 +47,7 @@ pub fn the_responder_has_heard_all()
     night_facts();
 }
 
-/// If the responder has heard all messages of the requester, the requester's half of a round leaves both live sides.
+/// If the responder has heard all messages of the requester, the requester's half of a round changes neither live side.
 pub fn a_half_without_news_changes_nothing()
     ensures { (txn : Qualifiers) (w : Parties) → Invariant txn w → ResponderHasHeard w →
         let new = run_of w (half_of Requester w) in

@@ -1,4 +1,5 @@
--- Proves that no bad libraries are safe, and that a library is no other desk of the model than the one in its file.
+-- Proves that no bad libraries are safe. A library is no other desk of the model than the one in its file. A library
+-- that has forgotten a message does not have all that left.
 use Rattle.std.proofs.Common.{◌≡◌, Result, Ok, Err, sym, ◌∙◌, subst}
 use Rattle.ill_values.specs.declared.apdu.Apdu.{Apdu}
 use Rattle.ill_record.specs.declared.fault.RecordFault.{RecordFault}

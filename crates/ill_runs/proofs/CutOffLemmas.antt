@@ -59,7 +59,7 @@ fails_with others before after cut = elim cut.file [
 
 -- ---- each command
 
--- The command `act` is cut off as one whose save failed.
+-- If the power goes in the save of the command `act`, this is a command `act` whose save failed.
 act_cut : (others : List Apdu) (before after : Library) (cut : IsCutInSave others before after) → ActSaves cut.old cut.now
     → IsCommand Acts before after
 act_cut others before after cut saves =
@@ -91,8 +91,8 @@ grown : (content : Option (List ℕ)) (bytes : List ℕ) → Appends content (ap
 grown (Some content) bytes = refl
 grown None bytes = tt
 
--- The command `take` is cut off as one whose save failed at the last message. This message has at most 359 bytes
--- (`longest`).
+-- If the power goes in a save of `take`, this is a `take` whose save failed at its last message. This message has at
+-- most 359 bytes (`longest`).
 take_cut : ((a : Apdu) → IsApdu a → length (encoding a) ≤ 359) → (others : List Apdu) (before after : Library)
     (cut : IsCutInSave others before after) → TakeSaves others cut.old cut.now → IsCommand (Takes others) before after
 unfolding Each
@@ -155,7 +155,7 @@ take_cut longest others before after cut saves =
       left = cut.left ∙ sym (append-nil before.left);
     }
 
--- The save of mails is cut off as one that failed.
+-- If the power goes in the save of the mails that came, this is a command `inbox` whose save failed.
 inbox_cut : (others : List Apdu) (before after : Library) (cut : IsCutInSave others before after)
     → InboxSaves others cut.old cut.now → IsCommand (TakesMail others) before after
 inbox_cut others before after cut saves =
@@ -185,7 +185,7 @@ inbox_cut others before after cut saves =
       left = cut.left ∙ sym (append-nil before.left);
     }
 
--- The save of deeds is cut off as one that failed.
+-- If the power goes in the save of a day's deeds, this is an `exchange` whose save of deeds failed.
 deeds_cut : (others : List Apdu) (before after : Library) (cut : IsCutInSave others before after)
     → DeedsSave others cut.old cut.now → IsCommand (Exchanges others) before after
 deeds_cut others before after cut saves =
@@ -236,7 +236,7 @@ save_is_command longest others before after cut = elim cut.saves [
 abbrev without_input : Progress DeskContents → Progress DeskContents
 without_input state = progress state.state state.fine
 
--- If messages are handled from `before` to `after`, they are so without what is left of the input.
+-- If messages are handled from `before` to `after`, the same messages are handled between both without the input left.
 handled_without : (is_kept : Bool) (told : Wording) (before after : Progress DeskContents) (apdus : List Apdu)
     → Handled (TakesMessage is_kept told many_sides) before apdus after
     → Handled (TakesMessage is_kept told many_sides) (without_input before) apdus (without_input after)
@@ -244,7 +244,7 @@ handled_without is_kept told before after [] same = ap without_input same
 handled_without is_kept told before after (a ∷ apdus) is =
     (without_input is.0, is.1, handled_without is_kept told is.0 after apdus is.2)
 
--- The command `take` is cut off between two saves as one of fewer messages.
+-- If the power goes between two saves of the command `take`, this is a command `take` of fewer messages.
 take_stopped : (others : List Apdu) (before after : Library) (cut : IsCutBetweenSaves others before after)
     (last : Progress DeskContents) → TakeReaches others cut.old last → cut.now ≡ last.state.desk
     → IsCommand (Takes others) before after
@@ -286,7 +286,7 @@ take_stopped others before after cut last reached now =
       left = cut.left ∙ sym (append-nil before.left);
     }
 
--- A night is cut off after its mails as the command `inbox`.
+-- If the power goes in a night after its mails were saved, this is a command `inbox`.
 night_stopped : (others : List Apdu) (before after : Library) (cut : IsCutBetweenSaves others before after)
     (met : CommandState DeskContents) → NightReaches others cut.old met → cut.now ≡ met.desk
     → IsCommand (TakesMail others) before after
@@ -300,7 +300,7 @@ night_stopped others before after cut met reached now = record {
   left = cut.left ∙ sym (append-nil before.left);
 }
 
--- A library with the file and the messages of another is this one.
+-- Two libraries with equal files and equal messages are equal.
 same_library : (before after : Library) → after.file ≡ before.file → after.left ≡ before.left → after ≡ before
 same_library before after file left =
     ap (λ (bytes : List ℕ). record after { file = bytes }) file

@@ -57,7 +57,7 @@ then_leads {who} {sent} {p} {q} {r} first second = record {
       ∙ second.after;
 }
 
--- Events leave the roles of their desk.
+-- A desk of `role` is still a desk of `role` after events.
 pub after_keeps_role : (role : Role) (sent : List Sending) (p : DeskParty) (events : List DeskEvent) → IsDeskOf role p
     → IsDeskOf role (desk_after p sent events)
 unfolding desk_after
@@ -65,7 +65,7 @@ after_keeps_role role sent p [] is = is
 after_keeps_role role sent p (event ∷ events) is =
     after_keeps_role role sent (desk_happens_to p sent event).1 events (role_kept role p sent event is)
 
--- If events lead from `p` to `q`, `q` has the roles of `p`.
+-- If events lead from `p` to `q`, and `p` is a desk of `role`, `q` is a desk of `role`.
 pub leads_keep_role : {who : Role} {sent : List Sending} {p q : DeskParty} → Leads who sent p q → (role : Role)
     → IsDeskOf role p → IsDeskOf role q
 leads_keep_role {who} {sent} {p} {q} leads role is =

@@ -38,19 +38,19 @@ first_at again role = record { file = again (record { role = role; sides = [] })
 
 -- ---- one after another
 
--- Each of two libraries is a desk of the model, if both are.
+-- If two libraries are the desks of `w`, each of them is the desk of its role.
 pub each_is_at : (role : Role) (libraries : Libraries) (w : DeskParties) → AreAt libraries w
     → IsAt (party libraries role) (party w role)
 each_is_at who.Requester libraries w at = at.requester
 each_is_at who.Responder libraries w at = at.responder
 
--- Both libraries are desks of the model, if each is.
+-- If the library of `role` is its desk in `w`, and the other library the other desk, `AreAt` holds.
 both_are_at : (role : Role) (libraries : Libraries) (w : DeskParties) → IsAt (party libraries role) (party w role)
     → IsAt (party libraries (other role)) (party w (other role)) → AreAt libraries w
 both_are_at who.Requester libraries w here there = record { requester = here; responder = there }
 both_are_at who.Responder libraries w here there = record { requester = there; responder = here }
 
--- Two desks that stand do so after each event, and a message that was sent stays sent.
+-- Premises: each event keeps the invariant of two desks (`stand`). A message that was sent stays sent (`stay`).
 module _ (stand : EachStands) (stay : (txn : Qualifiers) (w : DeskParties) (event : DeskEvent) → DesksInvariant w
     → KeepsSent (project txn w) (project txn (desks_happen w event).1)) where
   -- If one library performs a command, the events of the command lead to the desks of both.
@@ -88,7 +88,8 @@ module _ (stand : EachStands) (stay : (txn : Qualifiers) (w : DeskParties) (even
 
 -- ---- safety
 
--- If two desks stand, the libraries that are these desks are safe. The premises before them are laws of two parties.
+-- If two desks satisfy their invariant, the libraries that are these desks are safe. Premises: the laws `ends`,
+-- `shipped` and `granted` of two parties.
 pub safe_at : ((txn : Qualifiers) (w : Parties) → Invariant txn w → OfBoth EndsAlike w)
     → ((txn : Qualifiers) (w : Parties) → Invariant txn w → OfBoth WasShipped w)
     → ((txn : Qualifiers) (w : Parties) → Invariant txn w → OfBoth WasGranted w)
@@ -117,7 +118,7 @@ left_landed sent landed lands [] each = tt
 left_landed sent landed lands (a ∷ left) each =
     ((each.0.0, each.0.1, lands each.0.0 each.0.1 a each.0.2), left_landed sent landed lands left each.1)
 
--- If two desks stand, the file of each library that is one of them has all that has left it.
+-- If two libraries are desks that satisfy their invariant, the file of each has all that has left it.
 pub has_all_left : (libraries : Libraries) (w : DeskParties) → DesksInvariant w → AreAt libraries w → (role : Role)
     → HasAllThatLeft (party libraries role)
 has_all_left libraries w stands at who.Requester = (

@@ -1,4 +1,5 @@
--- Proves that a command of a library is a run of the model, and so is each history of two libraries.
+-- Proves that a command of a library is a run of the model: events at its desk, with a Send for each message that
+-- leaves.
 use Rattle.std.proofs.Common.{◌≡◌, ◌⊎◌, inl, inr, ℕ, zero, suc, ◌<◌, nat_le, Bool, true, false, List, [], ◌∷◌, ◌++◌, length}
 use Rattle.std.proofs.Common.{cond}
 use Rattle.std.proofs.Common.{Option, Some, None, is_some, Result, Ok}
@@ -85,7 +86,7 @@ unfolding HappenAt
 here_both who [] more here others = others
 here_both who (event ∷ events) more here others = (here.0, here_both who events more here.1 others)
 
--- ---- facts of two desks that stand
+-- ---- facts of two desks that satisfy their invariant
 
 -- Each desk has its role.
 role_of_desk : (who : Role) (w : DeskParties) → DesksInvariant w → IsDeskOf who (party w who)
@@ -97,19 +98,19 @@ apart_at : (who : Role) (w : DeskParties) → DesksInvariant w → AreApart (liv
 apart_at who.Requester w stands = stands.counts.0.0
 apart_at who.Responder w stands = stands.counts.2.0
 
--- A side that stands as a requester's has issued at most 255 messages.
+-- A requester's side that satisfies its invariant has issued at most 255 messages.
 requester_few : (txn : Qualifiers) (side : Side) (sent : List (Option Apdu)) → RequesterSideInvariant txn side sent
     → length (issued_of side) < 256
 requester_few txn (sides.Requester x) sent stands = omega (arith, stands.few)
 requester_few txn (sides.Responder y) sent stands = absurd stands
 
--- A side that stands as a responder's has issued at most 255 messages.
+-- A responder's side that satisfies its invariant has issued at most 255 messages.
 responder_few : (txn : Qualifiers) (side : Side) (sent : List (Option Apdu)) → ResponderSideInvariant txn side sent
     → length (issued_of side) < 256
 responder_few txn (sides.Responder y) sent stands = omega (arith, stands.few)
 responder_few txn (sides.Requester x) sent stands = absurd stands
 
--- Each side has issued at most 255 messages, and its desk has a place for each in what it sent.
+-- Each side has issued at most 255 messages. The list of what its desk has sent has 255 places for them.
 few_at : (who : Role) (w : DeskParties) → DesksInvariant w → (txn : Qualifiers)
     → (length (issued_of (held_for txn (party w who).live).side) < 256) × (length (sent_for txn (party w who).sent) ≡ 255)
 few_at who.Requester w stands txn =
@@ -138,7 +139,7 @@ brought sent others were mails bring =
 
 -- ---- messages that were sent
 
--- Two desks that stand do so after each event, and a message that was sent stays sent.
+-- Premises: each event keeps the invariant of two desks (`stand`). A message that was sent stays sent (`stay`).
 module _ (stand : EachStands) (stay : (txn : Qualifiers) (w : DeskParties) (event : DeskEvent) → DesksInvariant w
     → KeepsSent (project txn w) (project txn (desks_happen w event).1)) where
   -- A message that was sent stays sent after an event.
@@ -177,7 +178,7 @@ module _ (stand : EachStands) (stay : (txn : Qualifiers) (w : DeskParties) (even
       ap (λ entry. (desk_sends p txn n entry).1) found
       ∙ sends_it p (λ b. sent_by p txn n b) (message (issued_of held.side) n) (nat_le n held.released) a there free
 
-  -- If there is a place for message n, a desk that has sent `a` as message n has sent it.
+  -- If the desk has a place for message n, `a` is among its sent messages after this Send.
   was_sent : (p : DeskParty) (txn : Qualifiers) (n : ℕ) (a : Apdu) (issued : List Apdu) → message issued n ≡ Some a
       → length issued < 256 → length (sent_for txn p.sent) ≡ 255
       → WasSent (sent_by p txn n a).sent a
@@ -196,8 +197,8 @@ module _ (stand : EachStands) (stay : (txn : Qualifiers) (w : DeskParties) (even
       → held_for txn live ≡ held
   found_side live txn held found = ap (found_or (idle_held live.role txn)) found
 
-  -- Messages leave the desk of `who` by the events `events`. They lead from `w` to a desk with the same sides, which
-  -- has sent them.
+  -- The events `events` at the desk of `who` send the messages `left`. They change neither the live nor the landed
+  -- sides of this desk.
   record HasSent (who : Role) (w : DeskParties) (left : List Apdu) : Type 0 where
     events : List DeskEvent
     here : HappenAt who events
@@ -237,8 +238,8 @@ module _ (stand : EachStands) (stay : (txn : Qualifiers) (w : DeskParties) (even
 
   -- ---- one command
 
-  -- A command that began at the model's desk `p` has led it to the desk `end`. The store has the landed sides of `end`,
-  -- and `leaving` may leave it.
+  -- A command that began at the model's desk `p` has led it to the desk `end`. The store, with this content, has the
+  -- landed sides of `end`. If `end` holds no transaction twice, the messages `leaving` may be sent there.
   record HasRun (who : Role) (sent : List Sending) (p : DeskParty) (leaving : List Apdu) (content : Option (Option (List ℕ)))
       : Type 0 where
     end : DeskParty

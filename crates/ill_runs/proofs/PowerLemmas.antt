@@ -39,7 +39,7 @@ pub saved_lands : (bytes : List ℕ) (old new : StoreState) (answer : Result (Un
 saved_lands bytes old new (Ok done) saves honest = (saves.landed honest).0
 saved_lands bytes old new (Err fault) saves honest = tt
 
--- If one record alone may be left, and it has landed and is read as `sides`, so is the one that is left.
+-- If a loss of power leaves only the landed record, the record `left` is read as the landed sides `sides`.
 pub left_read : (is_honest : Bool) (landed : Option (List ℕ)) (leaves : Option (List ℕ) → Type 0) (sides : SidesOf)
     (left : Option (List ℕ)) → IsReadAs (known_if is_honest landed) sides → LeavesLanded landed leaves → leaves left
     → IsReadAs (Some left) sides
@@ -91,7 +91,8 @@ module _ (who : Role) (sent : List Sending) (p : DeskParty) (left : Option (List
   new_starts read =
       (true, ((refl, (refl, tt)), starts_as left (desk_restarts (desk_fails_to_save p true)) read refl))
 
--- If the landed record or that of the live sides is left, a save that failed and a restart lead to its desk.
+-- The landed record is left, or that of the live sides. A save that failed and a restart lead to the desk that starts
+-- from the record left.
 pub fault_starts : {path : Option (List ℕ)} (is_honest : Bool) (landed : Option (List ℕ))
     (leaves : Option (List ℕ) → Type 0) (live : DeskContents)
     (who : Role) (sent : List Sending) (p : DeskParty) (left : Option (List ℕ))
@@ -105,7 +106,7 @@ fault_starts is_honest landed leaves live who sent p left is lasts again either 
 
 -- ---- what may be left
 
--- If what has landed is left alone, the model knows it.
+-- If a loss of power leaves only the landed record, the model knows each record that may be left.
 pub loaded_left : {path : Option (List ℕ)} (is_honest : Bool) (landed : Option (List ℕ))
     (leaves : Option (List ℕ) → Type 0) (live : DeskContents) (p : DeskParty)
     → IsDesk (record { path = path; live = live; landed = known_if is_honest landed }) p → LeavesLanded landed leaves
@@ -142,7 +143,7 @@ module _ (desk : HeldAndLanded DeskContents) (leaves : Option (List ℕ) → Typ
   left_after_save who landed (Err fault) saved after lands lasts either left is_left =
       left_in_save who landed left (either left is_left)
 
--- The desk that starts from a record which may be left is the model's desk after this loss.
+-- If a loss of power may leave `left`, a desk that starts from it is the model's desk after it.
 pub lost_starts : (desk : HeldAndLanded DeskContents) (leaves : Option (List ℕ) → Type 0) (p : PoweredDesk)
     (left : Option (List ℕ)) → IsPoweredDesk desk leaves p → leaves left
     → (sides : SidesOf) × IsAmong sides p.leaves × StartsAs left (started_from p.desk sides).desk

@@ -66,8 +66,8 @@ module _ (p : DeskParty) (landed : SidesOf) where
 
 -- ---- one event of one desk
 
--- The sides `landed` may stand at the desk `after` an event at `p`. Others might stand at `p`, from which an event of the
--- same desk leads there.
+-- Sides `before` may stand at `p`. If they have landed there, an event of `who` leads from `p` to `after` with the
+-- landed sides `landed`.
 record Foretold (who : Role) (sent : List Sending) (p after : PoweredDesk) (landed : SidesOf) : Type 0 where
   before : SidesOf
   stood : MayStand p before
@@ -84,7 +84,8 @@ stands_alone sides landed either = elim either [
 ]
 
 module _ (who : Role) (sent : List Sending) (p : PoweredDesk) where
-  -- An event depends on no landed side, and leaves what may be left. Then what may stand after it stood before it.
+  -- Premises: an event depends on no landed side, and leaves what may be left. Then sides that may stand after it are
+  -- foretold: they may stand before it.
   quiet_so : (event : DeskEvent) → who_of (plain event) ≡ who → leaves_after p.desk p.leaves event ≡ p.leaves
       → ((landed : SidesOf) → (desk_happens_to (with_landed p.desk landed) sent event).1
       ≡ with_landed (desk_happens_to p.desk sent event).1 landed)
@@ -198,7 +199,7 @@ abbrev with_both : PoweredDesks → SidesOf → SidesOf → DeskParties
 with_both w mine theirs =
     record { requester = with_landed w.requester.desk mine; responder = with_landed w.responder.desk theirs }
 
--- Whatever may stand at both desks, some events of the model lead there.
+-- For all sides that may stand at both desks, some events lead to the desks with these landed sides.
 abbrev Reached : PoweredDesks → Type 0
 Reached w =
     (mine theirs : SidesOf) → MayStand w.requester mine → MayStand w.responder theirs →
@@ -275,7 +276,7 @@ safe_there safe w alone is txn =
     subst (λ (v : DeskParties). Safe (project txn v))
     (ap (desks_run first_desks) (take_all (length alone) alone (omega arith)) ∙ is) (safe alone txn (length alone))
 
--- Two desks that stand have forgotten nothing that they have sent.
+-- Two desks that satisfy their invariant have forgotten nothing that they have sent.
 none_forgets : (w : DeskParties) → DesksInvariant w → ForgetsSent w → ⊥
 none_forgets w stands (who.Requester, txn, n, a, was, lacks) =
     lacks ((stands.each txn).requester.saved.landed n a was)

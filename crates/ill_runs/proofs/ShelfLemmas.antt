@@ -5,8 +5,8 @@ use Rattle.std.proofs.lemmas.Slice.Eq.{bytes_eq-Decides}
 use Rattle.ill_runs.specs.Libraries.{Libraries, Happens, IsHistory, libraries_after}
 use Rattle.ill_runs.specs.ShelfLibraries.{ShelfLibraries, GroupVisit, after_visit, IsShelfHistory, shelves_after, visits_of}
 
--- If `later` is a history from the libraries after a visit at `group`, it is one with the visit before it. If the visit
--- is of another group (`same` is false), it is one alone.
+-- If `later` is a history from the libraries after a visit, both together are a history at `group`. If the visit is of
+-- another group (`same` is false), `later` alone is a history.
 visit_joins : (w : ShelfLibraries) (group : List ℕ) (visit : GroupVisit) (later : List Libraries) (same : Bool)
     → bytes_eq group visit.group ≡ same → Happens (w visit.group) visit.after
     → IsHistory (if same then visit.after else w group) later
@@ -16,7 +16,8 @@ visit_joins w group visit later true same happens history =
     (subst (λ g. Happens (w g) visit.after) (sym ((bytes_eq-Decides group visit.group).0 same)) happens, history)
 visit_joins w group visit later false same happens history = history
 
--- The libraries after a visit and `later` are those after `later`, from the libraries that the visit leaves on.
+-- The libraries after a visit and then `later` are those after `later`, from the libraries after the visit on. If
+-- `same` is false, the visit is of another group, and changes nothing.
 visit_leads : (w : ShelfLibraries) (group : List ℕ) (visit : GroupVisit) (later : List Libraries) (same : Bool)
     → libraries_after (if same then visit.after else w group) later
     ≡ libraries_after (w group) (if same then visit.after ∷ later else later)

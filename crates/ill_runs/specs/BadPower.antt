@@ -14,7 +14,7 @@ use Rattle.ill_world.specs.Desks.{DeskParty, DeskParties, sent_for}
 use Rattle.ill_runs.specs.Libraries.{Library}
 use Rattle.ill_runs.specs.CutOff.{IsCutInSave}
 
--- A desk that starts from the record `left` is not the model's desk `q`.
+-- A desk that starts from the record `left` is not the model's desk `q`. Each case gives one reason.
 pub data IsBadStart (left : Option (List ℕ)) (q : DeskParty) : Type 0 where
   -- There is no record.
   nothing : left ≡ None → IsBadStart left q
@@ -26,7 +26,7 @@ pub data IsBadStart (left : Option (List ℕ)) (q : DeskParty) : Type 0 where
   -- The desk holds other sides than the landed ones, or has not released all their messages.
   not_whole : (q.live ≡ whole_of q.landed → ⊥) → IsBadStart left q
 
--- A loss of power cannot cut off a command so.
+-- No loss of power cuts off a command as `cut` says. Each case gives one reason.
 pub data IsBadCut {others : List Apdu} {before after : Library} (cut : IsCutInSave others before after) : Type 0 where
   -- The file has neither the old record nor the new one.
   third_record : (after.file ≡ cut.last → ⊥) → (after.file ≡ many_sides.encoding cut.now.live → ⊥) → IsBadCut cut

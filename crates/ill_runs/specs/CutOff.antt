@@ -129,7 +129,7 @@ pub record IsCutBetweenSaves (others : List Apdu) (before after : Library) : Typ
   pub landed : now.landed ≡ Some (Some after.file)
   pub left : after.left ≡ before.left
 
--- Returns the library `after` of a command, of whose messages `leaving` only the first have left.
+-- Returns the library `after` of a command from `before`. Of the messages `leaving` only the first `size` have left.
 abbrev pub with_first : ℕ → Library → List Apdu → Library → Library
 with_first size before leaving after = record after { left = before.left ++ take size leaving }
 
@@ -141,7 +141,8 @@ IsCutInSending others before after =
     × (((command : IsCommand (Exchanges others) before whole) × (after ≡ with_first size before command.leaving whole))
     ⊎ ((command : IsCommand Sends before whole) × (after ≡ with_first size before command.leaving whole)))
 
--- The power goes in a command of the library `before`, which leaves the library `after`.
+-- The power goes in a command of the library `before`, which leaves the library `after`. `others` have left the other
+-- library.
 abbrev pub LosesPower : List Apdu → Library → Library → Type 0
 LosesPower others before after =
     IsCutInSave others before after ⊎ IsCutBetweenSaves others before after ⊎ IsCutInSending others before after

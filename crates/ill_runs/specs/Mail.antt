@@ -75,7 +75,7 @@ message_if_read (Some bytes) = message_if (message_in bytes)
 abbrev pub message_of : Mail → List Apdu
 message_of mail = message_if_read (option_map (λ bytes. bytes.items) mail.bytes)
 
--- `Known` holds of the message of each mail.
+-- `Known` holds of the message of each mail that holds just one.
 abbrev pub Bring : (Apdu → Type 0) → List Mail → Type 0
 Bring Known mails = Each (λ mail. Each Known (message_of mail)) mails
 
@@ -92,17 +92,18 @@ mails_of asked night = mails_taken night.2
 
 -- ---- the messages that leave
 
--- `left` are the first of the messages that leave a desk in an outbox, if some messages ask.
+-- `left` are the first `size` of the messages that leave a desk in an outbox. `asking` are the messages that ask.
 abbrev pub IsOutbox : DeskContents → List Apdu → Type 0
 IsOutbox live left =
     (asking : List Apdu) × (size : ℕ) × (left ≡ take size (map (λ issue. issue.apdu) (leaving_desk asking live.held)))
 
--- `left` leave a desk if its deeds were done and saved. Otherwise none leaves.
+-- If the deeds of a desk were done and saved, `left` leave it in an outbox. Otherwise none leaves.
 abbrev pub LeavesIfDone : Result (Unit {0}) ToolFault → DeskContents → List Apdu → Type 0
 LeavesIfDone (Ok done) live left = IsOutbox live left
 LeavesIfDone (Err fault) live left = left ≡ []
 
--- `left` leave a desk in a night, by how the night went. If its mails could not be taken, none leaves.
+-- `left` leave a desk in a night, by how the night went. If its mails could not be taken, or its deeds were not done,
+-- none leaves.
 abbrev pub Leaves : (asked : AskedNight) → {old new : CommandState DeskContents} → {result : Result Bool ToolFault} →
     ExchangesAt asked old result new → List Apdu → Type 0
 Leaves asked (met, Err fault, taken, ends) left = left ≡ []

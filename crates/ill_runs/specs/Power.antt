@@ -39,7 +39,7 @@ pub record PoweredDesk : Type 0 where
   pub desk : DeskParty
   pub leaves : List SidesOf
 
--- `sides` are among these.
+-- `sides` are an item of the list.
 unfoldable pub IsAmong : SidesOf → List SidesOf → Type 0
 IsAmong sides [] = ⊥
 IsAmong sides (first ∷ others) = (sides ≡ first) ⊎ IsAmong sides others
@@ -53,7 +53,8 @@ leaves_after p leaves (SaveFault who landed) = sides_held p.live ∷ leaves
 leaves_after p leaves (Restart who) = p.landed ∷ []
 leaves_after p leaves event = leaves
 
--- Returns desk `p` after an event of the model. `sent` has the messages of the other desk.
+-- Returns desk `p`, and what a loss of power may leave of it, after an event of the model. `sent` has the messages of
+-- the other desk.
 abbrev pub powered_after : PoweredDesk → List Sending → DeskEvent → PoweredDesk
 powered_after p sent event = record {
   desk = (desk_happens_to p.desk sent event).1;
@@ -88,7 +89,7 @@ first_powered_desks =
 abbrev pub desks_of : PoweredDesks → DeskParties
 desks_of w = record { requester = w.requester.desk; responder = w.responder.desk }
 
--- The event may happen. A loss of power leaves only what it may leave.
+-- The event may happen. If it is a loss of power, its sides are among those that the loss may leave.
 abbrev pub MayHappen : PoweredDesks → PowerEvent → Type 0
 MayHappen w (at_desks event) = Unit {0}
 MayHappen w (loss who left) = IsAmong left (party w who).leaves

@@ -3,7 +3,7 @@
 use Rattle.std.specs.Prelude.{bytes_eq, if◌then◌else◌, ℕ, List, [], ◌∷◌}
 use Rattle.ill_runs.specs.Libraries.{Libraries, first_libraries, Happens}
 
--- Two libraries have two desks at each group, one of each.
+-- Gives for each group the two libraries there: one desk of each.
 abbrev pub ShelfLibraries : Type 0
 ShelfLibraries = List ℕ → Libraries
 

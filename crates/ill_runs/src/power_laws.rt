@@ -26,12 +26,13 @@ ghost use Rattle.ill_runs.specs.BadPower.{ForgetsSent, IsBadCut, IsBadStart};
 use crate::laws;
 use ill_saved::{Desk, Store};
 
-/// A loss of power at a desk is a restart of the model's desk. In a save, and after one with any answer, a save that failed
-/// goes before the restart. The save had landed its record if the power left the new one.
+/// A loss of power at a desk is a restart of the model's desk. In a save, and after one with any answer, a save that
+/// failed goes before the restart. The save had landed its record if the power left the new one. After a save that is
+/// done, this save goes before the restart.
 ///
-/// `desk` is the desk before the save, and `after` its store after it. The calls of a desk give each premise: `create`,
-/// `start`, `save` and `restart` that what has landed is left alone, and `save` what it leaves. In the first save of a new
-/// desk a loss leaves no record, or that of the model's first desk.
+/// `desk` is the desk before the save, and `after` its store after it. The calls of a desk give each premise. `create`,
+/// `start`, `save` and `restart` say that a loss leaves only what has landed, and `save` what it leaves. In the first
+/// save of a new desk a loss leaves no record, or that of the model's first desk.
 pub fn a_loss_of_power_is_a_failed_save_and_a_restart<S: Store>(desk: &Desk<S>, after: &S)
     ensures between { (who : Role) (sent : List Sending) (p : DeskParty) (left : Option (List ℕ)) →
         IsDesk (view_of S.state desk.now) p →
@@ -82,8 +83,8 @@ pub fn a_desk_may_lose_its_power_as_in_the_model<S: Store>(desk: &Desk<S>, after
         (sides : SidesOf) × IsAmong sides p.leaves × StartsAs left (started_from p.desk sides).desk }
 {}
 
-/// A loss of power adds nothing to the model. After any events and losses of power at two desks, some events alone lead
-/// the first desks there.
+/// A loss of power adds nothing to the model. After any events and losses of power at the first two desks, some events
+/// alone lead to both desks too.
 pub fn each_run_through_losses_of_power_is_a_run()
     ensures { (events : List PowerEvent) → AllMayHappen first_powered_desks events →
         (alone : List DeskEvent) × (desks_run first_desks alone ≡ desks_of (power_run first_powered_desks events)) }
@@ -139,7 +140,7 @@ pub fn no_bad_loss_of_power_passes()
 }
 
 /// A loss of power may leave each record that it might have left before a save that failed, and the new one. After a save
-/// that is done it may leave this one, and after a restart the landed one.
+/// that is done it may leave the saved record, and after a restart the landed one.
 #[tactic(auto, unfolding(crate::specs::Power::IsAmong))]
 pub fn each_record_may_be_left()
     ensures old { (who : Role) (landed : Bool) (sent : List Sending) (p : PoweredDesk) (sides : SidesOf) →

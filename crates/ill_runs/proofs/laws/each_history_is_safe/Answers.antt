@@ -1,4 +1,5 @@
--- Proves the contract of `each_history_is_safe` (`src/laws.rt`). The events of a history lead to desks that stand.
+-- Proves the contract of `each_history_is_safe` (`src/laws.rt`). The events of a history keep the invariant of both
+-- desks.
 use Rattle.ill_world.specs.Desks.{first_desks, desks_run}
 use Rattle.ill_world.proofs.Desks.{desks_stand_on}
 use Rattle.ill_runs.specs.Libraries.{first_libraries, libraries_after}

@@ -12,13 +12,13 @@ returns-clause-loaded g c p is lasts =
     let state = g.S.Store.state desk.store in
     loaded_left state.is_honest state.landed (g.S.Store.leaves desk.store) desk.live p is lasts
 
--- In a save the new record may be left besides those before.
+-- In a save the new record may be left, and each record that might have been left before.
 pub returns-clause-in_save : goal.returns-clause-in_save
 returns-clause-in_save g c who landed p is again =
     let desk = c.args.desk.now in
     left_in_save (view_of g.S.Store.state desk) (g.S.Store.leaves desk.store) p is again who landed
 
--- After a save the records that may be left are as it answers.
+-- After a save its answer says which records may be left.
 pub returns-clause-after_save : goal.returns-clause-after_save
 returns-clause-after_save g c who landed p answer is again saves lasts either =
     let desk = c.args.desk.now in
@@ -29,7 +29,7 @@ returns-clause-after_save g c who landed p answer is again saves lasts either =
     (g.S.Store.leaves c.args.after.now) (saved_lands (many_sides.encoding desk.live) state after answer saves honest) lasts
     either
 
--- A desk starts from each of them.
+-- A desk starts from each record that may be left.
 pub returns-clause-lost : goal.returns-clause-lost
 returns-clause-lost g c p left is is_left =
     let desk = c.args.desk.now in

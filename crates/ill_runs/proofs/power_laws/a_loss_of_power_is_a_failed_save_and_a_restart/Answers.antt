@@ -21,7 +21,7 @@ returns-clause-in_save g c who sent p left is lasts again either =
     let state = g.S.Store.state desk.store in
     fault_starts state.is_honest state.landed (g.S.Store.leaves desk.store) desk.live who sent p left is lasts again either
 
--- After a save with any answer one of these is left, too.
+-- After a save with any answer the landed record is left, or the new one.
 pub returns-clause-after_save : goal.returns-clause-after_save
 returns-clause-after_save g c who sent p left is lasts again either is_left =
     let desk = c.args.desk.now in

@@ -39,11 +39,11 @@ use Rattle.ill_nights.specs.Nights.{AreBytes, AreDone, IsBytesOf, IsDone, messag
 
 -- ---- the message of a mail
 
--- Bytes begin with just one message, or with none.
+-- This law is assumed: bytes begin with the one message that `apdu_at` finds, or with none.
 abbrev pub PrefixOrFault : Type 0
 PrefixOrFault = (bytes : List ℕ) → IsBytes bytes → BeginsWithOne bytes (apdu_at bytes)
 
--- Each message is read again, whatever bytes follow.
+-- This law is assumed: the encoding of a message is read as this message, whatever bytes follow.
 abbrev pub ReadsAgain : Type 0
 ReadsAgain = (apdu : Apdu) (rest : List ℕ) → IsApdu apdu → apdu_at (encoding apdu ++ rest) ≡ Ok (apdu, rest)
 
@@ -67,8 +67,8 @@ mail_encodes prefix bytes a are is =
 
 -- ---- one reading
 
--- The encodings of `asking`, and then `rest`, are the encodings of `apdus`. If no message begins `rest`, both lists are
--- equal.
+-- Premise: the encodings of `asking`, and then `rest`, are the encodings of `apdus`. If no message begins `rest`, both
+-- lists are equal.
 one_reading : ReadsAgain → (apdus asking : List Apdu) (rest : List ℕ) (new : FeedState) → AllByRecursion IsApdu apdus
     → AllByRecursion IsApdu asking → flat_map encoding apdus ≡ flat_map encoding asking ++ rest → Leaves rest new
     → asking ≡ apdus
@@ -109,7 +109,7 @@ module _ (live : DeskContents) where
   abbrev of_over : Apdu → Bool
   of_over a = is_held_over (side_with a.txn (sides_held live).sides)
 
-  -- Returns the messages of a mail that ask.
+  -- Returns the messages of a mail that ask. If the desk has not done with the mail, none does.
   abbrev asks_of : Mail → Verdict → List Apdu
   asks_of mail (Done outcome) = filter of_over (message_of mail)
   asks_of mail verdict = []
@@ -118,12 +118,12 @@ module _ (live : DeskContents) where
   abbrev asks_all : List Mail → List Verdict → List Apdu
   asks_all mails verdicts = flat_map (λ mail. asks_of mail.0 mail.1) (zip mails verdicts)
 
-  -- Bytes are the encodings of messages in range.
+  -- `bytes` are the encodings of `apdus`, which are in range.
   abbrev Encode : List ℕ → List Apdu → Type 0
   Encode bytes apdus = (bytes ≡ flat_map encoding apdus) × AllByRecursion IsApdu apdus
 
   module _ (prefix : PrefixOrFault) where
-    -- The bytes of a mail that ask are the encoding of its message, if it asks.
+    -- The bytes of a mail that ask are the encoding of its message, if the message asks. If not, they are none.
     found_encodes : (bytes : List ℕ) (found : Result Apdu Unfit) → IsBytes bytes → message_in bytes ≡ found
         → Encode (asking_bytes live bytes found) (filter of_over (message_if found))
     found_encodes bytes (Err unfit) are is = (refl, tt)
@@ -134,13 +134,14 @@ module _ (live : DeskContents) where
         go true = let encodes = mail_encodes prefix bytes a are is in (encodes.1, (encodes.0, tt))
         go false = (refl, tt)
 
-    -- If a mail could be read, its bytes that ask are the encoding of its message, if it asks. If not, it has none.
+    -- If a mail could be read, its bytes that ask are the encoding of its message, if the message asks. If it could not
+    -- be read, no bytes ask.
     read_encodes : (bytes : Option (List ℕ)) → IsBytesOf bytes
         → Encode (asking_bytes_if_read live bytes) (filter of_over (message_if_read bytes))
     read_encodes None are = (refl, tt)
     read_encodes (Some bytes) are = found_encodes bytes (message_in bytes) are refl
 
-    -- The bytes of a mail that ask, by its verdict, are the encoding of its message, if it asks.
+    -- The bytes of a mail that ask, by its verdict, are the encoding of its message, if the message asks.
     mail_encodes_asks : (mail : Mail) (verdict : Verdict) → IsBytesOf (option_map (λ bytes. bytes.items) mail.bytes)
         → Encode (asking_bytes_of_mail live mail verdict) (asks_of mail verdict)
     mail_encodes_asks mail (Done outcome) are = read_encodes (option_map (λ bytes. bytes.items) mail.bytes) are
@@ -164,6 +165,7 @@ module _ (live : DeskContents) where
 
   -- ---- the transactions that ask
 
+  -- Premise: each message of `txn` is of a loan that is held at the desk and is over (`over`).
   module _ (txn : Qualifiers) (over : (a : Apdu) → is_same_txn txn a.txn ≡ true → of_over a ≡ true) where
     -- Returns true if the message is of `txn`.
     abbrev is_its : Apdu → Bool
@@ -174,7 +176,7 @@ module _ (live : DeskContents) where
     its a true is = subst (λ t. is_same_txn t txn ≡ true) (same_is txn a.txn is) (same_self txn)
     its a false is = apart_back txn a.txn is
 
-    -- Each message of `txn` is of a loan that is over (`over`). So one of `apdus` asks just if one is of `txn`.
+    -- `apdus` have no message of `txn` whose loan is over just if they have no message of `txn`.
     done_ask : (apdus : List Apdu) → not (list_any is_its (filter of_over apdus)) ≡ is_none (messages_for txn apdus)
     done_ask [] = refl
     done_ask (a ∷ apdus) = go (done_ask apdus) (is_same_txn txn a.txn) refl
@@ -203,14 +205,15 @@ module _ (live : DeskContents) where
     nothing_in [] none = refl
     nothing_in (a ∷ apdus) none = absurd none.0
 
-    -- If a mail with a message of `txn` is done with, one asks just if the mail has one.
+    -- A mail has no message of `txn` that asks just if it has no message of `txn`. Premise: the desk has done with the
+    -- mail if it has one.
     mail_asks : (mail : Mail) (verdict : Verdict) → Each (λ a. IsDone verdict) (messages_for txn (message_of mail))
         → not (list_any is_its (asks_of mail verdict)) ≡ is_none (messages_for txn (message_of mail))
     mail_asks mail (Done outcome) done = done_ask (message_of mail)
     mail_asks mail (Aside unfit) done = nothing_in (messages_for txn (message_of mail)) done
     mail_asks mail (Left delay) done = nothing_in (messages_for txn (message_of mail)) done
 
-    -- Two lists hold nothing just if both hold nothing.
+    -- The join of two lists is empty just if both lists are empty.
     both_none : (apdus more : List Apdu) → is_none (apdus ++ more) ≡ not (not (is_none apdus) || not (is_none more))
     both_none [] [] = refl
     both_none [] (a ∷ more) = refl
@@ -226,7 +229,8 @@ module _ (live : DeskContents) where
     none_left [] = refl
     none_left (mail ∷ mails) = refl
 
-    -- If the mails with a message of `txn` are done with, one of `txn` asks just if there is one.
+    -- Mails have no message of `txn` that asks just if they have no message of `txn`. Premise: the desk has done with
+    -- each mail that has one.
     mails_ask : (mails : List Mail) (verdicts : List Verdict) → AreDone txn mails verdicts
         → not (list_any is_its (asks_all mails verdicts)) ≡ is_none (messages_for txn (messages_of mails))
     mails_ask [] verdicts done = refl
@@ -271,8 +275,8 @@ held_over live role txn over a same =
     go (Some side) is = shown (Some side) is
     go None is = absurd (true≢false (sym (ap (λ r. is_over (idle_side r txn)) (sym role) ∙ shown None is)))
 
--- If the loan of `txn` is over at a responder's desk, a message of `txn` asks just if there is one among its mails, and if
--- the mails with one are done with.
+-- At a responder's desk a message of `txn` asks just if the mails have one. Premises: the loan of `txn` is over there,
+-- and each mail with a message of `txn` is done with. `asking` are the messages that ask.
 pub asks_right : PrefixOrFault → ReadsAgain → (live : DeskContents) → live.role ≡ who.Responder → (txn : Qualifiers)
     (mails : List Mail) (verdicts : List Verdict) (asking : List Apdu) → AreBytes mails → AreDone txn mails verdicts
     → AreIn (asked_by live (zip mails verdicts)) asking → is_over (held_for txn live).side ≡ true

@@ -93,7 +93,7 @@ none_sent true [] = refl
 none_sent true (a ∷ apdus) = refl
 none_sent false issued = refl
 
--- Two truth values are equal if they are so with `not`.
+-- Two truth values are equal if their negations are equal.
 same_under_not : (a b : Bool) → not a ≡ not b → a ≡ b
 same_under_not true true is = refl
 same_under_not false false is = refl
@@ -138,8 +138,8 @@ responders_role who.Requester w stands is = absurd cc
 
 module _ (projects : EachProjects) (reaches : EachReaches) (stand : EachStands) (changes : EachChanges)
     (prefix : PrefixOrFault) (again : ReadsAgain) (txn : Qualifiers) where
-  -- After a command that took `came`, the file can be read. Its side of `txn` is the landed one of `p`, after its messages
-  -- among these and after some deeds.
+  -- A command at `p` took the messages `came`. The file of the library `after` can then be read. Its side of `txn` is
+  -- the landed side of `p`, after the messages of `txn` among `came` and after `deeds`.
   pub record Took (p : DeskParty) (after : Library) (came : List Apdu) : Type 0 where
     held : SidesOf
     file : records_at after.file ≡ Ok held
@@ -164,8 +164,8 @@ module _ (projects : EachProjects) (reaches : EachReaches) (stand : EachStands) 
             ∙ ap (λ s. after_deeds_of s by_deeds.deeds) is;
       }
 
-  -- What left in a night is all that the side of `txn` sends. If the loan is over for a responder, and the mails of `txn`
-  -- were done with, a message of `txn` asks just if one of it came.
+  -- A night took `mails`. The messages of `txn` among `left` are all that its side sends. A message of `txn` asks just
+  -- if `mails` have one (`right`). Premises: the loan is over for a responder, and each mail of `txn` was done with.
   pub record Sent (role : Role) (p : DeskParty) (after : Library) (mails : List Mail) (verdicts : List Verdict)
       (left asking : List Apdu) : Type 0 where
     took : Took p after (messages_of mails)
@@ -175,7 +175,7 @@ module _ (projects : EachProjects) (reaches : EachReaches) (stand : EachStands) 
 
   module _ (role : Role) (w : DeskParties) (stands : DesksInvariant w) (others : List Apdu)
       (were : Each (WasSent (party w (other role)).sent) others) (before after : Library) (at : IsAt before (party w role)) where
-    -- The landed side of `txn`.
+    -- The landed side of `txn` at the desk of `role`.
     abbrev landed : Side
     landed = side_for txn (party w role).landed
 
@@ -286,7 +286,7 @@ module _ (projects : EachProjects) (reaches : EachReaches) (stand : EachStands) 
 
   -- ---- what a night does to a loan
 
-  -- What left in a night is all of the side of `txn`, or none.
+  -- The messages of `txn` that left in a night are all that its side has issued, or none.
   pub left_of : (role : Role) (w : DeskParties) → DesksInvariant w → (others : List Apdu)
       → Each (WasSent (party w (other role)).sent) others → (before after : Library) → IsAt before (party w role)
       → (night : IsNight others before after) → LeftOf txn after night.asking night.command.leaving
@@ -294,7 +294,7 @@ module _ (projects : EachProjects) (reaches : EachReaches) (stand : EachStands) 
       let sent = night_sent role w stands others were before after at night in
       (sent.took.held, sent.took.file, sent.left_all)
 
-  -- What came was taken by the side of `txn`, in order.
+  -- The side of `txn` took its messages among those that came, in order, and then did some deeds.
   pub took_of : (role : Role) (w : DeskParties) → DesksInvariant w → (others : List Apdu)
       → Each (WasSent (party w (other role)).sent) others → (before after : Library) → IsAt before (party w role)
       → (takes : TakesAll others before after) → TookOf txn before after (messages_of_all takes)

@@ -35,12 +35,12 @@ use Rattle.ill_nights.specs.Messages.{messages_for}
 
 -- ---- the desk and the party after an event
 
--- The desk of `role` is `q` in a world in which `q` has taken its place.
+-- If `q` takes the place of the desk of `role`, the desk of `role` is `q`.
 pub desk_led : (role : Role) (w : DeskParties) (q : DeskParty) → party (with_party w role q) role ≡ q
 desk_led who.Requester w q = refl
 desk_led who.Responder w q = refl
 
--- The other desk stays as it was.
+-- If `q` takes the place of the desk of `role`, the other desk stays as it was.
 pub other_stays : (role : Role) (w : DeskParties) (q : DeskParty)
     → party (with_party w role q) (other role) ≡ party w (other role)
 other_stays who.Requester w q = refl
@@ -52,7 +52,7 @@ delivered : (role : Role) (v : Parties) (n : ℕ) (a : Apdu) → sent_message (p
 delivered who.Requester v n a there = ap (λ found. (receives v.requester found).1.live) there
 delivered who.Responder v n a there = ap (λ found. (receives v.responder found).1.live) there
 
--- A fault of a desk that takes a message changes nothing.
+-- If a desk answers a message with a fault, the contents of the desk are unchanged.
 pub fault_stays : (live : DeskContents) (a : Apdu) (fault : DeskFault) → (desk_takes live a).0 ≡ Err fault
     → (desk_takes live a).1 ≡ live
 fault_stays live a fault = go (is_own live.role a.body) (side_for_call live a.txn (is_ill_request a.body))
@@ -82,6 +82,7 @@ module _ (projects : EachProjects) (reaches : EachReaches) (stand : EachStands) 
   abbrev pub side_at : Role → DeskParties → Side
   side_at role w = (party (project txn w) role).live
 
+  -- Premise: the other desk has sent `a` as message n of the transaction `of` (`was`).
   module _ (w : DeskParties) (stands : DesksInvariant w) (role : Role) (of : Qualifiers) (n : ℕ) (a : Apdu)
       (was : sent_message (sent_for of (party w (other role)).sent) n ≡ Some a) where
     -- The world after the delivery of message n.
@@ -106,7 +107,7 @@ module _ (projects : EachProjects) (reaches : EachReaches) (stand : EachStands) 
     pub outcome_seen : (desks_happen w (desk_events.Deliver role of n)).0 ≡ taking_seen (desk_takes (party w role).live a).0
     outcome_seen = ap (λ found. (desk_receives (party w role) found).0) was
 
-    -- If the message is of `txn`, but its delivery reaches no side, a delivery between the parties changes nothing.
+    -- If the message is of `txn`, but its delivery reaches no side, its delivery between two parties changes nothing.
     missed_stays : is_same_txn txn of ≡ true
         → (desks_happen w (desk_events.Deliver role of n)).0 ≡ NoSuchTransaction
         → (happens (project txn w) (events.Deliver role n)).1 ≡ project txn w
@@ -141,7 +142,7 @@ module _ (projects : EachProjects) (reaches : EachReaches) (stand : EachStands) 
             ∙ ap (λ side. record v { responder = record v.responder { live = side } })
             (ap (λ side. (takes side a).1) idle ∙ idle_takes txn a unheld.1 ∙ sym idle)
 
-    -- The delivery leads the side of `txn` on by the message, if it is of `txn`.
+    -- If the message is of `txn`, the delivery leads the side of `txn` on by it. If not, the side is unchanged.
     pub side_took : side_at role next ≡ takes_all (side_at role w) (messages_for txn (a ∷ []))
     unfolding takes_all
     side_took = go (is_same_txn txn a.txn) refl

@@ -86,7 +86,7 @@ module _ (txn : Qualifiers) where
     side_leaves held true = issues_have held.side (released_of held)
     side_leaves held false = refl
 
-    -- Of the messages of a held side that leave, all are of `txn` if it is, else none.
+    -- If a held side is of `txn`, all of its messages that leave are of `txn`. If not, none is.
     own_or_none : (held : DeskEntry) (same : Bool) → is_same_txn txn (txn_held held) ≡ same → IsOwn held
         → messages_for txn (leaving held) ≡ (if same then leaving held else [])
     unfolding Each
@@ -119,7 +119,7 @@ module _ (txn : Qualifiers) where
         ∙ ap (λ apdus. messages_for txn here ++ apdus) (desk_leaves held apart.1 own.1)
         ∙ go (is_same_txn txn (txn_held first)) refl
       where
-        -- A transaction that is held first is not held again.
+        -- If the first side is of `txn`, no later side is. So no message of `txn` leaves after those of the first side.
         none_again : is_same_txn txn (txn_held first) ≡ true → (found : Option DeskEntry)
             → found_by txn_held txn held ≡ found → leaving_if found ≡ []
         none_again same None is = refl
@@ -138,7 +138,7 @@ module _ (txn : Qualifiers) where
         go false same =
             ap (λ apdus. apdus ++ leaving_if (found_by txn_held txn held)) (own_or_none first false same own.0)
 
-  -- ---- the sides of a desk that stands
+  -- ---- the sides of a desk that satisfies its invariant
 
   -- The messages of a requester's side are of its transaction.
   requester_owns : (side : Side) (sent : List (Option Apdu)) → RequesterSideInvariant txn side sent
@@ -184,7 +184,8 @@ each_owns w role stands =
     live : DeskContents
     live = (party w role).live
 
--- If all messages of the side of `txn` are released, all of them leave, or none.
+-- If all messages of the side of `txn` are released, those that it sends leave: all, or none. `found` is its entry, if
+-- the desk holds one.
 released_leave : (txn : Qualifiers) (asking : List Apdu) (role : Role) (found : Option DeskEntry)
     → ((held : DeskEntry) → found ≡ Some held → txn ≡ txn_held held)
     → (found_or (idle_held role txn) found).released ≡ length (issued_of (found_or (idle_held role txn) found).side)
@@ -202,7 +203,7 @@ released_leave txn asking role (Some held) is all =
     (le_refl (length (issued_of held.side))))
     ∙ ap (λ t. sent_by (is_asked asking t) held.side) (sym (is held refl))
 
--- Of a desk that stands, and that has released all messages of its side of `txn`, all of them leave in an outbox, or none.
+-- If a desk has released all messages of its side of `txn`, those that the side sends leave: all, or none.
 pub outbox_leaves : (w : DeskParties) (role : Role) → DesksInvariant w → (txn : Qualifiers) (asking : List Apdu)
     → (held_for txn (party w role).live).released ≡ length (issued_of (held_for txn (party w role).live).side)
     → messages_for txn (map apdu_of (leaving_desk asking (party w role).live.held))

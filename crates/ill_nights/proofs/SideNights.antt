@@ -54,7 +54,7 @@ takes_messages side (a ∷ apdus) = takes_messages (takes side a).1 apdus
 abbrev event_of : Deed × Date → Event
 event_of deed = events.Deed deed.0 deed.1
 
--- Deeds are events of the responder.
+-- The events of deeds are events of people at the responder's library.
 deeds_are_by : (deeds : List (Deed × Date)) → list_all is_by_responder (map event_of deeds) ≡ true
 deeds_are_by [] = refl
 deeds_are_by (deed ∷ deeds) = deeds_are_by deeds

@@ -78,8 +78,8 @@ requester_refuses live new txn deed today is done =
 
 module _ (projects : EachProjects) (reaches : EachReaches) (stand : EachStands) (changes : EachChanges) (txn : Qualifiers)
     (role : Role) where
-  -- Events at the desk of `role` lead from `w` to a world in which it is `desk`. The other desk is as before. The side of
-  -- `txn` is `side`. It has landed, and all its messages are released.
+  -- Events at the desk of `role` lead from `w` to the world `now`, in which this desk is `desk`. The other desk is as
+  -- before. The side of `txn` at `desk` is `side`. It has landed, and all its messages are released.
   pub record Reached (w : DeskParties) (desk : HeldAndLanded DeskContents) (side : Side) : Type 0 where
     pub now : DeskParties
     pub stands : DesksInvariant now
@@ -196,7 +196,8 @@ module _ (projects : EachProjects) (reaches : EachReaches) (stand : EachStands) 
 
 module _ (projects : EachProjects) (reaches : EachReaches) (stand : EachStands) (changes : EachChanges) (txn : Qualifiers) where
   -- Deeds lead from the world `w` to the world `now`. The desk of `role` then has the sides of `end`, and the other desk
-  -- is as before. If none was done, no side of `txn` has changed.
+  -- is as before. `deeds` lead the side of `txn` on. If `end` lists no deed that was done, `old` lists none, and the
+  -- parties of `txn` are unchanged.
   record Did (role : Role) (w : DeskParties) (old end : Doing DeskContents) : Type 0 where
     now : DeskParties
     stands : DesksInvariant now
@@ -220,7 +221,7 @@ module _ (projects : EachProjects) (reaches : EachReaches) (stand : EachStands) 
     quiet = λ none. (refl, none);
   }
 
-  -- If deeds lead from `old` to `between`, and further ones to `end`, both together lead from `old` to `end`.
+  -- If deeds lead from `old` to `between`, and further deeds to `end`, all deeds together lead from `old` to `end`.
   then_did : (role : Role) (w : DeskParties) (old between end : Doing DeskContents) (first : Did role w old between)
       → Did role first.now between end → Did role w old end
   then_did role w old between end first second = record {
@@ -234,8 +235,7 @@ module _ (projects : EachProjects) (reaches : EachReaches) (stand : EachStands) 
     quiet = λ none. (let later = second.quiet none in let sooner = first.quiet later.1 in (later.0 ∙ sooner.0, sooner.1));
   }
 
-  -- If the event of a deed is seen in `txn`, it leads the responder's side on by this deed. If it is not (`own` is
-  -- false), it leads on by none.
+  -- If a deed is of `txn` (`own`), its event leads the responder's side on by this deed. If not, the side is unchanged.
   seen_deed : (v new : Parties) (deed : Deed) (today : Date) (own : Bool) (outcome : DeskOutcome)
       → IsSeenAs own (happens v (events.Deed deed today)) v outcome new
       → (deeds : List (Deed × Date)) × (new.responder.live ≡ after_deeds_of v.responder.live deeds)
@@ -252,8 +252,8 @@ module _ (projects : EachProjects) (reaches : EachReaches) (stand : EachStands) 
   some_done [] due none = search rules
   some_done (first ∷ done) due none = search rules
 
-  -- If the desk does a deed on the loan `of`, `end` is reached from `old`. The side of `txn` is led on by it, or by
-  -- none. A requester's desk does no deed.
+  -- If the desk does a deed on the loan `of`, the deed leads from `old` to `end`. It leads the side of `txn` on by the
+  -- deed, or by no deed. A requester's desk does no deed.
   done_did : (role : Role) (w : DeskParties) → DesksInvariant w → (old end : Doing DeskContents)
       → (party w role).live ≡ old.live → (of : Qualifiers) (deed : Deed) (today : Date)
       → desk_acts old.live of (actions.Deed deed today) ≡ Ok end.live → (has_any end.done ≡ false → ⊥) → Did role w old end

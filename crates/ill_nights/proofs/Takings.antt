@@ -57,7 +57,7 @@ last_empty : (bytes more : List ℕ) → has_any (bytes ++ more) ≡ false → h
 last_empty [] more none = none
 last_empty (byte ∷ bytes) more none = search rules
 
--- A message has bytes.
+-- Bytes that hold just one message are not empty.
 has_bytes : (bytes : List ℕ) (a : Apdu) → message_in bytes ≡ Ok a → has_any bytes ≡ true
 unfolding apdu_at outer_at header_at
 has_bytes [] a found = absurd cc
@@ -76,8 +76,8 @@ nothing_taken (Conflict state) old new kept bytes some may none = (may, first_em
 
 module _ (projects : EachProjects) (reaches : EachReaches) (stand : EachStands) (changes : EachChanges) (txn : Qualifiers) where
   -- Mails lead from the world `w` to the world `now`. The desk of `role` then has the sides `live`, and the other desk
-  -- is as before. The side of `txn` has taken `apdus`. The bytes kept are `before`, and then `kept`. If nothing was
-  -- kept, no side of `txn` has changed.
+  -- is as before. The side of `txn` has taken `apdus`. The bytes kept were `before` ahead of the mails, and are `kept`
+  -- after them. If `kept` is empty, `before` was empty, and the parties of `txn` are unchanged.
   pub record Led (role : Role) (w : DeskParties) (live : DeskContents) (apdus : List Apdu) (before kept : List ℕ) : Type 0 where
     pub now : DeskParties
     pub stands : DesksInvariant now
@@ -91,7 +91,7 @@ module _ (projects : EachProjects) (reaches : EachReaches) (stand : EachStands) 
     abbrev side : DeskParties → Side
     side w = side_at projects reaches stand txn role w
 
-    -- A mail that no desk takes changes nothing: the world stays `w`.
+    -- A mail that no desk takes changes nothing: the world stays `w`, and `kept` the bytes kept.
     stays_led : (w : DeskParties) → DesksInvariant w → (live : DeskContents) → (party w role).live ≡ live → (kept : List ℕ)
         → Led role w live [] kept kept
     unfolding takes_all
@@ -104,7 +104,7 @@ module _ (projects : EachProjects) (reaches : EachReaches) (stand : EachStands) 
       quiet = λ none. (refl, none);
     }
 
-    -- If mails lead on by `apdus`, and further ones then by `more`, all lead on by `apdus ++ more`.
+    -- If mails lead on by `apdus`, and further mails then by `more`, all mails together lead on by both.
     then_led : (w : DeskParties) (first_live live : DeskContents) (apdus more : List Apdu) (before between kept : List ℕ)
         → (first : Led role w first_live apdus before between) → Led role first.now live more between kept
         → Led role w live (apdus ++ more) before kept
@@ -194,7 +194,7 @@ module _ (projects : EachProjects) (reaches : EachReaches) (stand : EachStands) 
             (subst (λ outcome. DeskMayChange outcome (project txn w) (project txn next)) seen (changes txn w event stands))
             (λ fault failed. fault_stays old.live a fault failed)
 
-        -- A mail leads on by its message, if it holds just one.
+        -- A mail that holds just one message of `txn` leads the side of `txn` on by it.
         found_led : (name bytes : List ℕ) (found : Result Apdu Unfit) → message_in bytes ≡ found
             → Each (WasSent (party w (other role)).sent) (message_if found)
             → Led role w (after_message many_sides name bytes found old).live (messages_for txn (message_if found)) old.kept
@@ -203,7 +203,7 @@ module _ (projects : EachProjects) (reaches : EachReaches) (stand : EachStands) 
         found_led name bytes (Ok a) is_found were = sent_led name bytes a is_found were.0
         found_led name bytes (Err unfit) is_found were = stays_led w stands old.live is old.kept
 
-        -- A mail leads on by its message, if it could be read and holds just one.
+        -- A mail that could be read leads on by its message in the same way. A mail that could not be read does not.
         read_led : (unread : Verdict) (name : List ℕ) (bytes : Option (List ℕ))
             → Each (WasSent (party w (other role)).sent) (message_if_read bytes)
             → Led role w (after_bytes many_sides unread name bytes old).live (messages_for txn (message_if_read bytes)) old.kept
@@ -211,7 +211,8 @@ module _ (projects : EachProjects) (reaches : EachReaches) (stand : EachStands) 
         read_led unread name None were = stays_led w stands old.live is old.kept
         read_led unread name (Some bytes) were = found_led name bytes (message_in bytes) refl were
 
-    -- If the other desk has sent each message of `mails`, they lead on by all these messages, in order.
+    -- The messages of `txn` in `mails` lead its side on, in their order. Premise: the other desk has sent each message
+    -- of `mails`.
     pub mails_led : (w : DeskParties) → DesksInvariant w → (old : Sorting DeskContents) → (party w role).live ≡ old.live
         → (mails : List Mail) → Bring (WasSent (party w (other role)).sent) mails
         → Led role w (fold (after_mail many_sides) old mails).live (messages_for txn (messages_of mails)) old.kept

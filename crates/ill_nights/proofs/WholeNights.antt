@@ -39,7 +39,7 @@ module _ (others : List Apdu) (before : Library) (held : SidesOf) (read : record
   abbrev result : Result Bool ToolFault
   result = night_ending state.desk.live.role no_mails
 
-  -- All of the messages leave.
+  -- Of the messages that leave, the first ones up to their number are all.
   all_leave : leaving ≡ take (length leaving) leaving
   all_leave = sym (take_all (length leaving) leaving (le_refl (length leaving)))
 

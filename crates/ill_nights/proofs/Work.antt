@@ -4,7 +4,7 @@ use Rattle.ill_record.specs.declared.role.Role.TheVariants as who
 use Rattle.ill_runs.specs.Libraries.{Commands, Happens, IsHistory, Libraries, Library, libraries_after}
 use Rattle.ill_nights.specs.Nights.{AreAtWork}
 
--- If `people` is a history from `now`, and a command then leads to `next`, `people` with `next` is one.
+-- If `people` is a history from `now`, and a command leads on to `next`, both together are a history.
 prolonged : (now : Libraries) (people : List Libraries) (next : Libraries) → IsHistory now people
     → Happens (libraries_after now people) next → IsHistory now (people ++ next ∷ [])
 unfolding IsHistory libraries_after

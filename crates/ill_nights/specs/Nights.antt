@@ -24,7 +24,7 @@ use Rattle.ill_nights.specs.Messages.{InStepOrAtRest, after_deeds_of, after_mess
 
 -- ---- what leaves in a night
 
--- A night was whole. Its mails were taken, its deeds were done, it was copied, and `left` are all messages of its
+-- A night was whole. Its mails were taken, its deeds were done, its desk was copied, and `left` are all messages of its
 -- outbox. `asking` are the messages that ask: their mails are done with, and their loans are over at the desk.
 abbrev pub IsWhole : (asked : AskedNight) → {old new : CommandState DeskContents} →
     {result : Result Bool ToolFault} → ExchangesAt asked old result new → (asking left : List Apdu) → Type 0
@@ -35,8 +35,8 @@ IsWhole asked (met, Ok night, taken, (rested, Ok done, deeds, inr (sent, inl fai
 IsWhole asked (met, Ok night, taken, (rested, Ok done, deeds, inr (sent, inr (said, are, told), ends), same)) asking left =
     (said ≡ asking) × (left ≡ map (λ (issue : Issue). issue.apdu) (leaving_desk asking rested.desk.live.held))
 
--- A whole night leads from the library `before` to `after`, by the command `exchange`. `others` have left the other
--- library.
+-- A whole night leads from the library `before` to `after`, by the command `exchange`. `others` are the messages that
+-- have left the other library. `asking` are the messages that ask in this night.
 pub record IsNight (others : List Apdu) (before after : Library) : Type 0 where
   pub command : IsCommand (Exchanges others) before after
   pub asking : List Apdu
@@ -48,7 +48,7 @@ pub record IsNight (others : List Apdu) (before after : Library) : Type 0 where
 abbrev pub messages_of : List Mail → List Apdu
 messages_of mails = flat_map message_of mails
 
--- Returns the messages that came in a night.
+-- Returns the messages of the mails that a night took, in their order.
 abbrev pub messages_came : {others : List Apdu} → {before after : Library} → IsNight others before after → List Apdu
 messages_came night = messages_of (mails_of night.command.runs.0 night.command.runs.2)
 
@@ -93,8 +93,8 @@ HasDone txn night =
 
 -- ---- what a night does to a loan
 
--- The file of the library can be read. The messages of the transaction among `left` are all that its side has issued,
--- in order, or none (`sent_by`). If the loan is open, they are all.
+-- The file of the library `after` can be read. The messages of the transaction among `left` are all that its side has
+-- issued, in order, or none (`sent_by`). If the loan is open, they are all. `asking` are the messages that ask.
 abbrev pub LeftOf : Qualifiers → Library → List Apdu → List Apdu → Type 0
 LeftOf txn after asking left =
     (held : SidesOf) × (records_at after.file ≡ Ok held)
@@ -110,23 +110,24 @@ TookOf txn before after came =
 -- ---- a good night
 
 -- All mail of a folder was taken and saved, by the command `inbox`. It leads from the library `before` to `after`.
+-- `others` are the messages that have left the other library.
 pub record IsInbox (others : List Apdu) (before after : Library) : Type 0 where
   pub command : IsCommand (TakesMail others) before after
   pub night : Night
   pub taken : command.runs.1 ≡ Ok night
 
--- A library took all its mail, by `inbox` or in a whole night.
+-- A library took all its mail, by `inbox` or in a whole night. `others` have left the other library.
 pub data TakesAll (others : List Apdu) (before after : Library) : Type 0 where
   by_inbox : IsInbox others before after → TakesAll others before after
   by_night : IsNight others before after → TakesAll others before after
 
--- Returns the messages that a library took.
+-- Returns the messages of the mails that a library took, in their order.
 abbrev pub messages_of_all : {others : List Apdu} → {before after : Library} → TakesAll others before after → List Apdu
 messages_of_all (by_inbox inbox) = messages_of (mails_taken inbox.command.runs.2)
 messages_of_all (by_night night) = messages_came night
 
 -- People work at the responder's library: any commands lead from the libraries `asked` to `met`. The requester's library
--- is then as it was.
+-- is unchanged then. `people` are the libraries after each command.
 pub record AreAtWork (asked met : Libraries) : Type 0 where
   pub people : List Libraries
   pub work : IsHistory asked people
@@ -156,6 +157,6 @@ AreInStepIn txn libraries =
     × (records_at libraries.responder.file ≡ Ok responder)
     × InStepOrAtRest (side_for txn requester) (side_for txn responder)
 
--- In the file of the library, the responder's side of the transaction can answer a Conditional-Reply no.
+-- If the file of the library can be read, the side of the transaction there can answer a Conditional-Reply no.
 abbrev pub CanAnswerIn : Qualifiers → Library → Type 0
 CanAnswerIn txn library = (held : SidesOf) → records_at library.file ≡ Ok held → CanAnswer (side_for txn held)

@@ -85,8 +85,9 @@ pub fn a_good_night_is_enough()
     ill_der::laws::read_again();
 }
 
-/// After any commands on two shelves, a good night of a transaction brings its sides in step or to rest, in the files of its
-/// group.
+/// After any commands on two shelves a good night brings both sides of a transaction in step or to rest. It does so in
+/// the files of `group`. The responder must have ended the request, or have a number left to answer a
+/// Conditional-Reply no.
 pub fn a_good_night_of_a_group_is_enough()
     ensures { (group : List ℕ) (txn : Qualifiers) (visits : List GroupVisit) (after : Libraries) →
         IsShelfHistory first_shelf_libraries visits →

@@ -5,8 +5,8 @@ use Rattle.ill_runs.specs.Libraries.{first_libraries, libraries_after}
 use Rattle.ill_nights.proofs.CommandNights.{good_night}
 use Rattle.ill_nights.proofs.laws.a_good_night_is_enough.Goals as goal
 
--- The history leads to two desks that stand (`run`). From there `good_night` follows each command of the night. The law
--- `a_night_with_people_is_enough` then gives the sides at its end.
+-- The history leads to two desks that satisfy their invariant (`run`). From these desks on `good_night` follows each
+-- command of the night. The law `a_night_with_people_is_enough` then gives the sides after the night.
 pub returns : goal.returns
 returns c =
     λ txn later after history good can.

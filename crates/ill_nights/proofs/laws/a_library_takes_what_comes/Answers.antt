@@ -1,4 +1,4 @@
--- Proves the contract of `a_library_takes_what_comes` (`src/laws.rt`). A history leads to two desks that stand.
+-- Proves the contract of `a_library_takes_what_comes` (`src/laws.rt`).
 use Rattle.ill_record.specs.Side.{other}
 use Rattle.ill_world.specs.World.{party}
 use Rattle.ill_world.specs.Desks.{first_desks, desks_run}
@@ -8,8 +8,8 @@ use Rattle.ill_runs.proofs.HistoryLemmas.{each_is_at}
 use Rattle.ill_nights.proofs.CommandNights.{took_of}
 use Rattle.ill_nights.proofs.laws.a_library_takes_what_comes.Goals as goal
 
--- The history leads to two desks that stand (`w`). By these laws `took_of` shows that a side takes each message that
--- came, in order.
+-- The history leads to two desks that satisfy their invariant (`w`). By the laws that are called, `took_of` shows that
+-- a side takes each message that came, in order.
 pub returns : goal.returns
 returns c =
     λ txn who later after takes history.

@@ -1,4 +1,4 @@
--- Proves the contract of `a_night_sends_all_or_none` (`src/laws.rt`). A history leads to two desks that stand.
+-- Proves the contract of `a_night_sends_all_or_none` (`src/laws.rt`).
 use Rattle.ill_record.specs.Side.{other}
 use Rattle.ill_world.specs.World.{party}
 use Rattle.ill_world.specs.Desks.{first_desks, desks_run}
@@ -8,8 +8,8 @@ use Rattle.ill_runs.proofs.HistoryLemmas.{each_is_at}
 use Rattle.ill_nights.proofs.CommandNights.{left_of}
 use Rattle.ill_nights.proofs.laws.a_night_sends_all_or_none.Goals as goal
 
--- The history leads to two desks that stand (`w`). By these laws `left_of` shows that all of a loan's messages leave,
--- or none.
+-- The history leads to two desks that satisfy their invariant (`w`). By the laws that are called, `left_of` shows that
+-- all of a loan's messages leave, or none.
 pub returns : goal.returns
 returns c =
     λ txn who later after night history.

@@ -46,13 +46,13 @@ absent label (member key value others) none =
 
 -- ---- fields
 
--- A label is found with the value that the text of its field is read as.
+-- The label of `field` is found among `members`, with the value that the text of `field` is read as.
 record IsFound (members : Members) (field : Field) : Type 0 where
   value : Json
   found : get_member field.0 members ≡ Some value
   read : document field.1 ≡ Some value
 
--- A label that is found among the later members is found among all.
+-- Labels that are found among the later members are found among all members, with the same values.
 still_found : (key : List ℕ) (first : Json) (others : Members) (fields : List Field) → Each (IsFound others) fields
     → Each (IsFound (member key first others)) fields
 unfolding Each
@@ -66,7 +66,7 @@ still_found key first others (field ∷ fields) each = (
   still_found key first others fields each.1,
 )
 
--- The members of fields are a first member and others, if there is a field.
+-- `members` are the member of `field`, and then the members of `fields`.
 record Splits (field : Field) (fields : List Field) (members : Members) : Type 0 where
   value : Json
   others : Members
@@ -74,7 +74,7 @@ record Splits (field : Field) (fields : List Field) (members : Members) : Type 0
   are : members_of fields ≡ Some others
   whole : members ≡ member field.0 value others
 
--- The members of a field and further fields are those of the field and of the others.
+-- If `field` and then `fields` are read as `members`, the first member is that of `field`. The others are of `fields`.
 splits : (field : Field) (fields : List Field) (members : Members) → members_of (field ∷ fields) ≡ Some members
     → Splits field fields members
 splits field fields members are = go (document field.1) (members_of fields) refl refl are
@@ -87,7 +87,7 @@ splits field fields members are = go (document field.1) (members_of fields) refl
     go (Some value) (Some others) is also e =
         record { value = value; others = others; read = is; are = also; whole = sym (ap (value_or members) e) }
 
--- Each label is found among members with different keys.
+-- The label of each field is found among the members of the fields, if their keys differ.
 each_found : (fields : List Field) (members : Members) → members_of fields ≡ Some members → AreDistinct (keys members)
     → Each (IsFound members) fields
 unfolding Each
@@ -108,7 +108,7 @@ each_found (field ∷ fields) all are distinct =
           (each_found fields split.others split.are (tail_differs field.0 (keys split.others) differ)),
     )
 
--- What is found is what the text of the field is read as.
+-- If each label is found, `get` returns for it the value that the text of its field is read as.
 each_is : (members : Members) (fields : List Field) → Each (IsFound members) fields
     → Each (λ field. get field.0 (object members) ≡ document field.1) fields
 unfolding Each

@@ -97,19 +97,19 @@ named_by_line text = go (is_utf8 text) refl
 
 -- ---- the messages of a record
 
--- The word for a message is printable, and its number is one.
+-- The word for a message is printable, and its number is from 1 to 255.
 record IsNamed (message : Named) : Type 0 where
   what : are_printable message.what ≡ true
   number : IsNumber message.number
 
--- Messages that were issued have words and numbers.
+-- Each message that was issued has a printable word and a number from 1 to 255.
 issued_are : (apdus : List Apdu) → Each IsApdu apdus → Each IsNamed (map issued_named apdus)
 unfolding Each
 issued_are [] each = tt
 issued_are (a ∷ apdus) each =
     (record { what = verb_printable (body_verb a.body); number = each.0.number }, issued_are apdus each.1)
 
--- Messages that were taken have words and numbers.
+-- Each message that was taken has a printable word and a number from 1 to 255.
 taken_are : (apdus : List Apdu) → Each IsApdu apdus → Each IsNamed (map taken_named apdus)
 unfolding Each
 taken_are [] each = tt
@@ -138,7 +138,7 @@ requests_are (sides.Responder y) is = go y.request is.parts.request
     go None is = tt
     go (Some a) is = (is, tt)
 
--- The messages of a record have words and numbers.
+-- Each message of a record has a printable word and a number from 1 to 255.
 messages_named : (side : Side) (kept : List Apdu) → IsInRange side → Each IsApdu kept → Each IsNamed (messages_of side kept)
 messages_named side kept is each =
     each_append IsNamed (map issued_named (issued_of side)) _ (issued_are (issued_of side) is.issued)
@@ -148,7 +148,7 @@ messages_named side kept is each =
 
 -- ---- the history
 
--- The day and the name of a part are UTF-8, its word is printable, and its number is one.
+-- The day and the name of a part are UTF-8. Its word is printable, and its number is from 1 to 255.
 pub record IsTold (part : Told) : Type 0 where
   pub iso : IsUtf8 part.iso
   pub by : IsUtf8 part.by
@@ -167,7 +167,7 @@ found_has P test (x ∷ xs) each = go (test x) (found_has P test xs each.1)
     go false later = later
 
 module _ (messages : List Named) (each : Each IsNamed messages) where
-  -- The part that a line tells has values.
+  -- If what a line says tells a part, `IsTold` holds of this part.
   part_told : (later : List (List ℕ)) (says : Said) → HasName says → IfSome (part_said messages later says) IsTold
   part_told later says utf8 =
       go (is_named says.message later) (find (λ message. bytes_eq message.key says.message) messages)
@@ -180,7 +180,7 @@ module _ (messages : List Named) (each : Each IsNamed messages) where
       go false None is = tt
       go false (Some message) is = record { iso = day_utf8 says.day; by = utf8; what = is.what; number = is.number }
 
-  -- The part that a line tells, if it tells one, has values.
+  -- If a line tells a part, `IsTold` holds of this part.
   line_told : (later : List (List ℕ)) (line : List ℕ) → IfSome (part_at messages later line) IsTold
   line_told later line = go (said_by line) (named_by_line line)
     where
@@ -189,7 +189,7 @@ module _ (messages : List Named) (each : Each IsNamed messages) where
       go None utf8 = tt
       go (Some says) utf8 = part_told later says utf8
 
-  -- All parts of a history have values.
+  -- `IsTold` holds of each part of a history.
   parts_told : (lines : List (List ℕ)) → Each IsTold (history_of messages lines)
   unfolding Each history_of
   parts_told [] = tt
@@ -201,14 +201,14 @@ module _ (messages : List Named) (each : Each IsNamed messages) where
       with_one None is others = others
       with_one (Some part) is others = (is, others)
 
--- All parts of the history of a loan have values.
+-- `IsTold` holds of each part of the history of a loan.
 pub history_told : (side : Side) (kept : List Apdu) (diary : List (List ℕ)) → IsInRange side → Each IsApdu kept
     → Each IsTold (history_of (messages_of side kept) diary)
 history_told side kept diary is each = parts_told (messages_of side kept) (messages_named side kept is each) diary
 
 -- ---- the objects
 
--- The name of a person that may be missing is UTF-8.
+-- The name of a person is UTF-8, if it is not a dash.
 person_utf8 : (by : List ℕ) → IsUtf8 by → IfSome (person by) IsUtf8
 person_utf8 by utf8 = go (bytes_eq by (codes "-"))
   where

@@ -13,7 +13,7 @@ use Rattle.json.proofs.Printed.Trees.{value-json_tokens}
 
 -- ---- the lexemes of a value
 
--- Returns the lexeme of a comma, if something is before it.
+-- Returns the lexeme of a comma if `later` is true, and else none.
 abbrev pub comma_if : Bool → List Lexeme
 comma_if later = cond later (comma ∷ []) []
 
@@ -27,24 +27,24 @@ abbrev mutual
   value_lexemes (array js) = token Token.begin_array ∷ items_lexemes false js
   value_lexemes (object ms) = token Token.begin_object ∷ members_lexemes false ms
 
-  -- Returns the lexemes of items, with the bracket that closes the array.
+  -- Returns the lexemes of items, with the bracket that closes the array. The Bool says that an item is before them.
   pub items_lexemes : Bool → Items → List Lexeme
   items_lexemes later no_items = token Token.end_array ∷ []
   items_lexemes later (item j js) = comma_if later ++ (value_lexemes j ++ items_lexemes true js)
 
-  -- Returns the lexemes of members, with the brace that closes the object.
+  -- Returns the lexemes of members, with the brace that closes the object. The Bool says that a member is before them.
   pub members_lexemes : Bool → Members → List Lexeme
   members_lexemes later no_members = token Token.end_object ∷ []
   members_lexemes later (member k j ms) =
       comma_if later ++ (token (Token.string k) ∷ colon ∷ (value_lexemes j ++ members_lexemes true ms))
 
--- ---- their tokens
+-- ---- the tokens of these lexemes
 
--- The place before a value: after a comma, or fresh.
+-- The place before a value: after a comma if `later` is true, and else fresh.
 abbrev before : Bool → Place
 before later = cond later after_comma fresh
 
--- The place before the first or a later item or member.
+-- The place before an item or a member: after a value if `later` is true, and else fresh.
 abbrev between_two : Bool → Place
 between_two later = cond later after_value fresh
 

@@ -73,7 +73,7 @@ object_is most fields each apart few =
       seen = reads.shown.seen;
     }
 
--- A line of such an object is an object line.
+-- If fields are read as members, and their labels differ, their line is an object line.
 pub line_is : (fields : List Field) → Each (FieldReads 2) fields → are_apart (labels fields) ≡ true
     → IsObjectLine (object_line fields) fields
 line_is fields each apart = record {
@@ -126,7 +126,7 @@ placed_each P before x (y ∷ xs) is each = go (before y x) (placed_each P befor
     go true later = (each.0, later)
     go false later = (is, each)
 
--- If `P` is true of each item, it is true of each item in order.
+-- If `P` is true of each item of a list, it is true of each item of the ordered list.
 ordered_each : {X : Type 0} (P : X → Type 0) (before : X → X → Bool) (xs : List X) → Each P xs → Each P (ordered before xs)
 unfolding Each
 ordered_each P before [] each = tt
@@ -259,7 +259,7 @@ pub parts_are : (side : Side) (kept : List Apdu) (diary : List (List ℕ)) → I
 unfolding Each
 parts_are side kept diary is each = go (history_of (messages_of side kept) diary) (history_told side kept diary is.1 each)
   where
-    -- Each part is an object, since it has values.
+    -- Each part is an object, since `IsTold` holds of it.
     go : (parts : List Told) → Each IsTold parts → Each (λ part. IsObject (part_object part) (part_fields part)) parts
     go [] told = tt
     go (part ∷ parts) told =
@@ -277,7 +277,7 @@ apdus_are apdus each = lines_each line_fields apdus (each_line apdus each)
     each_line [] each = tt
     each_line (a ∷ apdus) each = (line_is (line_fields a) (line_reads 2 a each.0) (line_apart a), each_line apdus each.1)
 
--- ---- values
+-- ---- values, entries and the messages of a loan
 
 -- A quoted text is read as a string with this text.
 pub text_is : (text : List ℕ) → IsUtf8 text → document (quoted text) ≡ Some (string text)

@@ -57,7 +57,7 @@ news_each P sides news (a ∷ came) told each =
     go true = each_append P news (a ∷ []) told (each.0, tt)
     go false = told
 
--- If `P` holds of each item, it holds of each of those after some.
+-- If `P` holds of each item, it holds of each item after the first `n`.
 dropped_each : (P : Apdu → Type 0) (n : ℕ) (apdus : List Apdu) → Each P apdus → Each P (drop n apdus)
 unfolding Each
 dropped_each P zero apdus each = each

@@ -347,7 +347,7 @@ pub loan_apart : (words : Option (List ℕ)) (diary : List (List ℕ)) (side : S
 loan_apart words diary (sides.Requester x) released came = refl
 loan_apart words diary (sides.Responder y) released came = refl
 
--- ---- lists
+-- ---- the lines of `list` and `news`
 
 -- The labels of the line of a loan differ.
 pub row_apart : (file : Option (List ℕ)) (annex : AnnexRead) (today : Option Date) (work : Work) (side : Side)
@@ -411,7 +411,7 @@ pub news_apart : (file : Option (List ℕ)) (sides : List Side) (a : Apdu)
 news_apart None sides a = refl
 news_apart (Some path) sides a = refl
 
--- The item of a loan that may be missing has a value.
+-- The text of the item of a loan has a value, also if there is no loan.
 item_of_value : (most : ℕ) (side : Option Side) → IfSome side IsSide → HasValue most (optional quoted (item_of side))
 item_of_value most None is = optional_value most quoted None tt
 item_of_value most (Some side) is = item_value most side is.1

@@ -83,7 +83,7 @@ abbrev Below : (ℕ → Type 0) → ℕ → Type 0
 Below P zero = Unit {0}
 Below P (suc n) = P n × Below P n
 
--- What is true of each number below `n` is true of such a number.
+-- If `P` is true of each number below `n`, and `x` is below `n`, `P` is true of `x`.
 below_each : (P : ℕ → Type 0) (n : ℕ) → Below P n → (x : ℕ) → x < n → P x
 below_each P zero h x lt = absurd (omega arith)
 below_each P (suc n) h x lt = go (below_each P n h.1 x) (cases_eq x n)
@@ -403,15 +403,15 @@ module _ (escaping : Escaping) (in_json : IsInJson escaping) where
       two : is_within 0xC0 0xDF first ≡ false
       two = below_range 0xC0 0xDF first low
 
-      -- It begins no character of three bytes.
+      -- The byte begins no character of three bytes.
       three : is_within 0xE0 0xEF first ≡ false
       three = below_range 0xE0 0xEF first (omega arith)
 
-      -- It begins no character of four bytes.
+      -- The byte begins no character of four bytes.
       four : is_within 0xF0 0xF7 first ≡ false
       four = below_range 0xF0 0xF7 first (omega arith)
 
-      -- So no acting character begins with it.
+      -- So no acting character begins with the byte.
       none : (after : List ℕ) → NoneActs first after
       none [] = tt
       none (second ∷ []) = pair_needs first second two
@@ -461,7 +461,7 @@ module _ (escaping : Escaping) (in_json : IsInJson escaping) where
     written = record { stands = stands; shown = record { utf8 = subst IsUtf8 encoded (IsUtf8-encode c s); seen = seen } };
   }
 
-  -- Two bytes that are no acting character begin none.
+  -- If a first byte of two and the next one are no acting character, no acting character begins with them.
   two_none : (a b : ℕ) (rest : List ℕ) → a ≤ 0xDF → is_acting_pair a b ≡ false → NoneActs a (b ∷ rest)
   two_none a b [] to none = none
   two_none a b (third ∷ []) to none = (none, triple_needs a b third (below_range 0xE0 0xEF a (omega arith)))
@@ -471,7 +471,7 @@ module _ (escaping : Escaping) (in_json : IsInJson escaping) where
     quad_needs a b third fourth (below_range 0xF0 0xF7 a (omega arith)),
   )
 
-  -- Three bytes that are no acting character begin none.
+  -- If a first byte of three and the next two are no acting character, no acting character begins with them.
   three_none : (a b third : ℕ) (rest : List ℕ) → 0xE0 ≤ a → a ≤ 0xEF → is_acting_triple a b third ≡ false
       → NoneActs a (b ∷ third ∷ rest)
   three_none a b third [] from to none = (pair_needs a b (above_range 0xC0 0xDF a (omega arith)), none)
@@ -535,7 +535,7 @@ module _ (escaping : Escaping) (in_json : IsInJson escaping) where
       pair : is_acting_pair a b ≡ false
       pair = pair_needs a b (above_range 0xC0 0xDF a (omega arith))
 
-      -- It begins no acting character of three bytes.
+      -- A first byte of four begins no acting character of three bytes.
       triple : is_acting_triple a b d ≡ false
       triple = triple_needs a b d (above_range 0xE0 0xEF a (omega arith))
 
@@ -575,11 +575,11 @@ module _ (escaping : Escaping) (in_json : IsInJson escaping) where
       two : 128 ≤ c → c < 2048 → encode c ≡ (192 + c / 64) ∷ (128 + c % 64) ∷ []
       two a b = rw (le-ltb c 128 a, lt-ltb c 2048 b) refl
 
-      -- From 2048 on it has three bytes.
+      -- From 2048 on the encoding has three bytes.
       three : 2048 ≤ c → c < 65536 → encode c ≡ (224 + c / 4096) ∷ (128 + c / 64 % 64) ∷ (128 + c % 64) ∷ []
       three a b = rw (le-ltb c 128 (omega arith), le-ltb c 2048 a, lt-ltb c 65536 b) refl
 
-      -- From 65536 on it has four bytes.
+      -- From 65536 on the encoding has four bytes.
       four : 65536 ≤ c
           → encode c ≡ (240 + c / 262144) ∷ (128 + c / 4096 % 64) ∷ (128 + c / 64 % 64) ∷ (128 + c % 64) ∷ []
       four a = rw (le-ltb c 128 (omega arith), le-ltb c 2048 (omega arith), le-ltb c 65536 a) refl

@@ -93,7 +93,7 @@ null_reads most = record {
   shown = printable_shown _ refl;
 }
 
--- The texts `true` and `false` are read as these.
+-- The texts `true` and `false` are read as the values true and false.
 pub flag_reads : (most : ℕ) (b : Bool) → Reads most (flag b) (boolean b)
 unfolding lex word
 flag_reads most true = record {
@@ -127,11 +127,11 @@ number_reads most n small = record {
 
 -- ---- arrays
 
--- Returns the bytes of a comma, if something is before it.
+-- Returns the bytes of a comma if `later` is true, and else none.
 abbrev comma_text : Bool → List ℕ
 comma_text later = cond later (44 ∷ []) []
 
--- The lexer takes the text of a comma, or of none, for its lexeme.
+-- The lexer takes the text of a comma for the lexeme of a comma, and no text for no lexeme.
 comma_lexed : (later : Bool) (rest : List ℕ) → lex between (comma_text later ++ rest) ≡ comma_if later ++ lex between rest
 unfolding lex
 comma_lexed true rest = refl
@@ -178,14 +178,14 @@ module _ {A : Type 0} (text : A → List ℕ) (most : ℕ) where
       ∙ ap (λ l. value_lexemes each.0.value ++ l) (items_lexed true values each.1 rest))
       ∙ regroup (comma_if later) (value_lexemes each.0.value) others (lex between rest)
 
-  -- Items nest no deeper than their texts' values.
+  -- Items nest no deeper than `most`, since no value of their texts does.
   items_shallow : (values : List A) (each : Each (λ value. HasValue most (text value)) values)
       → items_depth (items_read values each) ≤ most
   unfolding Each
   items_shallow [] each = omega arith
   items_shallow (v ∷ values) each = omega (arith, each.0.reads.shallow, items_shallow values each.1)
 
-  -- Items have no key twice if no value has one twice.
+  -- No item has a key twice, since no value of the texts has.
   items_unique : (values : List A) (each : Each (λ value. HasValue most (text value)) values)
       → ItemsHaveUniqueKeys (items_read values each)
   unfolding Each
@@ -262,13 +262,13 @@ module _ (most : ℕ) where
       ∙ ap (λ l. first ++ l) (members_lexed true fields each.1 rest))
       ∙ regroup (comma_if later) first others (lex between rest)
 
-  -- Members nest no deeper than their texts' values.
+  -- Members nest no deeper than `most`, since no value of their texts does.
   members_shallow : (fields : List Field) (each : Each (FieldReads most) fields) → members_depth (members_read fields each) ≤ most
   unfolding Each
   members_shallow [] each = omega arith
   members_shallow (field ∷ fields) each = omega (arith, each.0.value.reads.shallow, members_shallow fields each.1)
 
-  -- Members have no key twice if no value has one twice.
+  -- No value of the members has a key twice, since no value of their texts has.
   members_unique : (fields : List Field) (each : Each (FieldReads most) fields) → MembersHaveUniqueKeys (members_read fields each)
   unfolding Each
   members_unique [] each = tt

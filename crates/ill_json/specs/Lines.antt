@@ -32,11 +32,11 @@ use Rattle.ill_show.specs.Objects.{leaves_fields}
 
 -- ---- `list`
 
--- If news are told, each message is in range.
+-- If news are told in a list, each of their messages is in range.
 abbrev pub AreToldNews : AnnexRead → Type 0
 AreToldNews annex = IfSome annex.news (Each IsApdu)
 
--- Returns the fields in the line of a listed loan with this work.
+-- Returns the fields in the line of a listed loan with this work. `file` is the path of its desk, if it is told.
 abbrev pub fields_of_row : Option (List ℕ) → AnnexRead → Option Date → Work → Side → List Field
 fields_of_row file annex today work side = full_row_fields annex today work side ++ file_fields file
 
@@ -61,7 +61,7 @@ fields_of_list file wanted seeking sides = fields_in_order file wanted seeking (
 
 -- ---- `news`
 
--- Returns the fields in the line of a message that is told.
+-- Returns the fields in the line of a message that is told in the news of a desk with `sides`.
 abbrev pub fields_of_news : Option (List ℕ) → List Side → Apdu → List Field
 fields_of_news file sides a = news_fields sides a ++ file_fields file
 
@@ -81,18 +81,19 @@ abbrev pub fields_of_loan : (words : Option (List ℕ)) → (diary : List (List 
 fields_of_loan words diary entry came =
     kept_fields entry came ++ note_fields words ++ history_fields (history_of (messages_of entry.side came) diary)
 
--- Returns the fields of a message within the line of `loan`.
+-- Returns the fields of a message within the line of `loan`. If the number of released messages is given, the field
+-- `leaves` is among them.
 abbrev pub fields_of_message : Option ℕ → Apdu → List Field
 fields_of_message released a = apdu_fields a ++ leaves_fields released a
 
 -- ---- `exchange`
 
--- A side is shown with counts of messages that are bytes.
+-- A side is shown with at most 255 issued and 255 released messages.
 pub record IsStanding (now : Shown) : Type 0 where
   pub released : now.released ≤ 255
   pub issued : now.issued ≤ 255
 
--- If a mail has no message because of a fault, the place of that has 32 bits.
+-- If a mail has no message for a fault in its bytes, the offset of this fault has 32 bits.
 abbrev pub HasNearPlace : Unfit → Type 0
 HasNearPlace (NoMessage fault) = IfSome (place_of fault) (λ at. at < 2 ^ 32)
 HasNearPlace unfit = Unit {0}

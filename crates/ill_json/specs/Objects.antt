@@ -40,7 +40,7 @@ pub record IsObject (text : List ℕ) (fields : List Field) : Type 0 where
   pub utf8 : IsUtf8 text
   pub seen : list_all is_no_control text ≡ true
 
--- `line` is such an object, and a line feed. It has no other line feed.
+-- `line` is an object with the members of `fields`, and then a line feed. It has no other line feed.
 pub record IsObjectLine (line : List ℕ) (fields : List Field) : Type 0 where
   pub text : List ℕ
   pub ended : line ≡ text ++ codes "\n"

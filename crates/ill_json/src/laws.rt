@@ -62,7 +62,7 @@ pub fn news_is_json()
         (map (fields_of_news (file_told is_headed path) held.sides) (last_of last news)) }
 {}
 
-/// What is told of a desk are messages, if what came to it are messages. So it has lines of JSON.
+/// The news told of a desk are messages in range, if the messages that came to it are. So the news have lines of JSON.
 pub fn news_are_messages()
     ensures { (since : Option Date) (notes lines : List (List ℕ)) (held : SidesOf) (came : List Apdu) →
         AreSides held → Each IsApdu came → Each IsApdu (told_since since notes lines held.sides came) }
@@ -84,7 +84,7 @@ pub fn loan_is_json()
 {}
 
 /// A part of the history within the line of `loan` is an object with its day, the name of a person, its message and the
-/// number of that.
+/// number of this message.
 pub fn histories_are_json()
     ensures { (side : Side) (kept : List Apdu) (diary : List (List ℕ)) → IsSide side → Each IsApdu kept →
         Each (λ part. IsObject (part_object part) (part_fields part)) (history_of (messages_of side kept) diary) }
@@ -161,8 +161,9 @@ pub fn sides_are_entries()
     ensures { (side : Side) → IsSide side → IsEntry (whole side) }
 {}
 
-/// A line is no object of JSON if it has no end, if it is no JSON, or if it is another value. A text is not such lines
-/// if one of them is bad.
+/// No bad line is an object line. A bad line lacks its line feed, or has one within. It is no UTF-8, no JSON or another
+/// value. Or it has a key twice, or the text of a field is no JSON. A text with other bytes or a bad line is not the
+/// lines of these fields.
 pub fn no_bad_line_is_json()
     ensures line { (line : List ℕ) (fields : List Field) → IsBadLine line fields → IsObjectLine line fields → ⊥ }
     ensures lines { (text : List ℕ) (lines : List (List Field)) →

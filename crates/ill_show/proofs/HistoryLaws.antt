@@ -1,4 +1,4 @@
--- Proves that a loan is shown as without a diary before its history.
+-- Proves that the lines of a loan before its history do not depend on a diary.
 use Rattle.std.proofs.Common.{◌≡◌, ℕ, List, [], ◌++◌, Option, sym, ap, append-nil}
 use Rattle.ill_values.specs.declared.apdu.Apdu.{Apdu}
 use Rattle.ill_saved.specs.Holdings.{DeskEntry}

@@ -7,7 +7,7 @@ use Rattle.ill_text.specs.declared.fault.ToolFault.{ToolFault}
 use Rattle.ill_text.specs.Output.{WritesPrefix}
 use Rattle.ill_show.specs.Loan.{IsTextOf, WritesLoan}
 
--- If `written` is the text of a loan, writing it is writing the loan.
+-- If `written` is the text of the messages of `txn` in `bytes`, and it was written with `result`, `WritesLoan` holds.
 pub writes_loan : (text : List Apdu → List ℕ) (txn : Qualifiers) (bytes written : List ℕ) (before after : Option (List ℕ))
     (result : Result (Unit {0}) ToolFault)
     → IsTextOf text txn bytes written → WritesPrefix before after written result → WritesLoan text txn bytes before after result

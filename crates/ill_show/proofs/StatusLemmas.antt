@@ -27,9 +27,9 @@ pub joined_by_spaces : {X : Type 0} (text : X → List ℕ) (words : List X) →
 joined_by_spaces text [] some = search some
 joined_by_spaces text (word ∷ words) some = ap (λ (more : List ℕ). text word ++ more) (all_spaced text words)
 
--- ---- one side after another
+-- ---- the text of the side at a place
 
--- The text of the sides from `place` on is that of the side at `place`, and of the later ones.
+-- The text of the sides from `place` on is the text of the side at `place`, and then of the later sides.
 pub status_split_at : (form : Form) (sides : List DeskEntry) (place : ℕ)
     → status_of_desk form (drop place sides)
     ≡ text_of_one form (slice_get sides place) ++ status_of_desk form (drop (suc place) sides)
@@ -38,7 +38,8 @@ status_split_at form [] (suc place) = refl
 status_split_at form (held ∷ sides) zero = refl
 status_split_at form (held ∷ sides) (suc place) = status_split_at form sides place
 
--- If the entry `found` at `place` has `side`, and `released` of its messages are released, its text is theirs.
+-- Let the entry `found` at `place` have `side`, of which `released` messages are released. Then both give the text of
+-- `found`.
 status_text_of_entry : (form : Form) (live : DeskContents) (place : ℕ) (side : Side) (released : ℕ) (found : Option DeskEntry)
     → are_apart (sides_held live).sides ≡ true → slice_get live.held place ≡ found
     → option_map (λ (held : DeskEntry). held.side) found ≡ Some side
@@ -51,13 +52,14 @@ status_text_of_entry form live place side released (Some held) apart at e counte
     ∙ ap (λ s. status_text form s held.released) (sym is)
 status_text_of_entry form live place side released None apart at e counted = absurd (true≢false (sym (ap is_some e)))
 
--- If `found` has no side, its text is empty.
+-- If `found` is no entry, its text is empty.
 no_side_no_text : (form : Form) (found : Option DeskEntry) → option_map (λ (held : DeskEntry). held.side) found ≡ None
     → [] ≡ text_of_one form found
 no_side_no_text form (Some held) e = absurd (true≢false (ap is_some e))
 no_side_no_text form None e = refl
 
--- The text of the entry at `place` is that of its side and the number of its released messages.
+-- Let `side` be at `place`, and `released` of its messages be released. Then both give the text of the entry at
+-- `place`.
 pub lines_there : (form : Form) (live : DeskContents) (place : ℕ) (side : Side) (released : ℕ)
     → are_apart (sides_held live).sides ≡ true → slice_get (sides_held live).sides place ≡ Some side
     → released ≡ (held_for (txn_of side) live).released

@@ -14,7 +14,7 @@ pub memory_wanted : (form : Form) (bytes : List ℕ) (read : Result SidesOf Reco
 memory_wanted form bytes (Ok all) written = Appends-nil written
 memory_wanted form bytes (Err fault) written = inl (refl, Appends-nil written)
 
--- If `bytes` are no record by `fault`, and this was told (`TellsFault`), `Verifies` holds of them.
+-- If `bytes` are no record by `fault`, and this fault was told (`TellsFault`), `Verifies` holds of `bytes`.
 pub fault_told : (form : Form) (bytes : List ℕ) (read : Result SidesOf RecordFault) (fault : RecordFault)
     (before after : Option (List ℕ)) (result : Result (Unit {0}) ToolFault)
     → read ≡ Err fault → TellsFault form fault before after result → Verifies form bytes read before after result

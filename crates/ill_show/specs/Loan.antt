@@ -25,36 +25,38 @@ use Rattle.ill_beside.specs.Notes.{note_fields, note_of}
 use Rattle.ill_show.specs.Objects.{kept_fields}
 use Rattle.ill_show.specs.Picture.{picture}
 
--- Returns the form in which a loan is shown. A picture takes the place of lines alone.
+-- Returns the form in which a loan is shown, by the form of the command. If `is_picture` is true, a picture takes the
+-- place of lines, but not of an object.
 abbrev pub loan_form : Form → (is_picture : Bool) → LoanForm
 loan_form forms.Json is_picture = Object
 loan_form forms.Lines true = Picture
 loan_form forms.Lines false = Lines
 
--- Returns the lines of a loan with this note, and of the messages that came in it. Its history by the lines of a diary comes
--- last.
+-- Returns the lines of an entry of a desk, of its note `words`, and of the messages `kept` that came. The history of
+-- the loan, by the lines of `diary`, comes last.
 abbrev pub lines_with_history : Option (List ℕ) → (diary : List (List ℕ)) → DeskEntry → List Apdu → List ℕ
 lines_with_history words diary held kept =
     kept_lines words held kept ++ history_lines (history_of (messages_of held.side kept) diary)
 
--- Returns the fields of a loan with this note, and of the messages that came in it. Its history by the lines of a diary comes
--- last.
+-- Returns the fields of an entry of a desk, of its note `words`, and of the messages `kept` that came. The history of
+-- the loan, by the lines of `diary`, comes last.
 abbrev pub fields_with_history : Option (List ℕ) → (diary : List (List ℕ)) → DeskEntry → List Apdu → List Field
 fields_with_history words diary held kept =
     kept_fields held kept ++ note_fields words ++ history_fields (history_of (messages_of held.side kept) diary)
 
--- Returns the text of a loan with this note and this diary, and of the messages that came in it. A picture has neither.
+-- Returns the text of a loan with this note and this diary, and of the messages that came in it. A picture has
+-- neither the note nor the history.
 abbrev pub loan_text : LoanForm → Option (List ℕ) → (diary : List (List ℕ)) → DeskEntry → List Apdu → List ℕ
 loan_text Lines words diary = lines_with_history words diary
 loan_text Object words diary = λ held kept. object_line (fields_with_history words diary held kept)
 loan_text Picture words diary = picture
 
--- `written` is the text of the messages of `txn` in `bytes`.
+-- `written` is the `text` of the messages of `txn` that `bytes` have.
 abbrev pub IsTextOf : (List Apdu → List ℕ) → Qualifiers → List ℕ → List ℕ → Type 0
 IsTextOf text txn bytes written = (came : List Apdu) × AreIn bytes came × (written ≡ text (kept_of txn came))
 
--- The output grew from `before` to `after` by the text of the messages of `txn` in `bytes`. If memory ran
--- out, it did not grow.
+-- The output grew from `before` to `after` by the `text` of the messages of `txn` in `bytes`. If memory ran out, it
+-- did not grow. If a write failed, it grew by a prefix of the text.
 abbrev pub WritesLoan : (List Apdu → List ℕ) → Qualifiers → List ℕ → Option (List ℕ) → Option (List ℕ) →
     Result (Unit {0}) ToolFault → Type 0
 WritesLoan text txn bytes before after (Err OutOfMemory) = Appends before after []
@@ -76,8 +78,9 @@ beside_of beside = record {
   came = beside.came.now;
 }
 
--- The command: it writes the text of the side, of its note and its history, and of the messages of its transaction that
--- came. If the side is not held, the fault is `NoSuchTransaction`, and nothing is written.
+-- The command: it writes the text of an entry of the desk in the form `form`. The text has the note, the history, and
+-- the messages of the transaction that came. If the side is not held, there is no entry. Then the fault is
+-- `NoSuchTransaction`, and nothing is written.
 abbrev pub RunsLoan : LoanForm → FilesBeside → Option DeskEntry → Option (List ℕ) → Option (List ℕ) →
     Result (Unit {0}) ToolFault → Type 0
 RunsLoan form beside None before after result = (result ≡ Err (Desk NoSuchTransaction)) × Appends before after []

@@ -51,21 +51,24 @@ taken_lines (Responder y) =
     ++ (optional_number_line (codes "last-cancel") y.last_cancel
     ++ optional_number_line (codes "last-renew") y.last_renew)
 
--- Returns the lines of a side, without its messages.
+-- Returns the lines of a side with `released` released messages, but not those of its messages.
 abbrev pub side_lines : Side → ℕ → List ℕ
 side_lines side released =
     status_lines side released
     ++ (turn_lines side ++ (request_lines (request_of side) ++ taken_lines side))
 
--- Returns the lines of a message: an empty line, the lines of its fields, and `label` with yes or no.
+-- Returns the lines of a message: an empty line, the lines of its fields, and the line of `label`. That line has yes
+-- if `is_so` is true, else no.
 abbrev pub marked_lines : List ℕ → Bool → Apdu → List ℕ
 marked_lines label is_so apdu = codes "\n" ++ (shown_lines apdu ++ line label (reply_word is_so))
 
--- Returns the lines of an issued message. The last says yes if the message may be sent.
+-- Returns the lines of an issued message of a side with `released` released messages. The last line says yes if the
+-- message may be sent.
 abbrev pub message_lines : ℕ → Apdu → List ℕ
 message_lines released apdu = marked_lines (codes "leaves") (nat_le apdu.number released) apdu
 
--- Returns the lines of a side and of its note, and of all messages that it has issued, in their order.
+-- Returns the lines of a side with `released` released messages, of its note, and of its issued messages, in their
+-- order.
 unfoldable pub loan_lines : Option (List ℕ) → Side → ℕ → List ℕ
 loan_lines note side released =
     side_lines side released ++ (note_lines note ++ flat_map (message_lines released) (issued_of side))

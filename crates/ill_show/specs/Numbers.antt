@@ -20,7 +20,7 @@ few_numbers = 10
 abbrev pub has_few_numbers : Side → Bool
 has_few_numbers side = not (is_over side) && nat_le (numbers_left side) few_numbers
 
--- Returns the words of the line after the count of numbers, of one number or of several.
+-- Returns the words of the line after the count of numbers. The Bool is true if one number is left.
 abbrev pub numbers_words : Bool → List ℕ
 numbers_words true = codes " number left\n"
 numbers_words false = codes " numbers left\n"
@@ -35,6 +35,6 @@ numbers_line path side =
     codes "ill: " ++ (escaped path ++ (codes ": " ++ (loan_named (txn_of side) ++ (codes ": " ++ (decimal (numbers_left side)
     ++ numbers_words (nat_eq (numbers_left side) 1))))))
 
--- Returns the lines that tell the numbers left of all loans that have few.
+-- Returns the lines that tell the numbers left of all loans that have few, at the desk in `path`.
 abbrev pub numbers_lines : List ℕ → List Side → List ℕ
 numbers_lines path sides = flat_map (numbers_line path) (filter has_few_numbers sides)

@@ -41,7 +41,7 @@ drawn text = flat_map drawn_byte text
 
 -- ---- arrows
 
--- Returns the number and the type of a message, and the lines of its further fields.
+-- Returns the label of the arrow of a message: its number, its type, and the lines of its further fields.
 abbrev pub label_of : Apdu → List ℕ
 label_of apdu = decimal apdu.number ++ codes " " ++ type_name apdu.body ++ codes "\n" ++ shown_fields apdu.body
 
@@ -49,7 +49,7 @@ label_of apdu = decimal apdu.number ++ codes " " ++ type_name apdu.body ++ codes
 abbrev pub without_last : List ℕ → List ℕ
 without_last text = take (length text - 1) text
 
--- Returns the text with the sender and the receiver of a message.
+-- Returns the beginning of the arrow of a message: its sender and its receiver.
 abbrev pub arrow_of : Body → List ℕ
 arrow_of body = if is_requesters body then codes "  requester->>responder: " else codes "  responder->>requester: "
 
@@ -91,7 +91,8 @@ pub record Reached : Type 0 where
   pub place : ℕ
   pub last : ℕ
 
--- Returns the place after one more message of the other side.
+-- Returns the place `far` after one more message `their` of the other side. It is a new `last` if `their` is linked
+-- to `own`.
 abbrev pub reach : Link → Apdu → Reached → Apdu → Reached
 reach link own far their = record {
   place = far.place + 1;

@@ -34,7 +34,7 @@ spaced_or_dash (first ∷ more) = spaced first more
 abbrev pub counts_text : Side → ℕ → List ℕ
 counts_text side released = decimal released ++ codes "/" ++ decimal (length (issued_of side))
 
--- Returns the seven lines of a side.
+-- Returns the seven lines of a side with `released` released messages.
 unfoldable pub status_lines : Side → ℕ → List ℕ
 status_lines side released =
     line (codes "role") (role_name (role_of side)) ++ id_lines (txn_of side).group (txn_of side).transaction

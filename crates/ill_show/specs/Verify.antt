@@ -27,7 +27,7 @@ use Rattle.ill_record.specs.Roles.{role_name}
 use Rattle.ill_text.specs.Fault.{desk_fault}
 use Rattle.ill_text.specs.Output.{WritesText}
 
--- Returns the version of the format of a record.
+-- Returns the version of the format of the record `bytes`.
 abbrev pub version_of : List ℕ → ℕ
 version_of bytes = if is_version_1 bytes then 1 else 2
 
@@ -68,7 +68,7 @@ fault_fields fault =
 
 -- ---- the command
 
--- Returns the text of a record.
+-- Returns the function that gives the text of a record: its lines, or its object on a line.
 abbrev pub record_text : Form → List ℕ → SidesOf → List ℕ
 record_text Lines = verify_lines
 record_text Json = λ bytes all. object_line (record_fields bytes all)
@@ -86,8 +86,8 @@ TellsFault Json fault before after result =
     (written : Result (Unit {0}) ToolFault) × WritesText before after (object_line (fault_fields fault)) written
     × (result ≡ after_fault fault written)
 
--- If `bytes` are a record, its text was written. If they are none, the result is their fault. Or memory ran out before
--- anything was written.
+-- If `bytes` are a record, its text was written. If they are none, the result is their fault, told as `TellsFault`
+-- says. Or memory ran out before anything was written.
 abbrev pub Verifies : Form → List ℕ → Result SidesOf RecordFault → Option (List ℕ) → Option (List ℕ) →
     Result (Unit {0}) ToolFault → Type 0
 Verifies form bytes (Ok all) before after result = WritesText before after (record_text form bytes all) result

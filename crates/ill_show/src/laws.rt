@@ -7,7 +7,7 @@ ghost use Rattle.ill_beside.specs.Diary.{history_lines, history_of, messages_of}
 ghost use Rattle.ill_show.specs.Loan.{loan_text};
 ghost use Rattle.ill_show.specs.declared.loan.LoanForm.TheVariants.{Lines};
 
-/// A diary decides nothing else: before its history, a loan is shown as without a diary.
+/// A diary decides the history alone: the lines of a loan before its history are the lines without a diary.
 #[tactic(auto, using(crate::proofs::HistoryLaws::nothing_else))]
 pub fn a_diary_decides_nothing_else()
     ensures { (words : Option (List ℕ)) (diary : List (List ℕ)) (held : DeskEntry) (kept : List Apdu) →

@@ -38,7 +38,8 @@ pub enum LoanForm {
 }
 
 impl LoanForm {
-    /// Returns the form in which a loan is shown. A picture takes the place of lines alone.
+    /// Returns the form in which a loan is shown, by the form of the command. If `is_picture` is true, a picture
+    /// takes the place of lines, but not of an object.
     pub fn of(form: Form, is_picture: bool) -> LoanForm
         ensures { result ≡ loan_form form is_picture }
     {
@@ -50,7 +51,7 @@ impl LoanForm {
     }
 }
 
-/// A loan that is shown, and its form.
+/// The transaction of a loan to show, and the form in which it is shown.
 #[derive(Clone, Copy)]
 pub struct LoanView<'a> {
     /// The transaction.
@@ -70,13 +71,14 @@ pub struct Beside<'a> {
     pub came: &'a [u8],
 }
 
-/// Writes all that is known of the loan in `view` at `desk`, which must be held (else `NoSuchTransaction`). Its note is
-/// among it. Then it writes each message of the transaction that came, once, and the history of the loan by the diary. A
-/// picture has the messages alone.
+/// Writes all that is known of the loan in `view` at `desk`, with its note, to `writer`. Then it writes each message
+/// of the transaction that came, once, and the history of the loan by the diary. A picture has the messages alone. If
+/// the desk does not hold the loan, the fault is `NoSuchTransaction`.
 ///
 /// The lines are the seven of `status`, the library that acts next, and the actions that this side may do now. After
-/// them come the request, the numbers of messages that were taken, and each message that the side has issued. `beside`
-/// has the bytes that `take --keep` has kept. A part that is no message, and all bytes after it, are ignored.
+/// them come the request, the numbers of messages that were taken, the note, and each message that the side has
+/// issued. `beside` has the bytes that `take --keep` has kept. A part of these bytes that is no message, and all
+/// bytes after it, are ignored.
 pub fn run_desk_loan<S: Store, W: Write>(
     alloc: Global,
     desk: &Desk<S>,
@@ -98,7 +100,8 @@ pub fn run_desk_loan<S: Store, W: Write>(
     }
 }
 
-/// Returns the text of all that is known of `side`, by the files beside its desk.
+/// Returns the text in `form` of all that is known of `side`, by the files `beside` its desk. `released` of its
+/// messages are released.
 fn text_of_loan(
     alloc: Global,
     form: LoanForm,
@@ -134,7 +137,7 @@ struct ShownLoan<'a> {
     diary: &'a [Vec<u8>],
 }
 
-/// Returns the text of the side in `shown`, and of the messages `kept` that came to it.
+/// Returns the text in `form` of the side in `shown`, and of the messages `kept` that came to it.
 fn loan_text(
     alloc: Global,
     form: LoanForm,

@@ -13,7 +13,8 @@ use ill_values::{Apdu, Body, Number, OutOfMemory};
 use ill_words::names::names;
 use ill_words::possible::{possible_on, request};
 
-/// Appends the lines of `side` and of its note, and of the messages `kept` that came to it.
+/// Appends the lines of `side` with `released` released messages, of its note, and of the messages `kept` that came
+/// to it.
 pub(crate) fn push_kept_lines(
     lines: &mut Vec<u8>,
     note: Option<&str>,
@@ -28,7 +29,7 @@ pub(crate) fn push_kept_lines(
     push_kept(lines, kept)
 }
 
-/// Appends the lines of the messages `kept`.
+/// Appends the lines of the messages `kept` that came.
 fn push_kept(lines: &mut Vec<u8>, kept: &[Apdu]) -> Result<(), OutOfMemory>
     ensures { OnOk result (lines.new.items ≡ lines.old.items
         ++ flat_map (marked_lines (codes "came") true) kept.now) }
@@ -39,7 +40,8 @@ fn push_kept(lines: &mut Vec<u8>, kept: &[Apdu]) -> Result<(), OutOfMemory>
     Ok(())
 }
 
-/// Appends the lines of `side` and of its note, and of the messages that it has issued.
+/// Appends the lines of `side` with `released` released messages, of its note, and of the messages that it has
+/// issued.
 #[tactic(auto, unfolding(crate::specs::LoanLines::loan_lines))]
 pub(crate) fn push_loan(
     lines: &mut Vec<u8>,
@@ -54,7 +56,7 @@ pub(crate) fn push_loan(
     push_messages(lines, side.all_issued(), released)
 }
 
-/// Appends the lines of `side`, without its messages.
+/// Appends the lines of `side` with `released` released messages, but not those of its messages.
 fn push_side(lines: &mut Vec<u8>, side: &Side, released: u8) -> Result<(), OutOfMemory>
     ensures { OnOk result (lines.new.items ≡ lines.old.items ++ side_lines side.now released) }
 {
@@ -64,7 +66,7 @@ fn push_side(lines: &mut Vec<u8>, side: &Side, released: u8) -> Result<(), OutOf
     push_taken(lines, side)
 }
 
-/// Appends the lines of the library that acts next, and of the actions that the side may do on some day.
+/// Appends the lines of the library that acts next, and of the actions that `side` may do on some day.
 fn push_turn(lines: &mut Vec<u8>, side: &Side) -> Result<(), OutOfMemory>
     ensures { OnOk result (lines.new.items ≡ lines.old.items ++ turn_lines side.now) }
 {
@@ -127,7 +129,8 @@ fn push_optional_number(
     }
 }
 
-/// Appends the lines of `apdus`, in their order.
+/// Appends the lines of the issued messages `apdus`, in their order. Those with a number up to `released` may be
+/// sent.
 fn push_messages(lines: &mut Vec<u8>, apdus: &[Apdu], released: u8) -> Result<(), OutOfMemory>
     ensures { OnOk result (lines.new.items ≡ lines.old.items
         ++ flat_map (message_lines released) apdus.now) }
@@ -138,14 +141,16 @@ fn push_messages(lines: &mut Vec<u8>, apdus: &[Apdu], released: u8) -> Result<()
     Ok(())
 }
 
-/// Appends an empty line, the lines of `apdu`, and a line that says `yes` if it may be sent.
+/// Appends an empty line, the lines of `apdu`, and a line that says `yes` if it may be sent. It may if its number is
+/// at most `released`.
 fn push_message(lines: &mut Vec<u8>, apdu: &Apdu, released: u8) -> Result<(), OutOfMemory>
     ensures { OnOk result (lines.new.items ≡ lines.old.items ++ message_lines released apdu.now) }
 {
     push_marked(lines, "leaves", apdu.number.get() <= released, apdu)
 }
 
-/// Appends an empty line, the lines of `apdu`, and the line of `label` with `yes` or `no`.
+/// Appends an empty line, the lines of `apdu`, and the line of `label`. That line has `yes` if `is_so` is true, else
+/// `no`.
 pub(crate) fn push_marked(
     lines: &mut Vec<u8>,
     label: &str,

@@ -15,7 +15,7 @@ use std::alloc::Global;
 /// The greatest count of numbers left that is told.
 const FEW: u8 = 10;
 
-/// Returns the count of numbers that `side` has left.
+/// Returns the count of numbers that `side` has left for its messages.
 pub fn numbers_left(side: &Side) -> u8
     ensures { result ≡ numbers_left side.now }
 {
@@ -39,7 +39,7 @@ pub fn numbers_lines(alloc: Global, path: &str, sides: &Sides) -> Result<Vec<u8>
     Ok(lines)
 }
 
-/// Appends the lines of all loans of `sides` that have few numbers left.
+/// Appends the lines of all loans of `sides` that have few numbers left, at the desk in `path`.
 fn push_lines(lines: &mut Vec<u8>, path: &str, sides: &[&Side]) -> Result<(), OutOfMemory>
     ensures { OnOk result (lines.new.items
         ≡ lines.old.items ++ numbers_lines path.now (map (λ side. side.now) sides.now)) }
@@ -50,7 +50,7 @@ fn push_lines(lines: &mut Vec<u8>, path: &str, sides: &[&Side]) -> Result<(), Ou
     Ok(())
 }
 
-/// Appends the line of the loan of `side`, if it has few numbers left.
+/// Appends the line of the loan of `side` at the desk in `path`, if the loan has few numbers left.
 pub fn push_told(lines: &mut Vec<u8>, path: &str, side: &Side) -> Result<(), OutOfMemory>
     ensures { OnOk result (lines.new.items ≡ lines.old.items ++ numbers_lines path.now (side.now ∷ [])) }
 {
@@ -60,7 +60,7 @@ pub fn push_told(lines: &mut Vec<u8>, path: &str, side: &Side) -> Result<(), Out
     Ok(())
 }
 
-/// Appends the line that tells the numbers left of the loan of `side`.
+/// Appends the line that tells the numbers left of the loan of `side`, at the desk in `path`.
 fn push_line(lines: &mut Vec<u8>, path: &str, side: &Side) -> Result<(), OutOfMemory>
     ensures { OnOk result (lines.new.items ≡ lines.old.items ++ numbers_line path.now side.now) }
 {
@@ -71,7 +71,7 @@ fn push_line(lines: &mut Vec<u8>, path: &str, side: &Side) -> Result<(), OutOfMe
     push_left(lines, numbers_left(side))
 }
 
-/// Appends the text that names a loan.
+/// Appends the text that names a loan: its qualifiers.
 fn push_loan(lines: &mut Vec<u8>, txn: &TxnId) -> Result<(), OutOfMemory>
     ensures { OnOk result (lines.new.items ≡ lines.old.items ++ loan_named txn.now) }
 {
@@ -80,7 +80,7 @@ fn push_loan(lines: &mut Vec<u8>, txn: &TxnId) -> Result<(), OutOfMemory>
     push_escaped(lines, txn.transaction())
 }
 
-/// Appends the end of the line, which tells the count of numbers left.
+/// Appends the end of the line, which tells the count `left` of numbers left.
 fn push_left(lines: &mut Vec<u8>, left: u8) -> Result<(), OutOfMemory>
     ensures { OnOk result (lines.new.items
         ≡ lines.old.items ++ (codes ": " ++ (decimal left ++ numbers_words (nat_eq left 1)))) }
@@ -91,7 +91,7 @@ fn push_left(lines: &mut Vec<u8>, left: u8) -> Result<(), OutOfMemory>
     Ok(())
 }
 
-/// Returns the words of the line after the count of numbers, of one number or of several.
+/// Returns the words of the line after the count of numbers. `is_one` is true if one number is left.
 fn numbers_words(is_one: bool) -> &'static str
     ensures { result.now ≡ numbers_words is_one }
 {

@@ -16,7 +16,7 @@ use ill_values::{Apdu, OutOfMemory};
 use ill_words::names::names;
 use ill_words::possible::{expiry, item_asked, possible_on};
 
-/// Appends the object of `status` for `side`, on a line.
+/// Appends the object of `status` for `side` with `released` released messages, on a line.
 pub(crate) fn push_status_object(
     text: &mut Vec<u8>,
     side: &Side,
@@ -30,7 +30,7 @@ pub(crate) fn push_status_object(
     push_plain(text, "}\n")
 }
 
-/// Appends the fields of `status` for `side`.
+/// Appends the fields of `status` for `side` with `released` released messages.
 fn push_status(text: &mut Vec<u8>, side: &Side, released: u8) -> Result<(), OutOfMemory>
     ensures { OnOk result (text.new.items ≡ text.old.items
         ++ joined member [] (status_fields side.now released)) }
@@ -39,7 +39,7 @@ fn push_status(text: &mut Vec<u8>, side: &Side, released: u8) -> Result<(), OutO
     push_standing(text, side, released, &marks)
 }
 
-/// Appends the fields of `status` for `side`, with the marks `marks`.
+/// Appends the fields of `status` for `side` with `released` released messages and the marks `marks`.
 #[tactic(auto, unfolding(ill_text::specs::Json::joined))]
 fn push_standing<'a>(
     text: &mut Vec<u8>,
@@ -67,7 +67,7 @@ fn push_standing<'a>(
     )
 }
 
-/// Appends the fields of `loan` for `side`, without the messages that came.
+/// Appends the fields of `loan` for `side`, without the messages that came, the note and the history.
 fn push_loan(text: &mut Vec<u8>, side: &Side, released: u8) -> Result<(), OutOfMemory>
     ensures { OnOk result (text.new.items ≡ text.old.items
         ++ joined member [] (loan_fields side.now released)) }
@@ -175,7 +175,7 @@ fn push_messages(
     push_array(text, apdus, &MessageObjects { released })
 }
 
-/// Messages as objects. With a number `released`, each has a field that is true if it may be sent.
+/// The form of messages as objects. With a number `released`, each has a field that is true if it may be sent.
 #[derive(Clone, Copy)]
 struct MessageObjects {
     released: Option<u8>,
@@ -189,7 +189,7 @@ impl ItemForm<Apdu> for MessageObjects {
     }
 }
 
-/// Appends the object of the message `apdu`.
+/// Appends the object of the message `apdu`. With a number `released`, it has a field that is true if it may be sent.
 fn push_message(text: &mut Vec<u8>, apdu: &Apdu, released: Option<u8>) -> Result<(), OutOfMemory>
     ensures { OnOk result (text.new.items ≡ text.old.items ++ message_object released apdu.now) }
 {
@@ -199,7 +199,7 @@ fn push_message(text: &mut Vec<u8>, apdu: &Apdu, released: Option<u8>) -> Result
     push_plain(text, "}")
 }
 
-/// Appends the fields of the message `apdu`.
+/// Appends the fields of the message `apdu` itself, without the field that says if it may be sent.
 fn push_issued(text: &mut Vec<u8>, apdu: &Apdu) -> Result<(), OutOfMemory>
     ensures { OnOk result (text.new.items ≡ text.old.items
         ++ joined member [] (apdu_fields apdu.now)) }

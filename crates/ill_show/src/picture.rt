@@ -17,9 +17,9 @@ const OPENING: &str = "sequenceDiagram\n  participant requester\n  participant r
 /// Returns a sequence chart of the messages of `side`, in the language of Mermaid. The messages are its issued ones, the
 /// request in a responder's record, and `kept`, which came.
 ///
-/// Nobody knows the order of one side's messages and the other's in time. The picture keeps the order of each side. It
-/// draws a message of the other side as late as possible, but before a message that needs it. If it answers a message
-/// by its number, it is drawn directly after that one.
+/// Nobody knows the order of one side's messages and the other's in time. The picture keeps the order of each side.
+/// It draws a message of the other side as late as possible, but before one that needs or answers it. Directly after
+/// a message of this side it draws the other side's messages up to the last answer to that message.
 pub(crate) fn picture_of(
     alloc: Global,
     side: &Side,
@@ -68,8 +68,8 @@ fn draw(alloc: Global, own: &[Apdu], theirs: &[Apdu]) -> Result<Vec<u8>, OutOfMe
     Ok(lines)
 }
 
-/// Appends the messages of `theirs` up to the last that `own` needs or answers. Then it appends `own`, and the messages
-/// up to the last answer to it. It returns the other messages.
+/// Appends the messages of `theirs` up to the last that `own` needs or answers. Then it appends `own`, and the
+/// messages up to the last answer to it. It returns the messages of `theirs` that are left.
 fn push_own<'a>(
     lines: &mut Vec<u8>,
     own: &Apdu,
@@ -89,9 +89,9 @@ fn push_own<'a>(
 /// The relation of a message of the other side to one of this side.
 #[derive(Clone, Copy)]
 enum Link {
-    /// This side's message needs it or answers it.
+    /// This side's message needs the other side's message or answers it.
     Before,
-    /// It answers this side's message.
+    /// The other side's message answers this side's message.
     After,
 }
 
@@ -219,7 +219,8 @@ fn push_byte(lines: &mut Vec<u8>, byte: u8) -> Result<(), OutOfMemory>
     Ok(())
 }
 
-/// Returns true if a chart may have `byte` unescaped.
+/// Returns true if a chart may have `byte` unescaped. It may have letters, digits, spaces, commas, hyphens, full
+/// stops, and bytes beyond ASCII.
 fn is_plain(byte: u8) -> bool
     ensures { result ≡ is_plain byte }
 {

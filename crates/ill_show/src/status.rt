@@ -22,8 +22,8 @@ use ill_values::{Day, OutOfMemory};
 use std::alloc::Global;
 use std::io::Write;
 
-/// Writes the seven lines of a side. They have its role, group, transaction, state and due date. The last two have the
-/// numbers of its released and issued messages, and its marks.
+/// Writes the seven lines of the side of `desk`. They have its role, group, transaction, state and due date. The last
+/// two have the numbers of its released and issued messages, and its marks.
 pub fn run_status<S: Store, W: Write>(
     alloc: Global,
     desk: &Desk1<S>,
@@ -49,7 +49,7 @@ pub fn run_desk_status<S: Store, W: Write>(
     run_desk_status_as(alloc, desk, Form::Lines, writer)
 }
 
-/// Writes the seven lines of each transaction, or an object of JSON for it, by `form`.
+/// Writes the seven lines of each transaction that `desk` holds, or an object of JSON for it, by `form`.
 pub fn run_desk_status_as<S: Store, W: Write>(
     alloc: Global,
     desk: &Desk<S>,
@@ -64,7 +64,7 @@ pub fn run_desk_status_as<S: Store, W: Write>(
     write_whole(writer, &lines)
 }
 
-/// Appends the text of each side that `desk` holds.
+/// Appends the text of each side that `desk` holds, in `form`.
 fn push_desk<S: Store>(lines: &mut Vec<u8>, desk: &Desk<S>, form: Form) -> Result<(), OutOfMemory>
     ensures { OnOk result (lines.new.items ≡ lines.old.items ++ status_of_desk form desk.now.live.held) }
 {
@@ -74,7 +74,7 @@ fn push_desk<S: Store>(lines: &mut Vec<u8>, desk: &Desk<S>, form: Form) -> Resul
     Ok(())
 }
 
-/// Appends the text of the side at `place` of `desk`, if there is one.
+/// Appends the text of the side at `place` of `desk` in `form`, if there is one.
 fn push_status_at<S: Store>(
     lines: &mut Vec<u8>,
     desk: &Desk<S>,
@@ -91,7 +91,7 @@ fn push_status_at<S: Store>(
     }
 }
 
-/// Appends the text of `side`.
+/// Appends the text of `side` with `released` released messages, in `form`.
 fn push_status_as(
     lines: &mut Vec<u8>,
     form: Form,
@@ -106,7 +106,7 @@ fn push_status_as(
     }
 }
 
-/// Appends the lines of `side`.
+/// Appends the seven lines of `side` with `released` released messages.
 #[tactic(auto, unfolding(crate::specs::Status::status_lines))]
 pub(crate) fn push_status(lines: &mut Vec<u8>, side: &Side, released: u8) -> Result<(), OutOfMemory>
     ensures { OnOk result (lines.new.items ≡ lines.old.items ++ status_lines side.now released) }
@@ -128,7 +128,7 @@ fn push_state_and_due(lines: &mut Vec<u8>, side: &Side) -> Result<(), OutOfMemor
     push_day_or_dash(lines, "due", side.due())
 }
 
-/// Appends the line of `day`, or of a dash if there is none.
+/// Appends the line of `label` with `day`, or with a dash if there is no day.
 pub(crate) fn push_day_or_dash(
     lines: &mut Vec<u8>,
     label: &str,
@@ -161,7 +161,7 @@ fn push_marks(lines: &mut Vec<u8>, side: &Side) -> Result<(), OutOfMemory>
     push_words(lines, "marks", &marks)
 }
 
-/// Appends the line of `words`, or of a dash if there are none.
+/// Appends the line of `label` with `words`, or with a dash if there are none.
 pub(crate) fn push_words(
     lines: &mut Vec<u8>,
     label: &str,

@@ -44,7 +44,7 @@ pub fn run_desk_verify<S: Store, W: Write>(
     }
 }
 
-/// Writes the text of the record `bytes`, or tells their fault.
+/// Writes the text of the record `bytes`, or tells the fault of `bytes`.
 fn verify_bytes<W: Write>(
     alloc: Global,
     bytes: &[u8],
@@ -61,7 +61,7 @@ fn verify_bytes<W: Write>(
     }
 }
 
-/// Returns `fault` as the fault of the command. In the form `Json` its object is written before.
+/// Returns `fault` as the fault of the command. In the form `Json` the object of `fault` is written before.
 fn tell_fault<W: Write>(
     alloc: Global,
     fault: RecordFault,
@@ -76,7 +76,8 @@ fn tell_fault<W: Write>(
     }
 }
 
-/// Returns `fault` as the fault of the command, once it is written. If that failed, it returns the failure.
+/// Returns `fault` as the fault of the command, if its text is written. If `written` is a failure, it returns the
+/// failure.
 fn after_fault(fault: RecordFault, written: Result<(), ToolFault>) -> Result<(), ToolFault>
     ensures { result ≡ after_fault fault written }
 {
@@ -143,7 +144,7 @@ fn place(fault: RecordFault) -> Value<'static>
     }
 }
 
-/// Writes the text of the record `bytes`, which has these sides.
+/// Writes the text of the record `bytes`, which has the sides `sides`, in `form`.
 fn write_found<W: Write>(
     alloc: Global,
     bytes: &[u8],
@@ -162,7 +163,7 @@ fn write_found<W: Write>(
     write_whole(writer, &text)
 }
 
-/// Appends the lines of the record `bytes`, which has these sides.
+/// Appends the lines of the record `bytes`, which has the sides `sides`.
 #[tactic(auto, unfolding(crate::specs::Verify::verify_lines))]
 fn push_found(lines: &mut Vec<u8>, bytes: &[u8], sides: &Sides) -> Result<(), OutOfMemory>
     ensures { OnOk result (lines.new.items ≡ lines.old.items ++ verify_lines bytes.now sides.now) }
@@ -176,7 +177,7 @@ fn push_found(lines: &mut Vec<u8>, bytes: &[u8], sides: &Sides) -> Result<(), Ou
     push_decimal(lines, "room", SIDES_LIMIT.saturating_sub(loans))
 }
 
-/// Appends the object of the record `bytes`, which has these sides, on a line.
+/// Appends the object of the record `bytes`, which has the sides `sides`, on a line.
 fn push_object(text: &mut Vec<u8>, bytes: &[u8], sides: &Sides) -> Result<(), OutOfMemory>
     ensures { OnOk result (text.new.items ≡ text.old.items ++ object_line (record_fields bytes.now sides.now)) }
 {
@@ -185,7 +186,7 @@ fn push_object(text: &mut Vec<u8>, bytes: &[u8], sides: &Sides) -> Result<(), Ou
     push_plain(text, "}\n")
 }
 
-/// Appends the fields of the record `bytes`, which has these sides.
+/// Appends the fields of the record `bytes`, which has the sides `sides`.
 #[tactic(auto, unfolding(ill_text::specs::Json::joined))]
 fn push_fields(text: &mut Vec<u8>, bytes: &[u8], sides: &Sides) -> Result<(), OutOfMemory>
     ensures { OnOk result (text.new.items ≡ text.old.items
@@ -209,7 +210,7 @@ fn push_fields(text: &mut Vec<u8>, bytes: &[u8], sides: &Sides) -> Result<(), Ou
     )
 }
 
-/// Returns the version of the format of a record.
+/// Returns the version of the format of the record `bytes`: 1 if it begins with `ILL1`, else 2.
 fn version(bytes: &[u8]) -> usize
     ensures { result ≡ version_of bytes.now }
 {

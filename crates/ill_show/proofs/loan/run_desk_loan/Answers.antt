@@ -13,8 +13,8 @@ use Rattle.ill_beside.specs.Notes.{note_of}
 use Rattle.ill_show.proofs.LoanLemmas.{writes_loan}
 use Rattle.ill_show.proofs.loan.run_desk_loan.Goals as goal
 
--- Proves the contract of `run_desk_loan` if the side is held. Its entry consists of the side and its released
--- number, and the text of both is written.
+-- Proves the contract of `run_desk_loan` if the side is held and its text is found. `there` finds the side, and
+-- `counted` the number of its released messages. The entry consists of both, and the text of the entry is written.
 pub returns-in-Ok : goal.returns-in-Ok
 returns-in-Ok g c =
     let live = c.args.desk.now.live in

@@ -4,7 +4,8 @@ use Rattle.std.specs.Prelude.{fold}
 use Rattle.ill_show.specs.Picture.{opening, with_own}
 use Rattle.ill_show.proofs.picture.draw.Given as goal
 
--- The own messages so far are drawn, with the partner's messages between them.
+-- The own messages so far are drawn, with the other side's messages between them. `left` has those that are not drawn
+-- yet.
 abbrev pub invariant-loop-apdu : goal.invariant-loop-apdu
 invariant-loop-apdu l = record {
   drawn : record { lines = l.lines.items; left = l.left }

@@ -4,7 +4,7 @@ use Rattle.std.specs.Prelude.{fold}
 use Rattle.ill_show.specs.Picture.{reach}
 use Rattle.ill_show.proofs.picture.through.Given as goal
 
--- `last` is the number of messages up to the last linked one so far.
+-- `last` is the number of messages up to the last linked one so far, and at most `place`.
 abbrev pub invariant-loop-place : goal.invariant-loop-place
 invariant-loop-place l = record {
   reached : record { place = l.place; last = l.last }

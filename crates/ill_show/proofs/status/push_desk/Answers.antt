@@ -5,8 +5,8 @@ use Rattle.ill_show.specs.Objects.{status_of_desk, text_of_one}
 use Rattle.ill_show.proofs.StatusLemmas.{status_split_at}
 use Rattle.ill_show.proofs.status.push_desk.Goals as goal
 
--- Proves the loop invariant of `push_desk` after one more side. `status_split_at` splits off the text of the entry at
--- `place`.
+-- Proves the loop invariant of `push_desk` after one more side. `status_split_at` splits off `here`, the text of the
+-- entry at `place`, from the texts of the later entries, which are `left`.
 pub loop-place-preserved : goal.loop-place-preserved
 loop-place-preserved g c =
     let held = c.args.desk.now.live.held in

@@ -7,7 +7,8 @@ use Rattle.ill_saved.specs.ManySides.{held_for, sides_held}
 use Rattle.ill_show.proofs.StatusLemmas.{lines_there, no_lines_there}
 use Rattle.ill_show.proofs.status.push_status_at.Goals as goal
 
--- Proves the contract of `push_status_at` if a side is at `place`. By `lines_there` its text is that of the entry.
+-- Proves the contract of `push_status_at` if a side is at `place`. By `lines_there` the side gives the text of the
+-- entry.
 pub returns-in-Some : goal.returns-in-Some
 returns-in-Some g c =
     let live = c.args.desk.now.live in

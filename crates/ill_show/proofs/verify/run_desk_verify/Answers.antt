@@ -3,7 +3,8 @@ use Rattle.std.proofs.Common.{rules, Ok, Err, Some, None, refl}
 use Rattle.std.proofs.KnownBytes.{Appends-nil}
 use Rattle.ill_show.proofs.verify.run_desk_verify.Goals as goal
 
--- Proves the clause `verifies` of `run_desk_verify` if the store has a record. `verify_bytes` writes its lines.
+-- Proves the clause `verifies` of `run_desk_verify` if the store has bytes. `verify_bytes` writes their text, or
+-- tells their fault.
 pub returns-in-Ok-Some-clause-verifies : goal.returns-in-Ok-Some-clause-verifies
 returns-in-Ok-Some-clause-verifies g c = (
   Ok (Some c.in-Ok-Some.bytes.items),

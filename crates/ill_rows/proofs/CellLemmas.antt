@@ -10,7 +10,8 @@ pub one_space : (width place : ℕ) → place < width
 one_space width place within = let e : width - place ≡ suc (width - (place + 1)) = omega arith in
     ap (λ n. replicate {A = ℕ} n 32) e
 
--- If `rest` begins with `byte`, the column goes on with this byte as it is shown, and then with the bytes after it.
+-- If `rest` begins with `byte`, `more` and the column of the bytes `after` it are `all`. Here `more` is `shown` and
+-- `byte` as it is shown, and `shown` and the column of `rest` are `all`.
 pub column_goes_on : (shown more all : List ℕ) (is_edge : Bool) (byte : ℕ) (after rest : List ℕ) → rest ≡ byte ∷ after
     → shown ++ column_rest is_edge rest ≡ all → more ≡ shown ++ column_byte (is_edge || is_end after) byte
     → more ++ column_rest (byte == 0x20) after ≡ all

@@ -22,7 +22,8 @@ pub unfolded_text : (text : List ℕ) → ¬ (IsUtf8 text) → text ≡ folded t
 unfolded_text text none =
     sym (ap (folded_if text) (false_from_ne_true (is_utf8 text) (λ yes. none (IsUtf8-from_is_utf8 text yes))))
 
--- If `rest` does not begin with `part`, `part` is within `rest` if it is within the bytes after the first one.
+-- Let `rest` not begin with `part`. Then `part` is within `rest` if, and only if, it is within the bytes after the
+-- first.
 pub part_after : (part rest after : List ℕ) (byte : ℕ) → rest ≡ byte ∷ after → false ≡ starts_with nat_eq rest part
     → has_part part after ≡ has_part part rest
 unfolding has_part
@@ -30,7 +31,7 @@ part_after part rest after byte is not =
     sym (ap (has_part part) is
     ∙ ap (λ starts. starts || has_part part after) (ap (λ text. starts_with nat_eq text part) (sym is) ∙ sym not))
 
--- If `rest` begins with `part` and has a byte, `part` is within it.
+-- If `rest` begins with `part` and is not empty, `part` is within it.
 pub part_here : (part rest after : List ℕ) (byte : ℕ) → rest ≡ byte ∷ after → true ≡ starts_with nat_eq rest part
     → true ≡ has_part part rest
 unfolding has_part

@@ -17,7 +17,7 @@ abbrev pub is_end : List ℕ → Bool
 is_end [] = true
 is_end after = false
 
--- Returns the rest of a column. `is_edge` says that nothing, or a space, is before it.
+-- Returns the rest of a column. If `is_edge` is true, nothing or a space is before the rest.
 unfoldable pub column_rest : (is_edge : Bool) → List ℕ → List ℕ
 column_rest is_edge [] = []
 column_rest is_edge (byte ∷ after) = column_byte (is_edge || is_end after) byte ++ column_rest (byte == 0x20) after

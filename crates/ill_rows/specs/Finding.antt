@@ -11,7 +11,8 @@ use Rattle.ill_record.specs.Side.{txn_of}
 use Rattle.ill_words.specs.Possible.{item_asked, request_of}
 use Rattle.ill_beside.specs.Notes.{note_of}
 
--- Returns a text of UTF-8 with the case of its characters folded (The Unicode Standard, section 3.13).
+-- Returns a text of UTF-8 with the case of its characters folded (The Unicode Standard, section 3.13). It returns any
+-- other text as it is.
 abbrev pub folded : List ℕ → List ℕ
 folded text = if is_utf8 text then encode_utf8_all (default_case_fold (chars text)) else text
 
@@ -28,7 +29,7 @@ tells sought text = has_part sought (folded text)
 abbrev pub loan_number : Qualifiers → List ℕ
 loan_number txn = txn.group ++ (codes " " ++ txn.transaction)
 
--- Returns true if a text, if there is one, has the words `sought`.
+-- Returns true if there is a text, and it has the words `sought`, which are folded.
 abbrev pub tells_any : (sought : List ℕ) → Option (List ℕ) → Bool
 tells_any sought text = list_any (tells sought) (option_to_list text)
 
@@ -38,7 +39,7 @@ has_words sought notes side =
     tells sought (loan_number (txn_of side)) || (tells_any sought (item_asked (request_of side))
     || tells_any sought (note_of notes (txn_of side)))
 
--- Returns true if a loan has the words `find`, or if no words are sought.
+-- Returns true if a loan has the words `find` in whatever case, or if no words are sought.
 abbrev pub is_found : (find : Option (List ℕ)) → (notes : List (List ℕ)) → Side → Bool
 is_found None notes side = true
 is_found (Some words) notes side = has_words (folded words) notes side

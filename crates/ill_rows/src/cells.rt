@@ -57,7 +57,7 @@ fn push_column_byte(shown: &mut Vec<u8>, is_edge: bool, byte: u8) -> Result<(), 
     Ok(())
 }
 
-/// Appends `text`, spaces up to `width`, and two further ones.
+/// Appends `text`, spaces up to `width`, and two further spaces.
 pub fn push_cell(lines: &mut Vec<u8>, width: usize, text: &[u8]) -> Result<(), OutOfMemory>
     ensures { OnOk result (lines.new.items ≡ lines.old.items ++ cell width text.now) }
 {

@@ -12,8 +12,8 @@ use ill_values::{OutOfMemory, TxnId};
 use ill_words::possible::item_asked;
 use std::alloc::Global;
 
-/// Returns the loans of `sides` of which a text has the words `find`, in their order. If no words are sought, these
-/// are all loans.
+/// Returns the loans of `sides` of which a text has the words `find`, in their order. `notes` has the notes of the
+/// loans. If no words are sought, all loans are returned.
 pub fn found_of<'a>(
     alloc: Global,
     sides: &[&'a Side],
@@ -32,7 +32,7 @@ pub fn found_of<'a>(
     }
 }
 
-/// Returns the loans of `sides` of which a text has the words `sought`, in their order.
+/// Returns the loans of `sides` of which a text has the words `sought`, which are folded, in their order.
 fn told_of<'a>(
     alloc: Global,
     sides: &[&'a Side],
@@ -49,7 +49,7 @@ fn told_of<'a>(
     Ok(found)
 }
 
-/// Appends `side` to `found`, if one of its texts has the words `sought`.
+/// Appends `side` to `found`, if one of its texts has the words `sought`, which are folded.
 fn push_told<'a>(
     found: &mut Vec<&'a Side>,
     side: &'a Side,
@@ -65,7 +65,7 @@ fn push_told<'a>(
     Ok(())
 }
 
-/// Returns true if the number of a loan, its item or its note has the words `sought`.
+/// Returns true if the number of a loan, its item or its note has the words `sought`, which are folded.
 fn has_words(alloc: Global, side: &Side, sought: &[u8], notes: &Notes) -> Result<bool, OutOfMemory>
     ensures { IfOk result (λ is. is ≡ has_words sought.now notes.now side.now) }
 {
@@ -77,7 +77,7 @@ fn has_words(alloc: Global, side: &Side, sought: &[u8], notes: &Notes) -> Result
     )
 }
 
-/// Returns true if the item of a loan has the words `sought`.
+/// Returns true if the loan has an item, and it has the words `sought`, which are folded.
 fn item_tells(alloc: Global, sought: &[u8], side: &Side) -> Result<bool, OutOfMemory>
     ensures { IfOk result (λ is. is ≡ tells_any sought.now (item_asked (request_of side.now))) }
 {
@@ -87,7 +87,7 @@ fn item_tells(alloc: Global, sought: &[u8], side: &Side) -> Result<bool, OutOfMe
     }
 }
 
-/// Returns true if the note of a loan has the words `sought`.
+/// Returns true if `notes` have a note of the loan `txn`, and it has the words `sought`, which are folded.
 fn note_tells(alloc: Global, sought: &[u8], txn: &TxnId, notes: &Notes) -> Result<bool, OutOfMemory>
     ensures { IfOk result (λ is. is ≡ tells_any sought.now (note_of notes.now txn.now)) }
 {
@@ -115,7 +115,7 @@ fn tells(alloc: Global, sought: &[u8], text: &[u8]) -> Result<bool, OutOfMemory>
     Ok(has_part(sought, &text))
 }
 
-/// Returns `text` with the case of its characters folded, if it is UTF-8.
+/// Returns `text` with the case of its characters folded, if it is UTF-8, else `text` as it is.
 fn folded(alloc: Global, text: &[u8]) -> Result<Vec<u8>, OutOfMemory>
     ensures { IfOk result (λ folds. folds.items ≡ folded text.now) }
 {

@@ -36,8 +36,8 @@ impl<'a> Listed<'a> {
     }
 }
 
-/// Returns the heading of a desk in lines. It has an empty line if another desk is before it. It has a line of its path
-/// if that is written.
+/// Returns the lines before the loans of a desk. These are an empty line if another desk is before it, and the line
+/// of its path if that is written.
 pub fn heading(alloc: Global, listed: &Listed<'_>) -> Result<Vec<u8>, OutOfMemory>
     ensures { IfOk result (λ text. text.items
         ≡ gap listed.now.is_first ++ heading listed.now.is_headed listed.now.path.now) }
@@ -53,7 +53,7 @@ pub fn heading(alloc: Global, listed: &Listed<'_>) -> Result<Vec<u8>, OutOfMemor
     Ok(text)
 }
 
-/// Appends the path of a desk, if it is given.
+/// Appends the field of the path `file` of a desk, if there is one.
 #[tactic(auto, unfolding(ill_text::specs::Json::joined))]
 pub fn push_file(text: &mut Vec<u8>, file: Option<&str>) -> Result<(), OutOfMemory>
     ensures { OnOk result (text.new.items ≡ text.old.items
@@ -65,7 +65,7 @@ pub fn push_file(text: &mut Vec<u8>, file: Option<&str>) -> Result<(), OutOfMemo
     }
 }
 
-/// Returns the line that tells how many loans of a desk a list leaves out since no day is given.
+/// Returns the line that says that a list without a day leaves out `count` loans of the desk in `path`.
 pub fn left_out_line(alloc: Global, path: &str, count: usize) -> Result<Vec<u8>, OutOfMemory>
     ensures { IfOk result (λ line. line.items ≡ left_out_line path.now count) }
 {
@@ -77,7 +77,7 @@ pub fn left_out_line(alloc: Global, path: &str, count: usize) -> Result<Vec<u8>,
     Ok(line)
 }
 
-/// Returns the words of the line of `left_out_line` after the number of loans, of one loan or of several.
+/// Returns the words of the line of `left_out_line` after the number of loans. `is_one` is true if it is one loan.
 fn left_out_words(is_one: bool) -> &'static str
     ensures { result.now ≡ left_out_words is_one }
 {
@@ -88,7 +88,7 @@ fn left_out_words(is_one: bool) -> &'static str
     }
 }
 
-/// Returns the line that warns of the room left at a desk.
+/// Returns the line that warns that the desk in `path` has room for `room` more loans.
 pub fn warning(alloc: Global, path: &str, room: usize) -> Result<Vec<u8>, OutOfMemory>
     ensures { IfOk result (λ line. line.items ≡ room_line path.now room) }
 {

@@ -4,7 +4,7 @@ use Rattle.std.proofs.lemmas.List.{nil_from_length}
 use Rattle.ill_rows.proofs.FindingLemmas.{part_after, part_here, part_nowhere}
 use Rattle.ill_rows.proofs.finding.has_part.Goals as goal
 
--- Proves the contract of `has_part` if `rest` begins with `part`. By `part_here` this is within it.
+-- Proves the contract of `has_part` if `rest` begins with `part`. By `part_here` `part` is within `rest`.
 pub returns-then-starts_with : goal.returns-then-starts_with
 returns-then-starts_with c =
     part_here c.args.part.now c.loop-after.rest.now c.in-Some.after.now c.in-Some.field-0-0.now c.in-Some.ensures.cases.0

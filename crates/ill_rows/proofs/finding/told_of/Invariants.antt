@@ -5,7 +5,7 @@ use Rattle.ill_record.specs.declared.side.Side.{Side}
 use Rattle.ill_rows.specs.Finding.{has_words}
 use Rattle.ill_rows.proofs.finding.told_of.Given as goal
 
--- `found` has the loans so far of which a text has the words.
+-- `found` has the loans so far of which a text has the words `sought`.
 abbrev pub invariant-loop-side : goal.invariant-loop-side
 invariant-loop-side l = record {
   found : map (λ (side : Bor Side). side.now) l.found.items

@@ -24,8 +24,8 @@ same_texts : {X : Type 0} (one other : X → List ℕ) (items : List X) → ((it
 same_texts one other [] same = refl
 same_texts one other (item ∷ items) same = ap₂ (λ first rest. first ++ rest) (same item) (same_texts one other items same)
 
--- The list has no lines of days (`off`). The notes alone are `notes_alone annex`, which lacks the diary and the
--- messages that came.
+-- The list has no lines of days (`off`). The notes alone are `notes_alone annex`: it has the news that are told, but
+-- no diary and no messages that came.
 module _ (wanted : Wanted) (off : wanted.has_since ≡ false) where
   -- A loan has no line of its day.
   no_day : (annex : AnnexRead) (side : Side) → since_shown annex wanted side ≡ []
@@ -63,7 +63,7 @@ module _ (wanted : Wanted) (off : wanted.has_since ≡ false) where
       (same_texts (told_morning columns annex wanted) (told_morning columns (notes_alone annex) wanted) (first ∷ others)
       (morning_row_stays columns annex))
 
-  -- The lines of a kind of work are those by the notes alone, in either form.
+  -- The lines of a kind of work are those by the notes alone, in a morning's list and in any other.
   text_stays : (annex : AnnexRead) (chosen : List Side) (work : Work) (sides : List Side)
       → lines_text wanted annex chosen wanted work sides ≡ lines_text wanted (notes_alone annex) chosen wanted work sides
   text_stays annex chosen work sides = go (is_morning wanted)

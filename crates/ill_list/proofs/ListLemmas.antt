@@ -18,7 +18,7 @@ filter_mapped {X} now keeps (item ∷ items) = go (keeps (now item)) (filter_map
     go true rest = ap (λ others. now item ∷ others) rest
     go false rest = rest
 
--- If `WritesPrefix` holds of a text, `WritesText` does.
+-- If `WritesPrefix` holds of a text that is written, `WritesText` holds of it too.
 pub text_written : (before after : Option (List ℕ)) (bytes : List ℕ) (result : Result (Unit {0}) ToolFault)
     → WritesPrefix before after bytes result → WritesText before after bytes result
 text_written before after bytes (Ok done) written = written

@@ -84,12 +84,12 @@ listed_of wanted news sides = filter (is_listed wanted news) sides
 
 -- ---- the line of a loan
 
--- Returns the actions that the side may do on the day `today`, or on some day without one. A comma stands between two
--- of them.
+-- Returns the actions that the side may do on the day `today`, with a comma between two of them. If `today` is
+-- `None`, these are the actions that it may do on some day.
 abbrev pub verbs_text : Option Date → Side → List ℕ
 verbs_text today side = join_by verb_name (codes ",") (possible_on today side)
 
--- Returns the actions of `verbs_text`, if the list has a column of them.
+-- Returns the actions of `verbs_text`, if the Bool is true: the list has a column of them.
 abbrev pub actions_text : Bool → Option Date → Side → List ℕ
 actions_text false today side = []
 actions_text true today side = verbs_text today side
@@ -103,7 +103,8 @@ actions_cell columns today side =
 abbrev pub no_columns : Bool → Columns
 no_columns has_actions = record { has_actions = has_actions; state = 0; group = 0; transaction = 0; actions = 0 }
 
--- Returns `columns`, and each as wide as the text of `side` at least.
+-- Returns `columns`, each made as wide as the text of `side` in it at least. Its actions are those of the day
+-- `today`.
 abbrev pub widened : Option Date → Columns → Side → Columns
 widened today columns side = record {
   has_actions = columns.has_actions;
@@ -153,8 +154,8 @@ left_out wanted news sides = if lacks_day wanted then count_by (is_left_out want
 
 -- ---- counts
 
--- Returns the counts of a desk: all loans, open loans, and loans that want a hand. The last count is the room for further
--- loans.
+-- Returns the counts of a desk: all loans, open loans, loans that want a hand, and the room for further loans.
+-- `wanted` has the day on which loans want a hand.
 abbrev pub counts_of : Wanted → List Side → Counts
 counts_of wanted sides = record {
   loans = length sides;

@@ -21,7 +21,7 @@ use Rattle.ill_beside.specs.Since.{AnnexRead, since_fields, since_of}
 abbrev pub kind_fields : Work → List Field
 kind_fields work = (codes "kind", quoted (codes "loan")) ∷ (codes "work", quoted (work_words work)) ∷ []
 
--- Returns the fields that say how a loan stands, with the actions `names`.
+-- Returns the fields that say how a loan stands: its state, due date, qualifiers and item, and the actions `names`.
 abbrev pub listed_fields : Side → List (List ℕ) → List Field
 listed_fields side names =
     (codes "state", quoted (state_name (state_of side)))
@@ -37,7 +37,7 @@ row_fields work side names = kind_fields work ++ listed_fields side names
 abbrev pub noted_fields : (notes : List (List ℕ)) → Option Date → Work → Side → List Field
 noted_fields notes today work side = row_fields work side (names_of today side) ++ note_fields (note_of notes (txn_of side))
 
--- Returns the fields of a listed loan with this work, its note and the day since which it stands so.
+-- Returns the fields of `noted_fields`, and the field of the day since which the loan stands as it does.
 abbrev pub dated_fields : AnnexRead → Option Date → Work → Side → List Field
 dated_fields annex today work side = noted_fields annex.notes today work side ++ since_fields (since_of annex side)
 
@@ -45,7 +45,8 @@ dated_fields annex today work side = noted_fields annex.notes today work side ++
 abbrev pub full_row_fields : AnnexRead → Option Date → Work → Side → List Field
 full_row_fields annex today work side = dated_fields annex today work side ++ listed_news_fields annex.news side
 
--- Returns the object of a listed loan with this work, with the actions of the day `today`.
+-- Returns the object of a listed loan with this work, with the actions of the day `today`. It has the fields of
+-- `full_row_fields` and the path `file` of the desk, if there is one.
 unfoldable pub row_object : Option (List ℕ) → AnnexRead → Option Date → Work → Side → List ℕ
 row_object file annex today work side = object_line (full_row_fields annex today work side ++ file_fields file)
 
@@ -56,6 +57,6 @@ counts_fields counts =
     ∷ (codes "open", decimal counts.open_loans) ∷ (codes "todo", decimal counts.to_do)
     ∷ (codes "room", decimal counts.room) ∷ []
 
--- Returns the object of the counts of a desk.
+-- Returns the object of the counts of a desk, with the path `file` of the desk, if there is one.
 abbrev pub counts_object : Option (List ℕ) → Counts → List ℕ
 counts_object file counts = object_line (counts_fields counts ++ file_fields file)

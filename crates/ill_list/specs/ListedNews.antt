@@ -10,7 +10,7 @@ use Rattle.ill_text.specs.Json.{Field, array, object, optional, quoted}
 use Rattle.ill_beside.specs.Kept.{kept_of}
 use Rattle.ill_beside.specs.NewsWords.{told_words}
 
--- ---- lines
+-- ---- the news of a loan, in lines
 
 -- Returns true if one of `news` is of the loan of a side, and news are told.
 abbrev pub has_news : (news : Option (List Apdu)) → Side → Bool
@@ -26,7 +26,7 @@ abbrev pub listed_news : (news : Option (List Apdu)) → Side → List ℕ
 listed_news None side = []
 listed_news (Some news) side = flat_map (news_line side) (kept_of (txn_of side) news)
 
--- ---- objects
+-- ---- the news of a loan, in objects
 
 -- Returns the fields of a message in the loan of a side: its number and its words.
 abbrev pub heard_fields : Side → Apdu → List Field
@@ -36,7 +36,7 @@ heard_fields side a = (codes "number", decimal a.number) ∷ (codes "words", quo
 abbrev pub heard_object : Side → Apdu → List ℕ
 heard_object side a = object (heard_fields side a)
 
--- Returns an array of the messages of the loan of a side.
+-- Returns an array of the objects of the messages `kept`, in the loan of a side.
 abbrev pub heard_array : Side → List Apdu → List ℕ
 heard_array side kept = array (heard_object side) kept
 

@@ -25,7 +25,7 @@ use Rattle.ill_list.specs.Morning.{is_morning, morning_columns, morning_row}
 use Rattle.ill_beside.specs.Notes.{listed_note, note_of}
 use Rattle.ill_beside.specs.Since.{AnnexRead, annex_of, since_line, since_of}
 
--- ---- one kind of work
+-- ---- the lines and the objects of the loans with one kind of work
 
 -- Returns the heading of a kind of work with `count` listed loans.
 abbrev pub work_heading : Work → ℕ → List ℕ
@@ -77,13 +77,13 @@ morning_lines columns annex wanted work (first ∷ others) =
 abbrev pub work_objects : Option (List ℕ) → AnnexRead → Wanted → Work → List Side → List ℕ
 work_objects file annex wanted work sides = flat_map (row_object file annex wanted.today work) sides
 
--- ---- one desk
+-- ---- the loans of a desk, kind by kind, and the counts
 
--- Returns the text of those of the listed loans that have this work, in their order.
+-- Returns what `text` gives of those of the listed loans that have this work, in their order.
 abbrev pub section : (Wanted → Work → List Side → List ℕ) → Wanted → List Side → Work → List ℕ
 section text wanted listed work = text wanted work (filter (has_work wanted work) listed)
 
--- Returns the texts of the listed loans, kind by kind, the most pressing work first.
+-- Returns what `text` gives of the listed loans, kind by kind, the most pressing work first.
 abbrev pub sections : (Wanted → Work → List Side → List ℕ) → Wanted → List Side → List ℕ
 sections text wanted listed = flat_map (section text wanted listed) all_work
 
@@ -91,19 +91,19 @@ sections text wanted listed = flat_map (section text wanted listed) all_work
 abbrev pub chosen_of : Wanted → Seeking → List Side → List Side
 chosen_of wanted seeking sides = found_of seeking (listed_of wanted seeking.annex.news sides)
 
--- Returns the texts of the chosen loans, and then the counts of all loans. Loans with one kind of work are in the order of
--- `sides`.
+-- Returns what `text` gives of the chosen loans, and then what `counts_text` gives of the counts of all loans. Loans
+-- with one kind of work are in the order of `sides`.
 abbrev pub listed : (Wanted → Work → List Side → List ℕ) → (Counts → List ℕ) → Wanted → Seeking → List Side → List ℕ
 listed text counts_text wanted seeking sides =
     sections text wanted (chosen_of wanted seeking sides) ++ counts_text (counts_of wanted sides)
 
--- Returns the text of the loans with one kind of work, in lines or in objects.
+-- Returns the function that gives the text of the loans with one kind of work, in the form `rows`.
 abbrev pub work_text : Rows → Wanted → Work → List Side → List ℕ
 work_text (rows.Lines lines) = work_lines lines.columns (annex_of lines.annex.now)
 work_text (rows.Morning lines) = morning_lines lines.columns (annex_of lines.annex.now)
 work_text (rows.Objects objects) = work_objects (option_map (λ path. path.now) objects.file) (annex_of objects.annex.now)
 
--- Returns the counts as a line or an object.
+-- Returns the counts as a line or an object, by the form `rows`.
 abbrev pub counts_text : Rows → Counts → List ℕ
 counts_text (rows.Lines lines) = counts_line
 counts_text (rows.Morning lines) = counts_line
@@ -116,7 +116,7 @@ lines_text wanted annex chosen =
     if is_morning wanted then morning_lines (morning_columns wanted annex.news chosen) annex
     else work_lines (columns_of wanted chosen) annex
 
--- Returns the lines of a list of `sides`.
+-- Returns the lines of a list of `sides`. Loans with one kind of work are in the order of `sides`.
 abbrev pub ordered_lines : Wanted → Seeking → List Side → List ℕ
 ordered_lines wanted seeking sides =
     listed (lines_text wanted seeking.annex (chosen_of wanted seeking sides)) counts_line wanted seeking sides
@@ -130,9 +130,9 @@ abbrev pub list_objects : Option (List ℕ) → Wanted → Seeking → List Side
 list_objects file wanted seeking sides =
     listed (work_objects file (seeking.annex)) (counts_object file) wanted seeking (most_urgent_first sides)
 
--- ---- several desks
+-- ---- a desk with its path
 
--- Returns the text of one listed desk.
+-- Returns the text of a listed desk in this form. If `is_headed` is true, it has the path of the desk.
 abbrev pub listed_desk : Form → Bool → Wanted → Seeking → List ℕ → List Side → List ℕ
 listed_desk Lines is_headed wanted seeking path sides = heading is_headed path ++ list_lines wanted seeking sides
 listed_desk Json is_headed wanted seeking path sides = list_objects (file_told is_headed path) wanted seeking sides

@@ -22,7 +22,7 @@ abbrev pub break_after : List ℕ → List ℕ
 break_after [] = []
 break_after text = codes "; "
 
--- Returns `text`, and the words of a message in the loan of a side after it.
+-- Returns `text`, and after it the words of the message `a` in the loan of a side.
 abbrev pub with_words : Side → (text : List ℕ) → Apdu → List ℕ
 with_words side text a = text ++ (break_after text ++ told_words side a.body)
 
@@ -30,19 +30,19 @@ with_words side text a = text ++ (break_after text ++ told_words side a.body)
 abbrev pub words_of : Side → List Apdu → List ℕ
 words_of side kept = fold (with_words side) [] kept
 
--- Returns the words of those of `news` that are of the loan of a side.
+-- Returns the words of those of `news` that are of the loan of a side. Without news the text is empty.
 abbrev pub news_text : (news : Option (List Apdu)) → Side → List ℕ
 news_text None side = []
 news_text (Some news) side = words_of side (kept_of (txn_of side) news)
 
--- Returns the words of the news of a loan, or a dash if it has none.
+-- Returns a text of the news of a loan, or a dash if it is empty.
 abbrev pub text_or_dash : List ℕ → List ℕ
 text_or_dash [] = codes "-"
 text_or_dash text = text
 
 -- ---- the line of a loan
 
--- Returns the length of the longest text of the loans.
+-- Returns the length of the longest text that `text` gives of one of the loans.
 abbrev pub widest : (Side → List ℕ) → List Side → ℕ
 widest text sides = fold (λ width side. max width (length (text side))) 0 sides
 

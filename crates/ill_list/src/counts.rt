@@ -22,7 +22,7 @@ pub(crate) struct Counts {
 }
 
 impl Counts {
-    /// Returns the counts of `sides`.
+    /// Returns the counts of `sides`. `wanted` has the day on which loans want a hand.
     pub(crate) fn of(sides: &[&Side], wanted: &Wanted) -> Counts
         ensures { result ≡ counts_of wanted.now (map (λ side. side.now) sides.now) }
     {

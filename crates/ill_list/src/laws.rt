@@ -12,7 +12,7 @@ ghost use Rattle.ill_list.specs.declared.wanted.Wanted.{Wanted};
 ghost use Rattle.ill_text.specs.declared.form.Form.TheVariants as forms;
 ghost use Rattle.ill_show.specs.declared.loan.LoanForm.TheVariants.{Lines};
 
-/// The list of what wants a hand has each loan that has work or news, and no other. It has each that meets the conditions.
+/// The list of what wants a hand has each loan with work or news that meets the conditions, and no other.
 #[tactic(auto, using(crate::proofs::MorningLaws::lists_news, crate::proofs::MorningLaws::lists_work, crate::proofs::MorningLaws::lists_no_other))]
 pub fn a_morning_lists_work_and_news()
     ensures news { (wanted : Wanted) (news : Option (List Apdu)) (side : Side) → wanted.which ≡ Mine →
@@ -23,7 +23,7 @@ pub fn a_morning_lists_work_and_news()
         is_to_do wanted side ≡ false → has_news news side ≡ false → is_listed wanted news side ≡ false }
 {}
 
-/// No other list depends on the news: it lists the loans that it lists without them.
+/// No other list depends on the news: it lists the loans that it lists without news.
 #[tactic(auto, using(crate::proofs::MorningLaws::others_stay))]
 pub fn no_other_list_minds_news()
     ensures { (wanted : Wanted) (news : Option (List Apdu)) (side : Side) → is_mine wanted.which ≡ false →

@@ -64,10 +64,11 @@ pub(crate) struct RowLines<'a> {
     pub annex: &'a Annex,
 }
 
-/// Writes a line or an object of JSON for each wanted loan of `desk`, and one that counts all of its loans. Lines stand
-/// after a heading with the path of the desk, if that is written; each object has it. The most pressing work comes first.
-/// In lines each kind of work has a heading, but in the list of a morning those that want no hand have none. Within a kind
-/// the loans are in the order of their deadlines. A loan is left out if it has not the words that are sought.
+/// Writes a line or an object of JSON for each wanted loan of `desk`, and one that counts all loans. Lines stand
+/// after a heading with the path of the desk, if that is written; each object has the path. The most pressing work
+/// comes first. In lines each kind of work has a heading. In the list of a morning a kind that wants no hand has
+/// none. Within a kind the loans are in the order of their deadlines. A loan is left out if it has not the words that
+/// are sought.
 pub fn run_desk_list<S: Store, W: Write>(
     alloc: Global,
     desk: &Desk<S>,
@@ -180,7 +181,7 @@ fn push_morning(
     push_listed(lines, &Rows::Morning(rows), sought.wanted, sides, chosen)
 }
 
-/// Appends all objects of a list of `sides`.
+/// Appends all objects of a list of `sides`, each with the path `file` of the desk, if it is given.
 fn push_list_objects(
     text: &mut Vec<u8>,
     file: Option<&str>,
@@ -213,7 +214,7 @@ fn chosen_of<'a>(
     found_of(alloc, &listed, sought.find, &sought.annex.notes)
 }
 
-/// Appends the `listed` loans, kind by kind, and the counts of all `sides`.
+/// Appends the `listed` loans in the form `rows`, kind by kind, and the counts of all `sides`.
 fn push_listed(
     text: &mut Vec<u8>,
     rows: &Rows<'_>,
@@ -229,7 +230,7 @@ fn push_listed(
     push_counts(text, rows, &Counts::of(sides, wanted))
 }
 
-/// Appends the `listed` loans, kind by kind, the most pressing work first.
+/// Appends the `listed` loans in the form `rows`, kind by kind, the most pressing work first.
 fn push_sections(
     text: &mut Vec<u8>,
     rows: &Rows<'_>,
@@ -246,7 +247,7 @@ fn push_sections(
     Ok(())
 }
 
-/// Appends those of the `listed` loans that have this work, in their order.
+/// Appends those of the `listed` loans that have this work, in the form `rows` and in their order.
 fn push_section(
     text: &mut Vec<u8>,
     rows: &Rows<'_>,
@@ -261,7 +262,8 @@ fn push_section(
     push_work(text, rows, wanted, work, &sides)
 }
 
-/// Returns those of the `listed` loans that have this work, in their order.
+/// Returns those of the `listed` loans that have this work, in their order. The contract compares the loans
+/// themselves.
 fn with_work<'a>(
     alloc: Global,
     listed: &[&'a Side],
@@ -274,7 +276,8 @@ fn with_work<'a>(
     Ok(kept_with_work(alloc, listed, wanted, work)?)
 }
 
-/// Returns the references to the loans of `listed` that have the work `work`, in their order.
+/// Returns the references to the loans of `listed` that have the work `work`, in their order. The contract compares
+/// the references.
 fn kept_with_work<'a>(
     alloc: Global,
     listed: &[&'a Side],
@@ -292,7 +295,7 @@ fn kept_with_work<'a>(
     )
 }
 
-/// Appends the loans of `sides`, which have this work, as lines or as objects.
+/// Appends the loans of `sides`, which have this work, in the form `rows`.
 fn push_work(
     text: &mut Vec<u8>,
     rows: &Rows<'_>,
@@ -506,7 +509,8 @@ fn push_work_objects(
     Ok(())
 }
 
-/// Returns the number of loans that a list of `sides` leaves out since no day is given.
+/// Returns the number of loans that a list of `sides` leaves out since no day is given. If a day is given, or the
+/// list is not of what wants a hand, the number is 0.
 pub fn count_left_out(
     alloc: Global,
     sides: &Sides,
@@ -539,7 +543,8 @@ fn lacks_day(wanted: &Wanted) -> bool
     wanted.which.is_mine() && wanted.today.is_none()
 }
 
-/// Returns true if the loan of `side` is not listed without a day, but may want a hand by its date.
+/// Returns true if the loan of `side` is not listed without a day, but may want a hand by its date. It meets the
+/// other conditions.
 fn is_left_out(wanted: &Wanted, annex: &Annex, side: &Side) -> bool
     ensures { result ≡ is_left_out wanted.now (annex_of annex.now).news side.now }
 {

@@ -48,7 +48,7 @@ pub(crate) fn push_row_object(
     push_plain(text, "}\n")
 }
 
-/// Appends the fields of the loan of `side`, and the path of the desk.
+/// Appends the fields that `push_full_row` appends, and the path of the desk, if it is given.
 fn push_row_and_file(
     text: &mut Vec<u8>,
     rows: &RowObjects<'_>,
@@ -63,7 +63,7 @@ fn push_row_and_file(
     push_file(text, rows.file)
 }
 
-/// Appends the fields of the loan of `side`, and those of its note, its day and its news.
+/// Appends the fields that `push_dated_fields` appends, and the field of the news of the loan.
 fn push_full_row(
     text: &mut Vec<u8>,
     annex: &Annex,
@@ -78,7 +78,8 @@ fn push_full_row(
     push_news_field(text, annex, side)
 }
 
-/// Appends the fields of the loan of `side`, and those of its note and its day.
+/// Appends the fields that `push_noted_fields` appends, and the field of the day since which the loan stands as it
+/// does.
 fn push_dated_fields(
     text: &mut Vec<u8>,
     annex: &Annex,
@@ -94,7 +95,7 @@ fn push_dated_fields(
     push_since_field(text, since)
 }
 
-/// Appends the fields of the loan of `side`, and the field of its note.
+/// Appends the fields that `push_row_fields` appends, and the field of the note on the loan.
 fn push_noted_fields(
     text: &mut Vec<u8>,
     notes: &Notes,
@@ -110,7 +111,7 @@ fn push_noted_fields(
     push_note_field(text, note)
 }
 
-/// Appends the fields of the loan of `side`.
+/// Appends the fields of the loan of `side` with this work, and with its actions on the day `today`.
 fn push_row_fields(
     text: &mut Vec<u8>,
     today: Option<Day>,
@@ -125,7 +126,7 @@ fn push_row_fields(
     push_row_with(text, work, side, &names)
 }
 
-/// Appends the fields of the loan of `side`, with the actions `names`.
+/// Appends the fields of the loan of `side` with this work, and with the actions `names`.
 fn push_row_with<'a>(
     text: &mut Vec<u8>,
     work: Work,
@@ -154,7 +155,7 @@ fn push_kind(text: &mut Vec<u8>, work: Work) -> Result<(), OutOfMemory>
     )
 }
 
-/// Appends the fields that say how the loan of `side` stands, with the actions `names`.
+/// Appends the fields of the loan of `side`: its state, due date, qualifiers and item, and the actions `names`.
 #[tactic(auto, unfolding(ill_text::specs::Json::joined))]
 fn push_listed_fields<'a>(
     text: &mut Vec<u8>,
@@ -192,7 +193,7 @@ pub(crate) fn push_counts_object(
     push_plain(text, "}\n")
 }
 
-/// Appends the fields of `counts`, and the path of the desk.
+/// Appends the fields of `counts`, and the path `file` of the desk, if it is given.
 fn push_counts_and_file(
     text: &mut Vec<u8>,
     file: Option<&str>,

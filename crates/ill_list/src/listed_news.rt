@@ -113,7 +113,7 @@ fn push_heard(text: &mut Vec<u8>, side: &Side, kept: &[Apdu]) -> Result<(), OutO
     push_array(text, kept, &HeardObjects { side })
 }
 
-/// Messages in the loan of a side, as objects.
+/// The form of messages in the loan of a side as objects.
 #[derive(Clone, Copy)]
 struct HeardObjects<'a> {
     /// The side of the loan.

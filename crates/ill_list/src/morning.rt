@@ -14,7 +14,7 @@ use ill_saved::Side;
 use ill_values::{Apdu, OutOfMemory};
 use std::alloc::Global;
 
-/// The width of the column of a day after two spaces.
+/// The width of the column of a day with the two spaces before it.
 const BEGINNING: usize = 10;
 
 /// The columns of a morning's list.
@@ -51,7 +51,7 @@ impl MorningColumns {
     }
 }
 
-/// Returns the length of the longest news of one of the listed loans.
+/// Returns the length of the longest text of the news of one of the listed loans.
 fn news_width(alloc: Global, listed: &[&Side], annex: &Annex) -> Result<usize, OutOfMemory>
     ensures { IfOk result (λ width. width
         ≡ widest (λ side. text_or_dash (news_text (annex_of annex.now).news side)) (map (λ side. side.now) listed.now)) }
@@ -75,7 +75,7 @@ fn news_text(alloc: Global, annex: &Annex, side: &Side) -> Result<Vec<u8>, OutOf
     Ok(text)
 }
 
-/// Returns the words of the news of the loan of `side`, which are none if no news are told.
+/// Returns the words of the news of the loan of `side`. The text is empty if the loan has none or no news are told.
 fn known_news(alloc: Global, annex: &Annex, side: &Side) -> Result<Vec<u8>, OutOfMemory>
     ensures { IfOk result (λ text. text.items ≡ news_text (annex_of annex.now).news side.now) }
 {
@@ -106,7 +106,7 @@ fn push_words(text: &mut Vec<u8>, side: &Side, apdu: &Apdu) -> Result<(), OutOfM
     Ok(())
 }
 
-/// Appends what stands before further words.
+/// Appends what stands before further words: nothing if `text` is empty, and else a semicolon and a space.
 fn push_break(text: &mut Vec<u8>) -> Result<(), OutOfMemory>
     ensures { OnOk result (text.new.items ≡ text.old.items ++ break_after text.old.items) }
 {

@@ -42,7 +42,7 @@ impl Columns {
         Ok(columns)
     }
 
-    /// Returns columns without a width.
+    /// Returns columns of the width 0. They have actions if `has_actions` is true.
     fn empty(has_actions: bool) -> Columns
         ensures { result ≡ no_columns has_actions }
     {
@@ -55,7 +55,8 @@ impl Columns {
         }
     }
 
-    /// Returns these columns, and each as wide as the text of `side` at least.
+    /// Returns these columns, each made as wide as the text of `side` in it at least. Its actions are those of the
+    /// day `today`.
     fn widened(self, alloc: Global, today: Option<Day>, side: &Side) -> Result<Columns, OutOfMemory>
         ensures { IfOk result (λ columns. columns ≡ widened today self side.now) }
     {
@@ -72,7 +73,7 @@ impl Columns {
     }
 }
 
-/// Returns the width of the actions of `side`, if the list has a column of them.
+/// Returns the width of the actions of `side` on the day `today`. It is 0 if the list has no column of them.
 fn actions_width(
     alloc: Global,
     has_actions: bool,
@@ -140,7 +141,7 @@ pub(crate) fn push_name_cells(
     push_actions(lines, columns, today, side)
 }
 
-/// Appends the column of the due date, with a dash if there is none.
+/// Appends the column of the due date of `side`, with a dash if there is none.
 pub(crate) fn push_due(lines: &mut Vec<u8>, side: &Side) -> Result<(), OutOfMemory>
     ensures { OnOk result (lines.new.items ≡ lines.old.items ++ due_cell side.now) }
 {
@@ -150,7 +151,7 @@ pub(crate) fn push_due(lines: &mut Vec<u8>, side: &Side) -> Result<(), OutOfMemo
     }
 }
 
-/// Appends the actions that the side may do on the day `today`, if the list has this column.
+/// Appends the column of the actions that the side may do on the day `today`, if the list has this column.
 fn push_actions(
     lines: &mut Vec<u8>,
     columns: &Columns,
@@ -166,7 +167,8 @@ fn push_actions(
     push_cell(lines, columns.actions, verbs.as_bytes())
 }
 
-/// Returns the actions that the side may do on the day `today`, with a comma between two.
+/// Returns the actions that the side may do on the day `today`, or on some day if it is `None`. A comma stands
+/// between two.
 fn verbs_text(alloc: Global, today: Option<Day>, side: &Side) -> Result<String, OutOfMemory>
     ensures { IfOk result (λ text. string_bytes text ≡ verbs_text today side.now) }
 {

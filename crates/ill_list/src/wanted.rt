@@ -41,14 +41,14 @@ pub struct Wanted {
     pub has_actions: bool,
     /// Set if each line has the note of its loan below it.
     pub has_notes: bool,
-    /// Set if each line has the day since which its loan stands as it does below it.
+    /// Set if a line below that of each loan has the day since which the loan stands as it does.
     pub has_since: bool,
-    /// The day, if it is given, from which on what came to the loans is told.
+    /// The day, if it is given, since which news are told: what came to the loans on this day or later.
     pub since: Option<Day>,
 }
 
 impl Which {
-    /// Returns true if loans with this work are listed.
+    /// Returns true if a list of these loans has a loan for this work.
     fn lists(self, work: Work) -> bool
         ensures { result ≡ lists self work }
     {
@@ -88,7 +88,8 @@ pub(crate) fn is_to_do(wanted: &Wanted, side: &Side) -> bool
     work(wanted, side).wants_a_hand()
 }
 
-/// Returns the loans of `sides` that are listed, in their order. `annex` has their news.
+/// Returns the loans of `sides` that are listed, in their order. `annex` has their news. The contract compares the
+/// loans themselves.
 pub(crate) fn listed_of<'a>(
     alloc: Global,
     sides: &[&'a Side],
@@ -101,7 +102,8 @@ pub(crate) fn listed_of<'a>(
     Ok(kept_listed(alloc, sides, wanted, annex)?)
 }
 
-/// Returns the references to the loans of `sides` that are listed, in their order.
+/// Returns the references to the loans of `sides` that are listed, in their order. The contract compares the
+/// references.
 fn kept_listed<'a>(
     alloc: Global,
     sides: &[&'a Side],

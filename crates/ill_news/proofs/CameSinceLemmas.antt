@@ -18,13 +18,13 @@ use Rattle.ill_record.specs.Ranges.{Each}
 use Rattle.ill_beside.specs.Diary.{Said, has_key, is_named, said_by}
 use Rattle.ill_beside.specs.KeyedDiary.{day_if, days_named}
 
--- If `x` passes `p`, the items at the end that pass are `x` and those at the end of `before`. If `x` fails, there are
--- none.
+-- If `x` passes `p`, one more item passes at the end with `x` than at the end of `before`. If `x` fails, none does.
 pub suffix_last : {X : Type 0} (p : X → Bool) (before : List X) (x : X)
     → suffix_len p (before ++ x ∷ []) ≡ cond (p x) (1 + suffix_len p before) 0
 suffix_last p before x = ap (prefix_len p) (reverse-append before (x ∷ []))
 
--- If the invariant of `past_of` holds of `rest`, and its last item `x` passes `p`, it holds of `before`.
+-- Let `rest` be `before` and then `x`. If the invariant of `past_of` holds of `rest`, and `x` passes `p`, the
+-- invariant holds of `before`.
 pub past_goes_on : {X : Type 0} (p : X → Bool) (all rest before : List X) (x : X) → rest ≡ before ++ x ∷ [] → p x ≡ true
     → length rest + suffix_len p all ≡ length all + suffix_len p rest
     → length before + suffix_len p all ≡ length all + suffix_len p before
@@ -34,8 +34,8 @@ past_goes_on p all rest before x is passes left =
     let long : length rest ≡ length before + 1 = ap length is ∙ length-append before (x ∷ []) in
     omega (arith, many, long, left)
 
--- Let the invariant of `past_of` hold of `rest`. If its last item `x` fails `p`, the items after `rest` are the last
--- that pass.
+-- Let the invariant of `past_of` hold of `rest`, whose last item is `x`. If `x` fails `p`, the items after `rest` are
+-- those at the end of `all` that pass.
 pub past_ends_here : {X : Type 0} (p : X → Bool) (all rest before : List X) (x : X) → rest ≡ before ++ x ∷ [] → p x ≡ false
     → length rest + suffix_len p all ≡ length all + suffix_len p rest → length rest + suffix_len p all ≡ length all
 past_ends_here p all rest before x is fails left =
@@ -43,7 +43,7 @@ past_ends_here p all rest before x is fails left =
     ap (suffix_len p) is ∙ suffix_last p before x ∙ ap (λ b. cond b (1 + suffix_len p before) 0) fails in
     omega (arith, none, left)
 
--- If the invariant of `past_of` holds and `rest` is empty, all items are the last ones that pass.
+-- If the invariant of `past_of` holds of `rest`, and `rest` is empty, all items of `all` pass `p`.
 pub past_is_none : {X : Type 0} (p : X → Bool) (all rest : List X) → rest ≡ []
     → length rest + suffix_len p all ≡ length all + suffix_len p rest → suffix_len p all ≡ length all
 past_is_none p all rest none left =
@@ -100,7 +100,7 @@ after_it f before x after passes none =
     ∙ ap (λ n. drop n (xs ++ after)) cut
     ∙ drop-append_seam xs after
 
--- If none of `before` passes `f`, the first items that fail it are `before` and the first of `after`.
+-- If none of `before` passes `f`, the first items that fail `f` are `before` and the first of `after` that fail.
 fail_over : {X : Type 0} (f : X → Bool) (before after : List X) → list_any f before ≡ false
     → prefix_len (λ x. not (f x)) (before ++ after) ≡ length before + prefix_len (λ x. not (f x)) after
 fail_over f [] after none = omega arith
@@ -118,7 +118,7 @@ few_first p (x ∷ xs) = go (p x) (few_first p xs)
     go true few = omega (arith, few)
     go false few = omega arith
 
--- If none of `later` passes `f`, `after_last f` of `xs ++ later` is that of `xs`, and then `later`.
+-- If none of `later` passes `f`, `after_last f` of `xs ++ later` is `after_last f xs`, and then `later`.
 pub after_more : {X : Type 0} (f : X → Bool) (xs later : List X) → list_any f later ≡ false
     → after_last f (xs ++ later) ≡ after_last f xs ++ later
 after_more {X} f xs later none =
@@ -133,8 +133,8 @@ after_more {X} f xs later none =
     omega (arith, many, few, length-append xs later) in
     ap (λ n. drop n (xs ++ later)) cut ∙ drop-append-le (length xs - suffix_len fails xs) xs later (omega arith)
 
--- Let the messages after the first `past` be those at the end that did not come before `day`. Then they are those
--- after the last one that did.
+-- Let `past` messages stand before the longest end of `came` in which none came before `day`. Then that end has the
+-- messages after the last one that came before `day`.
 pub told_from : (day : Date) (lines : List (List ℕ)) (came : List Apdu) (past : ℕ)
     → past + suffix_len (λ a. not (came_before day lines a)) came ≡ length came
     → take (length came - past) (drop past came) ≡ after_last (came_before day lines) came
@@ -142,12 +142,12 @@ told_from day lines came past is =
     let cut : past ≡ length came - suffix_len (λ a. not (came_before day lines a)) came = omega (arith, is) in
     take_all (length came - past) (drop past came) (omega (arith, length-drop past came)) ∙ ap (λ n. drop n came) cut
 
--- If no message came before the day, all that are no repeats are told.
+-- If no message of `came` came before the day, all of them but repeats are told.
 pub all_told : (day : Date) (lines : List (List ℕ)) (came : List Apdu) → list_any (came_before day lines) came ≡ false
     → came_since (Some day) lines came ≡ filter (is_new day lines) came
 all_told day lines came none = ap (filter (is_new day lines)) (all_after (came_before day lines) came none)
 
--- If `a` came before `day` and none of `later` did, those of `later` that are no repeats are told.
+-- If `a` came before `day` and none of `later` did, `later` without repeats is told, and no other message.
 pub later_told : (day : Date) (lines : List (List ℕ)) (came later : List Apdu) (a : Apdu) → came_before day lines a ≡ true
     → list_any (came_before day lines) later ≡ false
     → came_since (Some day) lines (came ++ a ∷ later) ≡ filter (is_new day lines) later
@@ -164,7 +164,7 @@ named_told day lines a named = go (is_named_before day (came_key a) lines)
     go true = rw named refl
     go false = refl
 
--- ---- repeats
+-- ---- messages that no line names, and repeats
 
 -- If what a line `said` names no message with this `key`, the line gives no day of it.
 no_day : (key : List ℕ) (said : Option Said) → has_key key said ≡ false → day_if key said ≡ []
@@ -209,7 +209,7 @@ no_repeat day lines came a named =
     none_kept (λ b. bytes_eq (came_key b) (came_key a)) (is_new day lines) (after_last (came_before day lines) came)
     (λ b same. ap not (ap (λ key. is_named_before day key lines) ((bytes_eq-Decides (came_key b) (came_key a)).0 same) ∙ named))
 
--- If each of the messages is named by a line of the day or later, none came before.
+-- If lines of the day or later name each message of `later`, none of these came before the day.
 none_before_day : (day : Date) (lines : List (List ℕ)) (later : List Apdu)
     → Each (λ b. is_named_since day (came_key b) lines ≡ true) later → list_any (came_before day lines) later ≡ false
 unfolding Each

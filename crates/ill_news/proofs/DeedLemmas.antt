@@ -17,13 +17,14 @@ use Rattle.ill_record.specs.Ranges.{Each}
 use Rattle.ill_beside.specs.Heard.{is_heard, responder_heard}
 use Rattle.ill_news.specs.Deeds.{deeds_at, deeds_since, is_by_date, is_deed_since}
 
--- If `x` passes, it stands between the items of `first` and those of `last` that pass.
+-- If `x` passes `keeps`, `filter keeps` leaves it between the items of `first` and those of `last` that pass.
 pub kept_within : {X : Type 0} (keeps : X → Bool) (first last : List X) (x : X) → keeps x ≡ true
     → filter keeps (first ++ x ∷ last) ≡ filter keeps first ++ x ∷ filter keeps last
 kept_within keeps first last x is =
     filter-append keeps first (x ∷ last) ∙ ap (λ rest. filter keeps first ++ rest) (rw is refl)
 
--- If `y` issued `a`, and a date has made `a` due since `day`, `a` is among the deeds told.
+-- If `y` issued `a`, and a date has made `a` due since `day`, `a` is among the deeds told. `here` has the deeds of
+-- the sides before `y`, and `rest` those of the sides after it.
 pub deed_told : (day : Date) (lines : List (List ℕ)) (before after : List Side) (y : ResponderRecord) (first last : List Apdu)
     (a : Apdu) → y.issued ≡ first ++ a ∷ last → is_deed_since day lines a ≡ true
     → (more less : List Apdu) × (deeds_since (Some day) lines (before ++ Responder y ∷ after) ≡ more ++ a ∷ less)
@@ -53,7 +54,7 @@ each_kept keeps (x ∷ xs) = go (keeps x) refl (each_kept keeps xs)
     go true is rest = (is, rest)
     go false is rest = rest
 
--- If `P` holds of each item of both lists, it holds of each of their join.
+-- If `P` holds of each item of both lists, it holds of each item of the joined list.
 each_joined : {X : Type 0} (P : X → Type 0) (xs more : List X) → Each P xs → Each P more → Each P (xs ++ more)
 unfolding Each
 each_joined P [] more each others = others

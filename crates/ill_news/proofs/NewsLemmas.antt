@@ -81,7 +81,7 @@ one_of_three now false false true so one = refl
 one_of_three true false false false so one = so refl
 one_of_three false false false false so one = one
 
--- If `a` is told after the messages `came`, it was told before, or is one of them and was taken.
+-- If `a` is told after the messages `came`, it was told before, or `came` has it and it was taken.
 told_or_came : (sides : List Side) (news came : List Apdu) (a : Apdu) → is_told (fold (with_news sides) news came) a ≡ true
     → (is_told news a || came_and_taken sides came a) ≡ true
 told_or_came sides news [] a told = search (rules, told)

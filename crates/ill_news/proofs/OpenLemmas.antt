@@ -41,7 +41,7 @@ and_false_left false other off = refl
 
 -- ---- what is open stays news
 
--- An open answer that was taken is told, if it is not told as recent.
+-- If an open answer was taken and is not told as recent, it is told among the open answers.
 left_told : (notes : List (List ℕ)) (sides : List Side) (recent before after : List Apdu) (a : Apdu)
     → heard_at sides a ≡ true → is_left notes recent a ≡ true
     → is_told (news_of sides (left_open notes recent (before ++ a ∷ after))) a ≡ true
@@ -50,7 +50,7 @@ left_told notes sides recent before after a heard left =
     ap (λ (came : List Apdu). is_told (news_of sides came) a) (kept_within keeps before after a left)
     ∙ taken_is_told sides (filter keeps before) (filter keeps after) a heard
 
--- An open answer that was taken is told, or it is told as recent.
+-- If an answer was taken and is open (`is_kept`), it is told among the open answers or as recent.
 told_with_open : (notes : List (List ℕ)) (sides : List Side) (recent before after : List Apdu) (a : Apdu)
     → heard_at sides a ≡ true → is_open notes a ≡ true
     → is_told (with_open notes sides recent (before ++ a ∷ after)) a ≡ true
@@ -66,7 +66,7 @@ told_with_open notes sides recent before after a heard is_kept =
         ap (λ first. first || is_told recent a)
         (left_told notes sides recent before after a heard (ap (λ b. b && not (is_told recent a)) is_kept ∙ ap not is))
 
--- An open answer that was taken is told.
+-- If an answer was taken and is open (`is_kept`), it is told.
 pub open_told : (since : Option Date) (notes lines : List (List ℕ)) (sides : List Side) (before after : List Apdu) (a : Apdu)
     → heard_at sides a ≡ true → is_open notes a ≡ true
     → is_told (told_since since notes lines sides (before ++ a ∷ after)) a ≡ true
@@ -77,13 +77,13 @@ open_told since notes lines sides before after a heard is_kept =
     told_in_both (with_open notes sides recent came) deeds a
     ∙ ap (λ first. first || is_told deeds a) (told_with_open notes sides recent before after a heard is_kept)
 
--- ---- what is done is told once
+-- ---- messages that are not open are told as recent or as deeds alone
 
 -- No message of a loan whose note says `done` is open.
 done_shut : (notes : List (List ℕ)) (a : Apdu) → says_done (note_of notes a.txn) ≡ true → is_open notes a ≡ false
 done_shut notes a done = and_false_right (is_asking a.body) (not (says_done (note_of notes a.txn))) (ap not done)
 
--- If the note of the loan of `a` says `done`, no message `b` the same as `a` is left.
+-- Let the note of the loan of `a` say `done`. If a message `b` is the same as `a` and was taken, it is not left open.
 done_not_left : (notes : List (List ℕ)) (sides : List Side) (recent : List Apdu) (a b : Apdu)
     → says_done (note_of notes a.txn) ≡ true → (is_same b a && heard_at sides b) ≡ true → is_left notes recent b ≡ false
 done_not_left notes sides recent a b done named =
@@ -98,16 +98,17 @@ not_left : (notes : List (List ℕ)) (sides : List Side) (recent came : List Apd
     → says_done (note_of notes a.txn) ≡ true → is_told (news_of sides (left_open notes recent came)) a ≡ false
 not_left notes sides recent came a done = go (is_told (news_of sides left) a) refl
   where
-    -- The open answers that `recent` lack.
+    -- The open answers in `came` that `recent` lacks.
     left : List Apdu
     left = left_open notes recent came
 
-    -- None of them is the same as `a` and was taken.
+    -- No message of `left` is the same as `a` and was taken.
     none : list_any (λ b. is_same b a && heard_at sides b) left ≡ false
     none = none_kept (λ b. is_same b a && heard_at sides b) (is_left notes recent) came
         (λ b named. done_not_left notes sides recent a b done named)
 
-    -- If `a` were told, by `told_was_taken` one of them would be the same and taken.
+    -- `is` is true if `a` is told among the messages of `left`. By `told_was_taken` one of them would be the same as
+    -- `a` and taken then.
     go : (is : Bool) → is_told (news_of sides left) a ≡ is → is_told (news_of sides left) a ≡ false
     go false is = is
     go true is = absurd (true≢false (sym (told_was_taken sides left a is) ∙ none))
@@ -125,7 +126,7 @@ done_told since notes lines sides came a done =
     ∙ told_in_both left (recent ++ deeds) a
     ∙ ap (λ first. first || is_told (recent ++ deeds) a) (not_left notes sides recent came a done)
 
--- If no message is open, none is left.
+-- If no message is open, none is left open.
 none_left : (notes : List (List ℕ)) (news came : List Apdu) → list_any (is_open notes) came ≡ false
     → left_open notes news came ≡ []
 none_left notes news [] none = refl

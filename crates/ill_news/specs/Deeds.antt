@@ -12,7 +12,7 @@ use Rattle.ill_text.specs.Diary.{message_key}
 use Rattle.ill_beside.specs.Diary.{body_verb}
 use Rattle.ill_news.specs.CameSince.{is_named_before, is_named_since}
 
--- Returns true for a message that a date makes due.
+-- Returns true for a message that a date makes due: an Overdue or an Expired.
 abbrev pub is_by_date : Body → Bool
 is_by_date (Overdue day) = true
 is_by_date Expired = true
@@ -30,12 +30,13 @@ is_done_since day lines a = is_named_since day (deed_key a) lines && not (is_nam
 abbrev pub is_deed_since : Date → (lines : List (List ℕ)) → Apdu → Bool
 is_deed_since day lines a = is_by_date a.body && is_done_since day lines a
 
--- Returns what dates have made due at a side since a day. At a requester it is nothing.
+-- Returns the messages of a side that dates have made due since `day`, by the lines of a diary. A requester has none.
 abbrev pub deeds_at : Date → (lines : List (List ℕ)) → Side → List Apdu
 deeds_at day lines (Requester x) = []
 deeds_at day lines (Responder y) = filter (is_deed_since day lines) y.issued
 
--- Returns what dates have made due at the sides of a desk since a day, in the order of the sides. Without a day it is nothing.
+-- Returns the messages of `sides` that dates have made due since a day, in the order of the sides. Without a day
+-- there are none.
 abbrev pub deeds_since : Option Date → (lines : List (List ℕ)) → List Side → List Apdu
 deeds_since None lines sides = []
 deeds_since (Some day) lines sides = flat_map (deeds_at day lines) sides

@@ -52,14 +52,16 @@ abbrev pub last_of : Option ℕ → List Apdu → List Apdu
 last_of None news = news
 last_of (Some count) news = drop (length news - count) news
 
--- ---- the loan of a message
+-- ---- the words of a message
 
--- Returns the words of a message with this body in the loan of a side, if there is one.
+-- Returns the words of a message with this body. If there is a side of its loan, a refused renewal has the due date
+-- of its record.
 abbrev pub words_by : Option Side → Body → List ℕ
 words_by None body = news_words None body
 words_by (Some side) body = told_words side body
 
--- Returns the words of the message. Those of a refused renewal have the due date of the record.
+-- Returns the words of the message `a`. Those of a refused renewal have the due date of the record in `sides`, if
+-- there is one.
 abbrev pub words_at : List Side → Apdu → List ℕ
 words_at sides a = words_by (side_with a.txn sides) a.body
 
@@ -69,7 +71,7 @@ words_at sides a = words_by (side_with a.txn sides) a.body
 abbrev pub no_columns : NewsColumns
 no_columns = record { group = 0; transaction = 0; words = 0 }
 
--- Returns `columns`, and each as wide as the text of the message at least.
+-- Returns `columns`, each made as wide as the text of the message in it at least.
 abbrev pub widened : List Side → NewsColumns → Apdu → NewsColumns
 widened sides columns a = record {
   group = max columns.group (length (column a.txn.group));
@@ -110,7 +112,7 @@ told_fields side words a =
     ∷ (codes "transaction", quoted a.txn.transaction) ∷ (codes "number", decimal a.number)
     ∷ (codes "words", quoted words) ∷ (codes "item", optional quoted (item_of side)) ∷ []
 
--- Returns the fields of a message.
+-- Returns the fields of a message, with its words and the item of its loan.
 abbrev pub news_fields : List Side → Apdu → List Field
 news_fields sides a = told_fields (side_with a.txn sides) (words_at sides a) a
 
@@ -124,7 +126,8 @@ news_objects file sides shown = flat_map (news_object file sides) shown
 
 -- ---- a desk
 
--- Returns the text of a desk with `news`, of which the last ones are shown.
+-- Returns the text of a desk with `news`, of which the last `last` are shown. Without `last` all are shown. If
+-- `is_headed` is true, it has the path of the desk.
 abbrev pub news_desk : Form → (is_headed : Bool) → (last : Option ℕ) → (path : List ℕ) → List Side → List Apdu → List ℕ
 news_desk Lines is_headed last path sides news = heading is_headed path ++ news_lines sides news (last_of last news)
 news_desk Json is_headed last path sides news = news_objects (file_told is_headed path) sides (last_of last news)

@@ -9,11 +9,13 @@ use Rattle.ill_news.specs.Deeds.{deeds_since}
 use Rattle.ill_news.specs.News.{news_of}
 use Rattle.ill_news.specs.OpenAnswers.{left_open}
 
--- Returns what came to a desk since a day and was taken, by the lines of its diary.
+-- Returns what came to a desk since a day and was taken, by the lines of its diary. Without a day it is all that came
+-- and was taken.
 abbrev pub recent_of : Option Date → (lines : List (List ℕ)) → List Side → (came : List Apdu) → List Apdu
 recent_of since lines sides came = news_of sides (came_since since lines came)
 
--- Returns the open answers in `came` that were taken, and then `recent`, which they lack. So each is told once.
+-- Returns the open answers in `came` that were taken and that `recent` lacks, and then `recent`. So each message is
+-- told once.
 abbrev pub with_open : (notes : List (List ℕ)) → List Side → (recent came : List Apdu) → List Apdu
 with_open notes sides recent came = news_of sides (left_open notes recent came) ++ recent
 

@@ -10,7 +10,7 @@ use ill_text::diary::message_key;
 use ill_values::{Apdu, Day, Number, OutOfMemory};
 use std::alloc::Global;
 
-/// The messages that came to a desk, and which of them are told.
+/// The messages that came to a desk. The notes, the diary, the day and the number say which of them are told.
 #[derive(Clone, Copy)]
 pub struct Came<'a> {
     /// The bytes of the messages, one after another.
@@ -19,14 +19,15 @@ pub struct Came<'a> {
     pub notes: &'a Notes,
     /// The diary.
     pub diary: &'a KeyedDiary,
-    /// The day from which on they are told. Without one all messages are told.
+    /// The day since which messages are told. Without a day all messages are told.
     pub since: Option<Day>,
-    /// The number of the last ones that are shown. Without one all that are told are shown.
+    /// The number of the last told messages that are shown. Without a number all of them are shown.
     pub last: Option<Number>,
 }
 
 impl Came<'_> {
-    /// Returns those of the messages `apdus` that are told: those that came on the day or later, or all without a day.
+    /// Returns those of the messages `apdus` that are told. With a day these are the ones that came on the day or
+    /// later, without repeats. Without a day these are all.
     pub(crate) fn told<'b>(
         &self,
         alloc: Global,
@@ -53,7 +54,8 @@ fn all_of<'a>(alloc: Global, apdus: &'a [Apdu]) -> Result<Vec<&'a Apdu>, OutOfMe
     Ok(all)
 }
 
-/// Returns those of the messages `apdus` that came on `day` or later, by the lines of `diary`.
+/// Returns those of the messages `apdus` that came on `day` or later, by the lines of `diary`. Repeats of older
+/// messages are left out.
 pub(crate) fn later<'a>(
     alloc: Global,
     day: Day,
@@ -67,7 +69,7 @@ pub(crate) fn later<'a>(
     new_of(alloc, day, diary, end)
 }
 
-/// Returns the messages of `apdus` after the last one that came before `day`.
+/// Returns the messages of `apdus` after the last one that came before `day`, or all of them if none did.
 #[tactic(auto, using(crate::proofs::CameSinceLemmas::told_from))]
 fn end_of<'a>(
     alloc: Global,
@@ -115,7 +117,7 @@ fn push_if_new<'a>(
     Ok(())
 }
 
-/// Returns the number of messages up to the last one of `apdus` that came before `day`.
+/// Returns the number of messages up to the last one of `apdus` that came before `day`, or 0 if none did.
 #[tactic(auto, using(crate::proofs::CameSinceLemmas::past_goes_on, crate::proofs::CameSinceLemmas::past_ends_here, crate::proofs::CameSinceLemmas::past_is_none))]
 fn past_of(
     alloc: Global,

@@ -94,7 +94,7 @@ fn push_if_deed(
     Ok(())
 }
 
-/// Returns true for a message that a date makes due.
+/// Returns true for a message that a date makes due: an Overdue or an Expired.
 fn is_by_date(body: &Body) -> bool
     ensures { result ≡ is_by_date body.now }
 {

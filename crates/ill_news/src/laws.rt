@@ -32,7 +32,7 @@ pub fn nothing_else_is_news()
 {}
 
 /// What came since a day is told, but for repeats: all after the last message that came before, or all if none did. A
-/// message came before if a line of the diary names it, and no line of the day or later does.
+/// message that no line of the diary names did not come before. Nor did one that a line of the day or later names.
 #[tactic(auto, using(crate::proofs::CameSinceLemmas::all_told, crate::proofs::CameSinceLemmas::later_told, crate::proofs::CameSinceLemmas::unnamed_told, crate::proofs::CameSinceLemmas::named_told))]
 pub fn what_came_since_is_told()
     ensures all { (day : Date) (lines : List (List ℕ)) (came : List Apdu) →
@@ -72,8 +72,8 @@ pub fn an_open_answer_stays_news()
         is_told (told_since since notes lines sides (before ++ a ∷ after)) a ≡ true }
 {}
 
-/// No other message stays news. If the note of a loan begins with `done`, its messages are told on their day alone. If no
-/// message is open, what is told came on the day or later, or a date has made it due.
+/// No other message stays news. Let the note of a loan begin with `done`. Then its messages are told only if they
+/// came since the day, or a date made them due. If no message is open, this holds of all messages.
 #[tactic(auto, using(crate::proofs::OpenLemmas::done_told, crate::proofs::OpenLemmas::none_told))]
 pub fn nothing_else_stays_news()
     ensures done { (since : Option Date) (notes lines : List (List ℕ)) (sides : List Side) (came : List Apdu) (a : Apdu) →
@@ -91,8 +91,8 @@ pub fn what_a_date_made_due_is_news()
         (more less : List Apdu) × (deeds_since (Some day) lines (before ++ Responder y ∷ after) ≡ more ++ a ∷ less) }
 {}
 
-/// Nothing else is told as such: an Overdue or an Expired that the diary names on the day or later, and not before. No
-/// message that came to a responder is one, so the words tell both apart.
+/// Nothing else is told as made due by a date. It is an Overdue or an Expired that the diary names on the day or
+/// later, and not before. No message that came to a responder is one of these, so the words tell both apart.
 #[tactic(auto, using(crate::proofs::DeedLemmas::heard_apart))]
 pub fn nothing_else_was_made_due()
     ensures deeds { (day : Date) (lines : List (List ℕ)) (sides : List Side) →

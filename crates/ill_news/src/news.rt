@@ -50,13 +50,13 @@ pub(crate) struct NewsColumns {
     pub words: usize,
 }
 
-/// Writes a line or an object of JSON for each message in `came` that a side of `desk` has taken. Each is written once,
-/// in the order in which they came. If `came` says how many, only the last ones are written. After lines it writes one
-/// that counts the messages.
+/// Writes a line or an object of JSON for each message in `came` that a side of `desk` has taken. Each is written
+/// once, in the order in which they came. If `came` says how many, only the last ones are written. After lines it
+/// writes one that counts the messages. `listed` has the form, and says if the path of the desk is written.
 ///
-/// `came` has the bytes that `take --keep`, `inbox` and `exchange` have kept. A part that is no message, and all bytes
-/// after it, are ignored. With a day, only what came since is written. Before it stand open answers of earlier days, and
-/// after it the messages of the desk itself that dates have made due since that day.
+/// `came` has the bytes that `take --keep`, `inbox` and `exchange` have kept. A part that is no message, and all
+/// bytes after it, are ignored. With a day, only what came since is written. Before it stand open answers of earlier
+/// days. After it stand the desk's own messages that dates have made due since that day.
 pub fn run_desk_news<S: Store, W: Write>(
     alloc: Global,
     desk: &Desk<S>,
@@ -75,7 +75,7 @@ pub fn run_desk_news<S: Store, W: Write>(
     }
 }
 
-/// Returns the text of the news of `sides` in `came`.
+/// Returns the text of the news of `sides`, by the bytes, the notes and the diary in `came`.
 fn text_of_news(
     alloc: Global,
     sides: &Sides,
@@ -92,8 +92,8 @@ fn text_of_news(
     desk_text(alloc, sides, listed, came.last, &news)
 }
 
-/// Returns the news of a desk with these sides, to which `apdus` came: open answers, what they have taken, and what dates have
-/// made due.
+/// Returns the news of a desk with these sides, to which `apdus` came. They are open answers, the messages that the
+/// sides have taken, and what dates have made due. `came` has the notes, the diary and the day.
 fn told_since(
     alloc: Global,
     sides: &Sides,
@@ -109,7 +109,7 @@ fn told_since(
     Ok(news)
 }
 
-/// Returns those of the messages `apdus` that came to a desk with these sides since the day, and that they have taken.
+/// Returns those of the messages `apdus` that came since the day in `came`, and that the sides have taken.
 fn recent_of(
     alloc: Global,
     sides: &Sides,
@@ -123,7 +123,7 @@ fn recent_of(
     news_of(alloc, sides, &told)
 }
 
-/// Returns the open answers in `came` that `sides` have taken, and then `recent`, which they lack.
+/// Returns the open answers in `came` that `sides` have taken and that `recent` lacks, and then `recent`.
 fn with_open(
     alloc: Global,
     sides: &Sides,
@@ -139,8 +139,9 @@ fn with_open(
     Ok(news)
 }
 
-/// Returns the news of a desk with these sides since a day, by `annex`: open answers, the messages that they have taken since,
-/// and then what dates have made due. Each is told once. Without a day no news are told.
+/// Returns the news of a desk with these sides since a day, by `annex`. They are open answers, the messages that the
+/// sides have taken since, and what dates have made due. Each is told once. Without a day no news are told, and the
+/// result is `None`.
 pub fn news_since(
     alloc: Global,
     sides: &Sides,
@@ -165,7 +166,7 @@ pub fn news_since(
     }
 }
 
-/// Returns the messages in `came` that a side of `sides` has taken, each once.
+/// Returns the messages in `came` that a side of `sides` has taken, each once, in their order.
 fn news_of(alloc: Global, sides: &Sides, came: &[&Apdu]) -> Result<Vec<Apdu>, OutOfMemory>
     ensures { IfOk result (λ news. news.items ≡ news_of sides.now.sides (map (λ a. a.now) came.now)) }
 {
@@ -204,7 +205,7 @@ fn heard_by(side: Option<&Side>, apdu: &Apdu) -> bool
     }
 }
 
-/// Returns the last `count` messages of `news`, or all of them.
+/// Returns the last `count` messages of `news`, or all of them without a count.
 fn last_of(news: &[Apdu], count: Option<Number>) -> &[Apdu]
     ensures { result.now ≡ last_of count news.now }
 {
@@ -214,7 +215,7 @@ fn last_of(news: &[Apdu], count: Option<Number>) -> &[Apdu]
     }
 }
 
-/// Returns the text of a desk with `news`, of which the last ones are shown.
+/// Returns the text of a desk with `news`, of which the last `last` are shown. Without `last` all are shown.
 fn desk_text(
     alloc: Global,
     sides: &Sides,
@@ -292,7 +293,7 @@ fn columns_of(alloc: Global, sides: &Sides, shown: &[Apdu]) -> Result<NewsColumn
     Ok(columns)
 }
 
-/// Returns `columns`, and each as wide as the text of `apdu` at least.
+/// Returns `columns`, each made as wide as the text of `apdu` in it at least.
 fn widened(
     alloc: Global,
     sides: &Sides,
@@ -311,14 +312,16 @@ fn widened(
     })
 }
 
-/// Returns the words of `apdu`. Those of a refused renewal have the due date of the record.
+/// Returns the words of `apdu`. Those of a refused renewal have the due date of the record in `sides`, if there is
+/// one.
 fn words_at(alloc: Global, sides: &Sides, apdu: &Apdu) -> Result<Vec<u8>, OutOfMemory>
     ensures { IfOk result (λ words. words.items ≡ words_at sides.now.sides apdu.now) }
 {
     words_by(alloc, sides.get(&apdu.txn), &apdu.body)
 }
 
-/// Returns the words of a message with this body in the loan of `side`, if there is one.
+/// Returns the words of a message with this body. If there is a `side` of its loan, a refused renewal has the due
+/// date of its record.
 fn words_by(alloc: Global, side: Option<&Side>, body: &Body) -> Result<Vec<u8>, OutOfMemory>
     ensures { IfOk result (λ words. words.items ≡ words_by (option_copied side.entry) body.now) }
 {
@@ -431,7 +434,7 @@ fn push_object(
     push_plain(text, "}\n")
 }
 
-/// Appends the fields of `apdu`, and the path of the desk.
+/// Appends the fields of `apdu`, and the path `file` of the desk, if it is given.
 fn push_fields_and_file(
     text: &mut Vec<u8>,
     file: Option<&str>,
@@ -454,7 +457,7 @@ fn push_fields(text: &mut Vec<u8>, sides: &Sides, apdu: &Apdu) -> Result<(), Out
     push_told(text, apdu, &words, sides.get(&apdu.txn))
 }
 
-/// Appends the fields of `apdu`, with its words and the side of its loan.
+/// Appends the fields of `apdu`, with its words `words` and the item of the loan of `side`.
 #[tactic(auto, unfolding(ill_text::specs::Json::joined))]
 fn push_told<'a>(
     text: &mut Vec<u8>,

@@ -9,7 +9,8 @@ use Rattle.ill_news.specs.Told.{told_since}
 use Rattle.ill_rows.proofs.MessageLemmas.{writes_news}
 use Rattle.ill_news.proofs.news.run_desk_news.Goals as goal
 
--- Proves the contract of `run_desk_news` if there is memory for the text. The text of the desk's sides is written.
+-- Proves the contract of `run_desk_news` if there is memory for the text. The text of the news of the desk's sides is
+-- written.
 pub returns-in-Ok : goal.returns-in-Ok
 returns-in-Ok g c =
     let listed = c.args.listed.now in

@@ -8,12 +8,12 @@ three_added before first second third one two three e f g =
     g ∙ ap (λ text. text ++ three) (f ∙ ap (λ text. text ++ two) e) ∙ append_assoc (before ++ one) two three
     ∙ append_assoc before one (two ++ three)
 
--- Joining five texts one by one after `before` equals joining their join after it.
+-- Appending five texts one by one to `before` equals appending the join of the five.
 five_joined : (before one two three four five : List ℕ)
     → before ++ one ++ two ++ three ++ four ++ five ≡ before ++ (one ++ (two ++ (three ++ (four ++ five))))
 five_joined before one two three four five = simp append_assoc refl
 
--- After four texts were appended one by one, the text with a fifth one is the first one with the join of all five.
+-- If four texts were appended to `before` one by one, a fifth one gives `before` with all five joined.
 pub four_added : (before first second third fourth one two three four five : List ℕ) → first ≡ before ++ one
     → second ≡ first ++ two → third ≡ second ++ three → fourth ≡ third ++ four
     → fourth ++ five ≡ before ++ (one ++ (two ++ (three ++ (four ++ five))))

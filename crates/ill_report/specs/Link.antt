@@ -1,5 +1,4 @@
--- The URLs of loans, relative to the program that shows them, and links to them. A request for one asks for the page of its
--- loan.
+-- The URLs of the pages of loans, relative to the program that shows the pages, and links to them.
 use Rattle.std.specs.Prelude.{ℕ, List, ◌++◌, codes, Option, Some, None}
 use Rattle.form_urlencoded.specs.Form.{byte_serialize}
 use Rattle.ill_values.specs.TxnId.{Qualifiers}
@@ -16,7 +15,7 @@ pub record PlaceShown : Type 0 where
 abbrev pub place_shown : Place → PlaceShown
 place_shown place = record { desk = place.desk.now; txn = place.txn.now }
 
--- Returns `name`, and `text` as a form writes it.
+-- Returns `name`, and then `text` as a form of HTML encodes it.
 unfoldable pub named_text : List ℕ → List ℕ → List ℕ
 named_text name text = name ++ byte_serialize text
 

@@ -38,8 +38,8 @@ use Rattle.ill_beside.specs.Notes.{note_of}
 use Rattle.ill_beside.specs.Since.{AnnexRead, since_of}
 use Rattle.ill_beside.specs.StateWords.{state_words}
 
--- The day of a page, the words that its loans have, if any are sought, and the text for its desk in the links of its rows, if
--- they have links.
+-- The view of a page: its day `today`, and the words that are sought in its loans, if any are (`find`). If its rows
+-- have links, `linked` is the text that names the desk in them.
 pub record PageShown : Type 0 where
   pub today : Date
   pub find : Option (List ℕ)
@@ -57,7 +57,7 @@ page_shown view = record {
 abbrev pub report_of : Date → PageShown
 report_of today = record { today = today; find = None; linked = None }
 
--- ---- a loan
+-- ---- the row of a loan
 
 -- Returns the words of a deadline: the due date, or else the expiry date of the request, if there is one.
 abbrev pub deadline_text : Option Date → Option Date → List ℕ
@@ -133,7 +133,8 @@ counted words count = words ++ decimal count
 abbrev pub is_to_do : Date → Side → Bool
 is_to_do today side = wants_a_hand (kind_of_work today SOON side)
 
--- Returns the counts of a desk: loans that want a hand, open loans, all loans, and the room for further ones.
+-- Returns the counts of a desk on the day `today`. They are of loans that want a hand, open loans, all loans, and the
+-- room for further ones.
 unfoldable pub counts_text : Date → List Side → List ℕ
 counts_text today sides =
     counted TO_DO.now (count_by (is_to_do today) sides)
@@ -178,17 +179,17 @@ unfoldable pub desk_text : PageShown → (file : List ℕ) → List Side → Ann
 desk_text page file sides annex =
     DESK.now ++ (html_text file ++ (loans_text page annex (most_urgent_first sides) ++ DESK_END.now))
 
--- ---- a page
+-- ---- a desk that cannot be read, and the head and the end of a page
 
 -- Returns the part of a page about a desk that cannot be read: its file, and the text of the fault.
 unfoldable pub unread_text : List ℕ → List ℕ → List ℕ
 unread_text file words = DESK.now ++ (html_text file ++ (UNREAD.now ++ (html_text words ++ UNREAD_END.now)))
 
--- Returns the text before the desks of a page. `style` has further rules of its style.
+-- Returns the text before the desks of a page of this day. `style` has further rules of its style.
 unfoldable pub page_head_with : (style : List ℕ) → Date → List ℕ
 page_head_with style today = PAGE.now ++ (style ++ (STYLE_END.now ++ (iso_text today ++ DESKS.now)))
 
--- Returns the text before the desks of a report.
+-- Returns the text before the desks of a report of this day.
 abbrev pub page_head : Date → List ℕ
 page_head today = page_head_with [] today
 

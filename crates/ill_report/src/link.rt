@@ -38,7 +38,7 @@ pub fn push_place(text: &mut Vec<u8>, place: &Place<'_>) -> Result<(), OutOfMemo
     push_named(text, "&transaction=", place.txn.transaction())
 }
 
-/// Appends `name`, and `value` as a form writes it.
+/// Appends `name`, and then `value` as a form of HTML encodes it.
 #[tactic(auto, unfolding(crate::specs::Link::named_text))]
 fn push_named(text: &mut Vec<u8>, name: &str, value: &[u8]) -> Result<(), OutOfMemory>
     ensures { OnOk result (text.new.items ≡ text.old.items ++ named_text name.now value.now) }
@@ -47,7 +47,7 @@ fn push_named(text: &mut Vec<u8>, name: &str, value: &[u8]) -> Result<(), OutOfM
     push_serialized(text, value)
 }
 
-/// Appends `value` as a form writes it: of letters, digits and `*-._+%` alone.
+/// Appends `value` as a form of HTML encodes it: of letters, digits and `*-._+%` alone.
 fn push_serialized(text: &mut Vec<u8>, value: &[u8]) -> Result<(), OutOfMemory>
     ensures { OnOk result (text.new.items ≡ text.old.items ++ byte_serialize value.now) }
 {

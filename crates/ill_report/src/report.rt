@@ -45,14 +45,14 @@ use itoa::Buffer;
 use std::alloc::Global;
 use std::io::Write;
 
-/// The view of a page.
+/// The day of a page, the words that are sought in its loans, and the desk in its links.
 #[derive(Clone, Copy)]
 pub struct PageView<'a> {
     /// The day of the page.
     pub today: Day,
     /// The words that are sought, if there are any. Only loans that have them have a row.
     pub find: Option<&'a str>,
-    /// The text for the desk in the links of its rows, if they have links.
+    /// The text that names the desk in the links of its rows, if they have links.
     pub linked: Option<&'a str>,
 }
 
@@ -96,7 +96,7 @@ pub fn end_page<W: Write>(mut page: Vec<u8>, writer: &mut W) -> Result<(), ToolF
     write_whole(writer, &page)
 }
 
-/// Appends the part of the desk in `file`, with what its annex tells of its loans.
+/// Appends the part of the desk in `file`, which has the sides `sides`, with what its annex tells of its loans.
 #[tactic(auto, unfolding(crate::specs::Report::desk_text))]
 pub fn push_desk(
     page: &mut Vec<u8>,
@@ -116,7 +116,7 @@ pub fn push_desk(
     Ok(())
 }
 
-/// Appends the part of the desk in `file`, which cannot be read: the text of its fault.
+/// Appends the part of the desk in `file`, which cannot be read: the file and the text of `fault`.
 pub fn push_fault(page: &mut Vec<u8>, file: &str, fault: ToolFault) -> Result<(), OutOfMemory>
     ensures { OnOk result ((words : List ℕ) × (page.new.items ≡ page.old.items ++ unread_text file.now words)) }
 {
@@ -205,7 +205,7 @@ fn is_to_do(today: Day, side: &Side) -> bool
     Work::of(side, today, SOON).wants_a_hand()
 }
 
-/// Appends a table for each of `works` that a loan has.
+/// Appends a table for each kind of work in `works` that one of the loans of `sides` has.
 fn push_works(
     page: &mut Vec<u8>,
     view: &PageView<'_>,
@@ -492,7 +492,7 @@ fn push_deadline(
     }
 }
 
-/// Appends `words`, and then `day`, up to the end of its element.
+/// Appends `words`, and then `day` and the end of the element of `day`.
 fn push_day(page: &mut Vec<u8>, words: &str, day: Day) -> Result<(), OutOfMemory>
     ensures { OnOk result (page.new.items ≡ page.old.items ++ (words.now ++ (iso_text day ++ TIME_END.now))) }
 {
@@ -502,7 +502,7 @@ fn push_day(page: &mut Vec<u8>, words: &str, day: Day) -> Result<(), OutOfMemory
     Ok(())
 }
 
-/// Appends the actions that this library may do on the day `today`.
+/// Appends the actions that this library may do with the loan of `side` on the day `today`.
 fn push_possible(page: &mut Vec<u8>, today: Day, side: &Side) -> Result<(), OutOfMemory>
     ensures { OnOk result (page.new.items ≡ page.old.items
         ++ flat_map action_text (possible_on (Some today) side.now)) }

@@ -15,7 +15,7 @@ pub(crate) enum Field {
     Group,
     /// The transaction qualifier.
     Transaction,
-    /// The state, in words, the day since which the loan stands so, and its news.
+    /// The state, in words, the day since which the loan has it, and the news of the loan.
     State,
     /// The due date, or else the expiry date of the request.
     Deadline,

@@ -15,7 +15,7 @@ use Rattle.std.specs.Str.{bytes_eq}
 use Rattle.ill_slip.specs.Code128.{check, decoded, encoded, is_character, start, stop, symbol, text_in, text_of}
 use Rattle.ill_slip.specs.Code128.{value_of, value_with, values, values_in, weighted}
 
--- ---- a table
+-- ---- each symbol of the table is read and wide
 
 -- Returns true if each number below `n` passes `test`.
 abbrev all_below : (ℕ → Bool) → ℕ → Bool
@@ -48,7 +48,7 @@ all_are_read = refl
 all_are_wide : all_below is_wide 107 ≡ true
 all_are_wide = refl
 
--- ---- the values
+-- ---- values are read from the widths of their symbols
 
 -- If a value is `found` and equals `value`, `found` is `Some value`.
 found_is : (found : Option ℕ) (value : ℕ) → option_map_or (λ one. one == value) found false ≡ true → found ≡ Some value
@@ -76,7 +76,7 @@ values_are_read (value ∷ rest) have =
     (values_in (flat_map symbol rest ++ 2 ∷ []))) found) (value_is_found value (and_parts _ _ have).0)
     ∙ ap (λ (found : Option (List ℕ)). option_map (λ others. value ∷ others) found) (values_are_read rest (and_parts _ _ have).1)
 
--- ---- the text
+-- ---- a text is read from the values of its code
 
 -- The values of `text`, `last` and the stop are not the stop alone.
 no_stop_alone : (text : List ℕ) (last : ℕ) → bytes_eq (map value_of text ++ last ∷ stop ∷ []) (stop ∷ []) ≡ false
@@ -137,9 +137,9 @@ code_is_read text are =
     ap (λ (found : Option (List ℕ)). option_and_then text_of found) (values_are_read (values text) (values_have_symbols text are))
     ∙ text_is_read start 1 text are
 
--- ---- the width
+-- ---- the width of a code
 
--- If each of `values` has a symbol, these have eleven modules each, and the last bar has two.
+-- If each of `values` has a symbol, their symbols have eleven modules each, and the last bar has two.
 symbols_are_wide : (values : List ℕ) → have_symbols values ≡ true
     → sum (flat_map symbol values ++ 2 ∷ []) ≡ 11 * length values + 2
 symbols_are_wide [] have = refl

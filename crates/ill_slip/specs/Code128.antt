@@ -37,12 +37,12 @@ start = 104
 abbrev pub stop : ℕ
 stop = 106
 
--- Returns the sum of the values of a text, each times its position. The first position is given.
+-- Returns the sum of the values of a text, each times its position. `place` is the position of the first character.
 abbrev pub weighted : ℕ → List ℕ → ℕ
 weighted place [] = 0
 weighted place (character ∷ text) = place * value_of character + weighted (suc place) text
 
--- Returns the check value of a text: the remainder of its sum and the start value.
+-- Returns the check value of a text: the start value and the sum `weighted`, modulo 103.
 abbrev pub check : List ℕ → ℕ
 check text = (start + weighted 1 text) % 103
 
@@ -63,7 +63,7 @@ symbol value = widths (slice_index symbols value)
 unfoldable pub encoded : List ℕ → List ℕ
 encoded text = flat_map symbol (values text) ++ 2 ∷ []
 
--- ---- a drawing
+-- ---- a drawing of bars and spaces
 
 -- Returns the commands of SVG that draw bars and spaces of these widths: a line for a bar, and a move for a space.
 abbrev pub path : List ℕ → List ℕ
@@ -77,11 +77,12 @@ drawn value = path (symbol value)
 
 -- ---- a reader
 
--- Returns the value of the symbol with these widths.
+-- Returns the value of the symbol with these six widths, or `None` if no symbol has them.
 abbrev pub value_with : List ℕ → Option ℕ
 value_with six = position (λ symbol. bytes_eq (widths symbol) six) symbols
 
--- Returns the values of the symbols with these widths. A bar of two modules ends them.
+-- Returns the values of the symbols with these widths, which a bar of two modules ends. If the widths are no such
+-- symbols, it returns `None`.
 abbrev pub values_in : List ℕ → Option (List ℕ)
 values_in [] = None
 values_in (bar ∷ []) = if bar == 2 then Some [] else None
@@ -90,8 +91,8 @@ values_in (a ∷ b ∷ c ∷ d ∷ e ∷ f ∷ rest) =
     (value_with (a ∷ b ∷ c ∷ d ∷ e ∷ f ∷ []))
 values_in other = None
 
--- Returns the text of values that end with a check value and the stop. `sum` is the sum of the values before them, and
--- `place` the position of the first.
+-- Returns the text of values that end with a check value and the stop. `sum` is the sum of the values before them,
+-- and `place` the position of the first. If the check value is wrong or a value is no character, it returns `None`.
 abbrev pub text_in : ℕ → ℕ → List ℕ → Option (List ℕ)
 text_in sum place [] = None
 text_in sum place (value ∷ rest) =
@@ -99,11 +100,11 @@ text_in sum place (value ∷ rest) =
     else (if nat_lt value 95 then option_map (λ text. (value + 32) ∷ text) (text_in (sum + place * value) (suc place) rest)
     else None)
 
--- Returns the text of the values of a code.
+-- Returns the text of the values of a code, or `None` if they are no code in code set B.
 abbrev pub text_of : List ℕ → Option (List ℕ)
 text_of [] = None
 text_of (first ∷ rest) = if first == start then text_in start 1 rest else None
 
--- Returns the text that a reader finds in bars and spaces of these widths.
+-- Returns the text that a reader finds in bars and spaces of these widths, or `None` if it finds none.
 abbrev pub decoded : List ℕ → Option (List ℕ)
 decoded found = option_and_then text_of (values_in found)

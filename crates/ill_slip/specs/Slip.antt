@@ -34,7 +34,7 @@ is_plain byte =
 abbrev pub loan_words : Qualifiers → List ℕ
 loan_words txn = txn.group ++ 0x20 ∷ txn.transaction
 
--- Returns the width of the code of `text`, with ten modules of quiet zone on each side.
+-- Returns the width in modules of the code of `text`, with ten modules of quiet zone on each side.
 abbrev pub code_width : List ℕ → ℕ
 code_width text = 11 * length text + 55
 
@@ -71,7 +71,7 @@ due_part (Some day) = DUE.now ++ iso_text day
 unfoldable pub head_part : Side → List ℕ
 head_part side = PAGE.now ++ (title_part (item_asked (request_of side)) ++ (ROLE.now ++ role_text (role_of side)))
 
--- Returns both names and the due date, with the texts around them.
+-- Returns both qualifiers and the due date, with the texts around them.
 unfoldable pub names_part : Side → List ℕ
 names_part side =
     GROUP.now ++ (html_text (txn_of side).group ++ (TRANSACTION.now ++ (html_text (txn_of side).transaction

@@ -81,7 +81,7 @@ fn push_symbol(page: &mut Vec<u8>, value: u8) -> Result<(), OutOfMemory>
     push_pair(page, symbol / 10, symbol)
 }
 
-/// Returns the symbol with the value `value`.
+/// Returns the symbol with the value `value`, or 0 if no symbol has it.
 fn symbol(value: u8) -> u32
     ensures { result ≡ slice_index symbols value }
 {
@@ -100,7 +100,7 @@ fn push_pair(page: &mut Vec<u8>, bar: u32, space: u32) -> Result<(), OutOfMemory
     page.extend_from_slice(&[b'h', digit(bar), b'm', digit(space), b' ', b'0'])
 }
 
-/// Returns the last digit of `number`.
+/// Returns the character of the last digit of `number`.
 fn digit(number: u32) -> u8
     ensures { result ≡ 48 + number % 10 }
 {

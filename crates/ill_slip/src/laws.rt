@@ -11,13 +11,14 @@ pub fn symbols_have_eleven_modules()
     ensures stop { sum (symbol stop ++ 2 ∷ []) ≡ 13 }
 {}
 
-/// A reader finds the text of each code. So no symbol can be taken for another, nor the check value be wrong.
+/// A reader finds each text in its code, if code set B has its characters. So no symbol can be taken for another, nor
+/// the check value be wrong.
 #[tactic(auto, using(crate::proofs::ReaderLemmas::code_is_read))]
 pub fn codes_are_read_back()
     ensures { (text : List ℕ) → list_all is_character text ≡ true → decoded (encoded text) ≡ Some text }
 {}
 
-/// The code of a text of `n` characters is 11 n + 35 modules wide.
+/// The code of a text of `n` characters of code set B is 11 n + 35 modules wide.
 #[tactic(auto, using(crate::proofs::ReaderLemmas::code_is_wide))]
 pub fn codes_have_their_width()
     ensures { (text : List ℕ) → list_all is_character text ≡ true → sum (encoded text) ≡ 11 * length text + 35 }

@@ -91,7 +91,7 @@ fn role_text(role: Role) -> &'static str
     }
 }
 
-/// Appends both names and the due date of `side`, with the texts around them.
+/// Appends both qualifiers and the due date of `side`, with the texts around them.
 fn push_names(page: &mut Vec<u8>, side: &Side) -> Result<(), OutOfMemory>
     ensures { OnOk result (page.new.items ≡ page.old.items ++ names_part side.now) }
 {
@@ -133,14 +133,15 @@ fn are_plain(text: &[u8]) -> bool
     text.iter().all(|byte| is_plain(*byte))
 }
 
-/// Returns true if `byte` is a letter, a digit or one of `-`, `.`, `/`, `:`, `_` and `+`.
+/// Returns true if `byte` is a letter, a digit or one of `-`, `.`, `/`, `:`, `_` and `+`. In a shell it stands for
+/// itself.
 fn is_plain(byte: u8) -> bool
     ensures { result ≡ is_plain byte }
 {
     matches!(byte, b'-'..=b':' | b'A'..=b'Z' | b'a'..=b'z' | b'_' | b'+')
 }
 
-/// Returns the words that follow the desk in a command.
+/// Returns the words that follow the desk in a command: both qualifiers. They have at most 129 bytes.
 fn loan_words(alloc: Global, txn: &TxnId) -> Result<Vec<u8>, OutOfMemory>
     ensures value { IfOk result (λ words. words.items ≡ loan_words txn.now) }
     ensures most { IfOk result (λ words. length words.items ≤ 129) }

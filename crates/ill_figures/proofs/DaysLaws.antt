@@ -38,14 +38,14 @@ pub in_turn : (first second last : Date) (m n : ℕ) → days_between first seco
     → days_between first last ≡ Some (m + n)
 in_turn first second last m n one two = passed_in_turn (day_number first) (day_number second) (day_number last) m n one two
 
--- If the number of a day in jiff's calendar is higher by one, so is its number.
+-- If the number of a day by jiff (`days_from_civil`) is one more than that of another day, so is its `day_count`.
 number_next : (y z : ℤ) (m d k l : ℕ) → days_from_civil z k l ≡ days_from_civil y m d +ℤ pos 1
     → day_count z k l ≡ suc (day_count y m d)
 number_next y z m d k l is =
     omega (arith, signed_arith, is, days_from_civil-day_count z k l, days_from_civil-day_count y m d)
 
--- The number of the day that `next_day` chooses by its two tests is one more. That day is in the same month, the first
--- of the next month, or 1 January.
+-- The number of the day that `next_day` chooses by its two tests is one more than that of `d`. The chosen day is in
+-- the same month, the first of the next month, or 1 January.
 next_by : (d : Date) (in_month in_year : Bool) → IsDate d → nat_lt d.day (days_in_month d.year d.month) ≡ in_month
     → nat_lt d.month 12 ≡ in_year
     → day_number (cond in_month (record { year = d.year; month = d.month; day = d.day + 1 })

@@ -61,7 +61,8 @@ module _ (said : List Mentioned) (line : Mentioned) (named_as : Apdu → Named) 
   abbrev with_day : List Mentioned → Apdu → Dated
   with_day lines a = dated lines (named_as a) a.body
 
-  -- If the line names none of the messages, it changes none of their days.
+  -- If the line names none of the messages, it changes none of their days. `here` says it of the first message, and
+  -- `there` of the others.
   pub none_changes : (apdus : List Apdu) → list_any names (map named_as apdus) ≡ false
       → map (with_day (said ++ line ∷ [])) apdus ≡ map (with_day said) apdus
   none_changes [] is = refl

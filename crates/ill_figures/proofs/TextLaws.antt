@@ -5,7 +5,7 @@ use Rattle.std.specs.List.{flat_map}
 use Rattle.std.proofs.lemmas.Bool.{eqb-true}
 use Rattle.ill_figures.specs.Texts.{quoted, quoted_byte, unquoted, within}
 
--- If the text after a byte is read back, so is that byte, by whether it is a quote.
+-- If the text after a byte is read back, so is the byte with this text. `is_quote` is true if the byte is a quote.
 byte_read : (byte : ℕ) (is_quote : Bool) (text : List ℕ) → (byte == 0x22) ≡ is_quote
     → within false (flat_map quoted_byte text ++ codes "\"") ≡ Some text
     → within false ((cond is_quote (codes "\"\"") (byte ∷ []) ++ flat_map quoted_byte text) ++ codes "\"") ≡ Some (byte ∷ text)

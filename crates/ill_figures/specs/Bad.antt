@@ -14,8 +14,8 @@ pub data CountsBadly (asked : List Loan) (loan : Loan) (number : Count → ℕ) 
     left_out : number Asked ≡ counted asked Asked → CountsBadly asked loan number
     -- The loan was filled. But it is counted as refused.
     filled_and_refused : loan.end ≡ Filled → number Refused ≡ suc (counted asked Refused) → CountsBadly asked loan number
-    -- The loan has no outcome.
+    -- No outcome counts the loan.
     no_outcome : sum_by number outcomes ≡ sum_by (counted asked) outcomes → CountsBadly asked loan number
-    -- The loan was refused. But it has no reason.
+    -- The loan was refused. But no reason counts it.
     no_reason : is_refused loan.end ≡ true → sum_by number reasons ≡ sum_by (counted asked) reasons →
         CountsBadly asked loan number

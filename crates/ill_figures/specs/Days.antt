@@ -23,7 +23,7 @@ abbrev pub days_between : Date → Date → Option ℕ
 days_between first last =
     if nat_le (day_number first) (day_number last) then Some (day_number last - day_number first) else None
 
--- Returns the number of days from `first` to `last`, if both are known.
+-- Returns the number of days from `first` to `last`, if both are known and `last` is not before `first`.
 abbrev pub days_from : Option Date → Option Date → Option ℕ
 days_from (Some first) (Some last) = days_between first last
 days_from first last = None

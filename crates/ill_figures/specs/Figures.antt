@@ -19,7 +19,7 @@ use Rattle.ill_figures.specs.LoanFigures.{Mentioned, loan_of, mentions_in}
 
 -- ---- the loans
 
--- Returns the figures of each loan of `sides`.
+-- Returns the figures of each loan of `sides`, by the mentions in the diary and by the messages `came`.
 abbrev pub loans_of : List Mentioned → (came : List Apdu) → List Side → List Loan
 loans_of mentions came sides = map (loan_of mentions came) sides
 
@@ -59,16 +59,16 @@ is_of counts.Expired ends.Expired = true
 is_of counts.Unknown ends.Unknown = true
 is_of count end = is_all_refused count end
 
--- The counts of which each loan is in one.
+-- The outcomes: each loan that was asked is in exactly one of these counts.
 abbrev pub outcomes : List Count
 outcomes = counts.Filled ∷ counts.Open ∷ counts.Cancelled ∷ counts.Refused ∷ []
 
--- The counts of which each loan that was refused is in one.
+-- The reasons: each loan that was refused is in exactly one of these counts, and no other loan is in any.
 abbrev pub reasons : List Count
 reasons =
     counts.Unfilled ∷ counts.Retry ∷ counts.Estimate ∷ counts.LocationsProvided ∷ counts.Expired ∷ counts.Unknown ∷ []
 
--- Returns a count of the loans that were asked in the span.
+-- Returns the number of those loans of `asked` that `count` counts.
 abbrev pub counted : (asked : List Loan) → Count → ℕ
 counted asked count = count_by (λ loan. is_of count loan.end) asked
 
@@ -93,16 +93,17 @@ or_zero (Some days) = days
 abbrev pub days_waited : (asked : List Loan) → Wait → ℕ
 days_waited asked wait = sum_by (λ loan. or_zero (wait_of wait loan)) asked
 
--- Returns the mean of a sum of days over `of` loans, in tenths of a day. A half is rounded up. Without a loan there is none.
+-- Returns the mean of the sum `days` over `of` loans, in tenths of a day. A half is rounded up. Without a loan there
+-- is none.
 abbrev pub tenths : (days of : ℕ) → Option ℕ
 tenths days zero = None
 tenths days (suc n) = Some ((20 * days + suc n) / (2 * suc n))
 
--- Returns the mean of the days of a wait, in tenths of a day.
+-- Returns the mean of the known days of a wait, in tenths of a day. If no loan has any, there is none.
 abbrev pub mean : (asked : List Loan) → Wait → Option ℕ
 mean asked wait = tenths (days_waited asked wait) (waited asked wait)
 
--- ---- a desk
+-- ---- the figures of a desk
 
 -- The figures of a desk: the loans that were asked in the span, and the number of those without a day of asking.
 pub record Figures : Type 0 where

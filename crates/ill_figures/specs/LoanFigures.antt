@@ -46,7 +46,7 @@ unfoldable pub mentions_in : (lines : List (List ℕ)) → List Mentioned
 mentions_in [] = []
 mentions_in (line ∷ later) = option_to_list (mention_in line) ++ mentions_in later
 
--- Returns the day of the message with this key. Of the mentions of it, the last counts.
+-- Returns the day of the message with this key, if it is mentioned. Of several mentions the last counts.
 abbrev pub day_said : (key : List ℕ) → List Mentioned → Option Date
 day_said key mentions = fold (λ found mention. if bytes_eq mention.key key then Some mention.day else found) None mentions
 
@@ -72,8 +72,8 @@ issued_dated mentions a = dated mentions (issued_named a) a.body
 abbrev pub taken_dated : List Mentioned → Apdu → Dated
 taken_dated mentions a = dated mentions (taken_named a) a.body
 
--- Returns the messages that the record of a side has, with their days: those that it issued, and those of `kept` that it
--- shows as taken. A responder's record has the request itself.
+-- Returns the messages that the record of a side has, with their days. They are those that it issued, and those that
+-- it shows as taken. The latter are the request in a responder's record, and messages of `kept`.
 abbrev pub dated_of : List Mentioned → Side → (kept : List Apdu) → List Dated
 dated_of mentions side kept =
     map (issued_dated mentions) (issued_of side) ++ map (taken_dated mentions) (request_taken side ++ filter (is_heard side) kept)
@@ -90,18 +90,19 @@ takes steps.Arrive events.Received = true
 takes steps.Back events.CheckedIn = true
 takes step event = false
 
--- Returns the day of a step: that of the first message which takes it.
+-- Returns the day of a step: the day of the first message that takes it, if the day is known.
 unfoldable pub day_of : Step → List Dated → Option Date
 day_of step [] = None
 day_of step (message ∷ later) = if takes step message.event then message.day else day_of step later
 
--- Returns the number of days from one step of a loan to another, if both have a day.
+-- Returns the number of days from one step of a loan to another. If one has no day, or the last is before the first,
+-- there is none.
 abbrev pub days_between_steps : (first last : Step) → List Dated → Option ℕ
 days_between_steps first last messages = days_from (day_of first messages) (day_of last messages)
 
 -- ---- the end of a loan
 
--- Returns the reason of a refusal that an ILL-Answer with this result is.
+-- Returns the reason of a refusal, if an ILL-Answer with this result is one.
 abbrev pub refusal_by : AnswerResult → Option End
 refusal_by answers.Unfilled = Some Unfilled
 refusal_by answers.Retry = Some Retry
@@ -109,18 +110,18 @@ refusal_by answers.Estimate = Some Estimate
 refusal_by answers.LocationsProvided = Some LocationsProvided
 refusal_by goes_on = None
 
--- Returns the reason of a refusal that a message gives.
+-- Returns the reason of a refusal that a message gives, if it gives one.
 abbrev pub refusal_in : Event → Option End
 refusal_in (events.Answered result) = refusal_by result
 refusal_in events.Expired = Some Expired
 refusal_in event = None
 
--- Returns this reason, or `other` if there is none.
+-- Returns the reason that is given, or `other` if none is.
 abbrev pub reason_or : (other : End) → Option End → End
 reason_or other None = other
 reason_or other (Some reason) = reason
 
--- Returns the reason of a refusal: that of the first message which gives one.
+-- Returns the reason of a refusal: that of the first message which gives one, or `Unknown` if none does.
 unfoldable pub refusal_of : List Dated → End
 refusal_of [] = Unknown
 refusal_of (message ∷ later) = reason_or (refusal_of later) (refusal_in message.event)

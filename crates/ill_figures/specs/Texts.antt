@@ -102,8 +102,9 @@ field_names =
 abbrev pub quoted_byte : ℕ → List ℕ
 quoted_byte byte = if byte == 0x22 then codes "\"\"" else byte ∷ []
 
--- Returns the text that a quote ends at the end of these bytes. Two quotes stand for one. `is_after` says that a quote, which
--- may be the last, is before them.
+-- Returns the text of a field from these bytes on, up to the quote that ends both. Two quotes stand for one. If
+-- `is_after` is true, a quote is before the bytes, and may be the last. If no quote ends the bytes and the field, it
+-- returns `None`.
 unfoldable pub within : (is_after : Bool) → List ℕ → Option (List ℕ)
 within false [] = None
 within true [] = Some []
@@ -120,7 +121,7 @@ abbrev pub unquoted : List ℕ → Option (List ℕ)
 unquoted [] = None
 unquoted (first ∷ rest) = if first == 0x22 then within false rest else None
 
--- Returns a field that is not the first.
+-- Returns a field that is not the first, with the comma before it.
 unfoldable pub next_field : List ℕ → List ℕ
 next_field field = codes "," ++ field
 
@@ -134,11 +135,11 @@ abbrev pub mean_field : Option ℕ → List ℕ
 mean_field None = []
 mean_field (Some tenths) = tenths_text tenths
 
--- Returns the fields of both days of a span.
+-- Returns the fields of both days of a span, each with the comma before it.
 unfoldable pub day_fields : Span → List ℕ
 day_fields span = next_field (iso_text span.first) ++ next_field (iso_text span.last)
 
--- Returns the field of a count.
+-- Returns the field of a count, with the comma before it.
 abbrev pub count_field : (asked : List Loan) → Count → List ℕ
 count_field asked count = next_field (decimal (counted asked count))
 
@@ -146,7 +147,7 @@ count_field asked count = next_field (decimal (counted asked count))
 unfoldable pub count_fields : (asked : List Loan) → List ℕ
 count_fields asked = flat_map (count_field asked) all_counts
 
--- Returns the fields of a wait: the number of loans, and their mean.
+-- Returns the fields of a wait: the number of loans whose days are known, and their mean.
 abbrev pub wait_field : (asked : List Loan) → Wait → List ℕ
 wait_field asked wait = next_field (decimal (waited asked wait)) ++ next_field (mean_field (mean asked wait))
 
@@ -170,7 +171,8 @@ figures_record path span figures =
 abbrev pub head_text : (is_csv : Bool) → List ℕ
 head_text is_csv = if is_csv then csv_record field_names else []
 
--- Returns the text of figures of the desk at `path`. In lines the path is a heading, if several desks are visited.
+-- Returns the text of figures of the desk at `path`. In lines the path is a heading, if `is_headed` is true: several
+-- desks are visited.
 abbrev pub figures_text : FiguresView → (is_headed is_first : Bool) → (path : List ℕ) → Figures → List ℕ
 figures_text view is_headed is_first path figures =
     if view.is_csv then figures_record path view.span figures

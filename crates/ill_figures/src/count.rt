@@ -56,7 +56,7 @@ pub(crate) const COUNTS: [Count; 11] = [
     Count::Unknown,
 ];
 
-/// Returns a count of the loans `asked`.
+/// Returns the number of those loans of `asked` that `count` counts.
 pub(crate) fn counted(asked: &[Loan], count: Count) -> usize
     ensures { result ≡ counted asked.now count }
 {

@@ -54,8 +54,8 @@ pub struct FiguresSought<'a> {
     pub came: &'a [u8],
 }
 
-/// Writes the figures of `desk`: of the loans that were asked in the span of `sought`, how many ended how, and how long they
-/// took.
+/// Writes the figures of `desk` in the form of `sought`. Of the loans asked in the span, they tell how many ended
+/// how, and how long they took. `listed` says if the path of the desk is written before lines.
 ///
 /// The day of a message is that of the last line of the diary which names it. `sought` has the bytes of the messages that
 /// `take --keep`, `inbox` and `exchange` have kept. A part that is no message, and all bytes after it, are ignored.
@@ -76,7 +76,7 @@ pub fn run_desk_figures<S: Store, W: Write>(
     }
 }
 
-/// Returns the text of the figures of `sides`.
+/// Returns the text of the figures of `sides`, by the diary and the messages in `sought`.
 fn text_of_figures(
     alloc: Global,
     sides: &Sides,
@@ -97,7 +97,7 @@ fn text_of_figures(
     desk_text(alloc, listed, &sought.view, &figures)
 }
 
-/// Returns the text of `figures` of a desk.
+/// Returns the text of `figures` of a desk in the form of `view`.
 fn desk_text(
     alloc: Global,
     listed: &Listed<'_>,
@@ -131,7 +131,7 @@ fn record_text(
     Ok(text)
 }
 
-/// Returns the figures of each loan of `sides`, which are at most 1,000.
+/// Returns the figures of each loan of `sides`. They are at most 1,000.
 #[tactic(auto, using(crate::proofs::FewLemmas::few_loans))]
 fn loans_of(
     alloc: Global,

@@ -24,7 +24,7 @@ pub fn each_loan_is_counted_once()
     ensures reason { (asked : List Loan) → sum_by (counted asked) reasons ≡ counted asked counts.Refused }
 {}
 
-/// The counts are right after one more loan: they are none of the wrong ones.
+/// After one more loan the counts are right: they are none of the wrong ones that `CountsBadly` lists.
 #[tactic(auto, using(crate::proofs::CountLaws::not_bad))]
 pub fn no_bad_count_passes()
     ensures { (asked : List Loan) (loan : Loan) → CountsBadly asked loan (counted (loan ∷ asked)) → ⊥ }

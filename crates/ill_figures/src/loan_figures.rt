@@ -84,7 +84,7 @@ pub(crate) enum End {
     Unknown,
 }
 
-/// The figures of a loan.
+/// The figures of a loan. A day or a number of days is `None` if no line of the diary says it.
 #[derive(Clone, Copy)]
 pub(crate) struct Loan {
     /// The day on which it was asked.
@@ -126,15 +126,16 @@ fn loan_in(state: State, messages: &[Dated]) -> Loan
     }
 }
 
-/// Returns the number of days from one step of a loan to another, if both have a day.
+/// Returns the number of days from one step of a loan to another. If one has no day, or the last is before the first,
+/// there is none.
 fn days_between_steps(first: Step, last: Step, messages: &[Dated]) -> Option<u32>
     ensures { result ≡ days_between_steps first last messages.now }
 {
     days_from(day_of(first, messages), day_of(last, messages))
 }
 
-/// Returns the messages that the record of `side` has, with their days: those that it issued, and those of `kept` that it
-/// shows as taken.
+/// Returns the messages that the record of `side` has, with their days. They are those that it issued, and those that
+/// it shows as taken. The latter are the request in a responder's record, and messages of `kept`.
 fn dated_of(
     alloc: Global,
     mentions: &[Mention],
@@ -150,7 +151,7 @@ fn dated_of(
     Ok(messages)
 }
 
-/// Appends the messages `apdus`, which were issued.
+/// Appends the messages `apdus`, which were issued, with their days by `mentions`.
 fn push_issued(
     messages: &mut Vec<Dated>,
     mentions: &[Mention],
@@ -164,7 +165,7 @@ fn push_issued(
     Ok(())
 }
 
-/// Appends the request in a responder's record, if it has begun.
+/// Appends the request in a responder's record with its day, if the loan has begun.
 fn push_request(
     messages: &mut Vec<Dated>,
     mentions: &[Mention],
@@ -182,7 +183,7 @@ fn push_request(
     }
 }
 
-/// Appends those of `kept` that the record of `side` shows as taken.
+/// Appends those of `kept` that the record of `side` shows as taken, with their days.
 fn push_heard(
     messages: &mut Vec<Dated>,
     mentions: &[Mention],
@@ -226,7 +227,7 @@ fn push_taken(
     push_dated(messages, mentions, apdu.body.view().type_name(), apdu)
 }
 
-/// Appends the message `apdu`, by the word `what` for it.
+/// Appends the message `apdu` with its day by `mentions`. `what` is the word by which the lines name it.
 fn push_dated(
     messages: &mut Vec<Dated>,
     mentions: &[Mention],
@@ -277,7 +278,7 @@ fn takes(step: Step, event: Event) -> bool
     )
 }
 
-/// Returns the day of a step: that of the first of `messages` which takes it.
+/// Returns the day of a step: the day of the first of `messages` that takes it, if the day is known.
 #[tactic(auto, unfolding(crate::specs::LoanFigures::day_of))]
 fn day_of(step: Step, messages: &[Dated]) -> Option<Day>
     ensures { result ≡ day_of step messages.now }
@@ -292,7 +293,7 @@ fn day_of(step: Step, messages: &[Dated]) -> Option<Day>
     None
 }
 
-/// Returns the reason of a refusal: that of the first of `messages` which gives one.
+/// Returns the reason of a refusal: that of the first of `messages` which gives one, or `Unknown` if none does.
 #[tactic(auto, unfolding(crate::specs::LoanFigures::refusal_of))]
 fn refusal_of(messages: &[Dated]) -> End
     ensures { result ≡ refusal_of messages.now }
@@ -318,7 +319,7 @@ fn refusal_in(event: Event) -> Option<End>
     }
 }
 
-/// Returns the reason of a refusal that an ILL-Answer with this result is, if it is one.
+/// Returns the reason of a refusal, if an ILL-Answer with this result is one.
 fn refusal_by(answer: AnswerResult) -> Option<End>
     ensures { result ≡ refusal_by answer }
 {

@@ -29,7 +29,8 @@ pub(crate) fn waited(asked: &[Loan], wait: Wait) -> usize
         .count()
 }
 
-/// Returns the mean of the days of a wait in the loans `asked`, in tenths of a day.
+/// Returns the mean of the known days of a wait in the loans `asked`, in tenths of a day. If no loan has any, there
+/// is none.
 pub(crate) fn mean(asked: &[Loan], wait: Wait) -> Option<u64>
     requires { length asked.now ≤ 1000 }
     ensures { result ≡ mean asked.now wait }
@@ -37,7 +38,8 @@ pub(crate) fn mean(asked: &[Loan], wait: Wait) -> Option<u64>
     tenths(days_waited(asked, wait), waited(asked, wait) as u64)
 }
 
-/// Returns the mean of the sum `days` over `of` loans, in tenths of a day. A half is rounded up.
+/// Returns the mean of the sum `days` over `of` loans, in tenths of a day. A half is rounded up. Without a loan there
+/// is none.
 fn tenths(days: u64, of: u64) -> Option<u64>
     requires few { of ≤ 1000 }
     requires small { days ≤ 4_294_967_295_000 }

@@ -52,7 +52,7 @@ fn push_entry(mentions: &mut Vec<Mention>, entry: &Entry<'_>) -> Result<(), OutO
     Ok(())
 }
 
-/// Returns the day of the message with the key `key`, by the last of `mentions` of it.
+/// Returns the day of the message with the key `key`, by the last mention of it. Without a mention it is `None`.
 pub(crate) fn day_said(key: &[u8], mentions: &[Mention]) -> Option<Day>
     ensures { result ≡ day_said key.now (map mentioned mentions.now) }
 {

@@ -90,7 +90,7 @@ fn push_undated(text: &mut Vec<u8>, undated: usize) -> Result<(), OutOfMemory>
     push_number_line(text, WITHOUT, undated)
 }
 
-/// Appends the line of a wait.
+/// Appends the line of a wait in the loans `asked`.
 fn push_wait(text: &mut Vec<u8>, asked: &[Loan], wait: Wait) -> Result<(), OutOfMemory>
     requires { length asked.now ≤ 1000 }
     ensures { OnOk result (text.new.items ≡ text.old.items ++ wait_line asked.now wait) }
@@ -101,7 +101,7 @@ fn push_wait(text: &mut Vec<u8>, asked: &[Loan], wait: Wait) -> Result<(), OutOf
     Ok(())
 }
 
-/// Appends a mean of `of` loans in tenths of a day, or a dash if there is none.
+/// Appends a mean in tenths of a day, and the number `of` of its loans. If there is no mean, it appends a dash.
 fn push_mean(text: &mut Vec<u8>, mean: Option<u64>, of: usize) -> Result<(), OutOfMemory>
     ensures { OnOk result (text.new.items ≡ text.old.items ++ mean_text mean of) }
 {
@@ -130,7 +130,7 @@ fn push_count(text: &mut Vec<u8>, number: usize) -> Result<(), OutOfMemory>
     text.extend_from_slice(Buffer::new().format(number).as_bytes())
 }
 
-/// Appends the line of a number.
+/// Appends the line of `number`, with `label` before it.
 fn push_number_line(text: &mut Vec<u8>, label: &str, number: usize) -> Result<(), OutOfMemory>
     ensures { OnOk result (text.new.items ≡ text.old.items ++ number_line label.now number) }
 {
@@ -244,7 +244,7 @@ fn push_quoted_byte(text: &mut Vec<u8>, byte: u8) -> Result<(), OutOfMemory>
     Ok(())
 }
 
-/// Appends a field that is not the first.
+/// Appends a field that is not the first, with the comma before it.
 #[tactic(auto, unfolding(crate::specs::Texts::next_field))]
 fn push_field(text: &mut Vec<u8>, field: &[u8]) -> Result<(), OutOfMemory>
     ensures { OnOk result (text.new.items ≡ text.old.items ++ next_field field.now) }
@@ -254,7 +254,7 @@ fn push_field(text: &mut Vec<u8>, field: &[u8]) -> Result<(), OutOfMemory>
     Ok(())
 }
 
-/// Appends the field of a number.
+/// Appends the field of a number, with the comma before it.
 fn push_number_field(text: &mut Vec<u8>, number: usize) -> Result<(), OutOfMemory>
     ensures { OnOk result (text.new.items ≡ text.old.items ++ next_field (decimal number)) }
 {
@@ -303,7 +303,7 @@ fn push_wait_fields(text: &mut Vec<u8>, asked: &[Loan], waits: &[Wait]) -> Resul
     Ok(())
 }
 
-/// Appends the fields of a wait: the number of loans, and their mean.
+/// Appends the fields of a wait: the number of loans whose days are known, and their mean.
 fn push_wait_pair(text: &mut Vec<u8>, asked: &[Loan], wait: Wait) -> Result<(), OutOfMemory>
     requires { length asked.now ≤ 1000 }
     ensures { OnOk result (text.new.items ≡ text.old.items ++ wait_field asked.now wait) }

@@ -8,7 +8,8 @@ use Rattle.ill_values.specs.Day.{Date}
 use Rattle.ill_figures.specs.Days.{day_number}
 use Rattle.ill_figures.proofs.days.number.Goals as goal
 
--- If a date of jiff is the day `d`, the number of the date is that of the day, from another first day.
+-- Let a date of jiff be the day `d`, and let `result` days be from jiff's first day to the date. Then `result` is the
+-- number of `d`, counted from jiff's first day.
 number_same : (d : Date) (date : CivilDate) (result : ℕ) → IsYmd (pos d.year) (pos d.month) (pos d.day) date
     → epoch_day date +ℤ pos 4_371_587 ≡ pos result
     → pos result ≡ pos (day_number d) -ℤ pos (day_count (pos 1970) 1 1) +ℤ pos 4_371_587

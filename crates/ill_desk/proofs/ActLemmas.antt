@@ -31,7 +31,7 @@ module _ {L K : Type 0} (effects : Effects L K) (key : K) where
       subst (λ (n : Option Action). RunsAct effects key n now (Err Arguments) now) (sym none)
       (inl refl, refl, Appends-nil now.written)
 
-  -- If the words have no action because of `fault`, `act` may return it when it writes and changes nothing.
+  -- If the words have no action because of `fault`, `act` may return `fault` when it writes and changes nothing.
   pub not_named : (named : Option Action) (now : CommandState L) (fault : ToolFault) → FailsToName named fault
       → RunsAct effects key named now (Err fault) now
   not_named named now fault is = elim is [
@@ -52,7 +52,7 @@ module _ {L K : Type 0} (effects : Effects L K) (key : K) where
       subst (λ (n : Option Action). RunsTrial effects key n now (Err Arguments) now) (sym none)
       (inl refl, refl, Appends-nil now.written)
 
-  -- If the words have no action because of `fault`, a trial may return it when it writes and changes nothing.
+  -- If the words have no action because of `fault`, a trial may return `fault` when it writes and changes nothing.
   pub not_tried : (named : Option Action) (now : CommandState L) (fault : ToolFault) → FailsToName named fault
       → RunsTrial effects key named now (Err fault) now
   not_tried named now fault is = elim is [
@@ -78,7 +78,8 @@ unseen asked now =
 
 -- ---- the diary
 
--- An action that is refused, or fails before it is done, enters nothing.
+-- If an action was refused by `fault`, or failed with it before it was done, `EntersDone` allows that nothing was
+-- entered.
 pub enters_nothing : (fault : DeskFault) (line : List ℕ) (now : DiaryState) → EntersDone (fine_of (refused fault)) line now now
 enters_nothing (desks.Core refusal) line now = refl
 enters_nothing desks.NoSuchTransaction line now = refl
@@ -115,7 +116,8 @@ pub enters_unseen : (is_trial : Bool) (shown : Shown) (before after : Option (Li
 enters_unseen is_trial shown before after result line now writes =
     subst (λ (r : Result Bool ToolFault). EntersUnlessTried is_trial r line now now) (sym writes.2) (go is_trial writes.0)
   where
-    -- The answer `not_done written` is false or a fault, and both allow it.
+    -- The answer `not_done written` is false or a fault. `EntersUnlessTried` allows for both that nothing was
+    -- entered.
     go : (is_trial : Bool) (written : Result (Unit {0}) ToolFault) → EntersUnlessTried is_trial (not_done written) line now now
     go true written = refl
     go false (Ok done) = refl

@@ -21,7 +21,7 @@ use Rattle.ill_desk.specs.Take.{BorrowedParts, borrowed_parts, CountsTaking, Kee
 use Rattle.ill_desk.specs.Take.{answer_of, RunsTaking}
 use Rattle.ill_text.proofs.InputLemmas.{reads_on_views}
 
--- ---- properties that each message keeps
+-- ---- the borrowed desk and file, and the count of failures
 
 -- If a count has risen from `last` to `after`, it has risen from each `before` that is at most `last`.
 risen_from : (before last after : ℕ) → before ≤ last → HasRisen last after → HasRisen before after
@@ -48,8 +48,9 @@ record Stays (before after : BorrowedParts) : Type 0 where
   same_file : after.file ≡ before.file
   risen : before.failures ≤ after.failures
 
--- `parts` returns the borrowed parts of a state. By `keeps`, each message leaves the desk and the file, and never lowers
--- the count. Unless `is_kept`, it raises the count if it returns a failure.
+-- `parts` returns the borrowed parts of a state. By `keeps`, each message leaves the desk and the file, and never
+-- lowers the count of failures. If `is_kept` is false, a message that returns a failure raises the count. If it is
+-- true, taken messages are kept in a file, and a failure need not be counted.
 module _ {S : Type 0} (is_kept : Bool) (handles : Handles S ToolFault) (parts : S → BorrowedParts)
     (keeps : (s t : S) (apdu : Apdu) (r : Result (Unit {0}) ToolFault) → handles s apdu r t
     → KeepsBorrowed is_kept r (parts s) (parts t)) where
@@ -75,8 +76,8 @@ module _ {S : Type 0} (is_kept : Bool) (handles : Handles S ToolFault) (parts : 
         risen = omega (arith, counts.0, on.risen);
       }
 
-  -- Reading an input leaves the borrowed desk and file. Unless `is_kept`, it counts a failure of the store that it
-  -- returns. After a fault the reading has stopped (`stops`), or the handling of an APDU has failed (`hand`).
+  -- Reading an input leaves the borrowed desk and file. If `is_kept` is false, it counts a failure of the store that
+  -- it returns. After a fault the reading has stopped (`stops`), or the handling of an APDU has failed (`hand`).
   pub input_keeps : (old new : Option (List ℕ)) (before after : S) (result : Result ℕ ToolFault)
       → ReadsInput handles old new before result after → KeepsBorrowed is_kept result (parts before) (parts after)
   input_keeps old new before after (Ok n) is =
@@ -110,7 +111,7 @@ module _ {S : Type 0} (is_kept : Bool) (handles : Handles S ToolFault) (parts : 
             )
       ]
 
--- ---- a property that each message keeps
+-- ---- a property of states that no message ends
 
 -- `handles` leads from `s` to `t`, and `Holds` holds of `s`.
 abbrev Under : {S F : Type 0} → (S → Type 0) → Handles S F → Handles S F
@@ -127,7 +128,7 @@ module _ {S : Type 0} (Holds : S → Type 0) (handles : Handles S ToolFault)
       let on = handled_under is.0 after apdus (stays before is.0 apdu (Ok tt) holds is.1) is.2 in
       ((is.0, (holds, is.1), on.0), on.1)
 
-  -- If `Holds` holds at the end of the handled messages, the input ends under it.
+  -- If `Holds` holds after the handled messages, the end of the input is one under `Holds`.
   ends_under : (result : Result ℕ ToolFault) (count : ℕ) (rest : Rest) (before after : S) → Holds before
       → Ends handles result count rest before after → Ends (Under Holds handles) result count rest before after
   ends_under (Ok n) count rest before after holds is = is
@@ -136,7 +137,7 @@ module _ {S : Type 0} (Holds : S → Type 0) (handles : Handles S ToolFault)
     | inr fails ↦ inr (fails.0, fails.1, fails.2, fails.3, (holds, fails.4))
   ]
 
-  -- If `Holds` holds at first, the input is read under it. `on` is for its handled messages.
+  -- If `Holds` holds at first, the input is read under `Holds`. `on` is for its handled messages.
   reads_under : (old new : Option (List ℕ)) (before after : S) (result : Result ℕ ToolFault) → Holds before
       → ReadsInput handles old new before result after → ReadsInput (Under Holds handles) old new before result after
   reads_under old new before after result holds is =
@@ -163,7 +164,8 @@ pub record IsTaken {X : Type 0} (Runs : Type 0) (is_kept : Bool) (result : Resul
   pub same_came : new.file ≡ old.file
   pub counted : CountsTaking is_kept result old.failures new.failures
 
--- An input is taken on a borrowed desk, in the form that its handler has.
+-- An input is taken on a borrowed desk, in the form that its handler has. `view` returns what is known of a desk, and
+-- `failures` the failures of its store. `kept` returns the kept bytes, and `contents` the output.
 module _ {H S D A B C L N W : Type 0} (effects : Effects L N) (view : DeskOf H S → HeldAndLanded L)
     (failures : DeskOf H S → ℕ) (kept : D → Option (List ℕ)) (contents : W → Option (List ℕ)) where
   -- Returns the state of the command, without its input, at the state `s` of its handler.
@@ -182,11 +184,12 @@ module _ {H S D A B C L N W : Type 0} (effects : Effects L N) (view : DeskOf H S
   abbrev TakesIn : TakeForm → Handles (TakesEach H S D A B C × W) ToolFault
   TakesIn form s apdu r t = TakesMessage form.is_kept (wording form.is_long) effects (how_far s) apdu r (how_far t)
 
-  -- The borrowed desk and file stay, in the form `form`.
+  -- `apdu` leaves the borrowed desk and file, and failures are counted as the form `form` says (`KeepsBorrowed`).
   abbrev KeepsIn : TakeForm → Handles (TakesEach H S D A B C × W) ToolFault
   KeepsIn form s apdu r t = KeepsBorrowed form.is_kept r (borrowed s) (borrowed t)
 
-  -- `apdu` is taken in the form of the handler, which leads from `s` to `t`. The form, the borrowed desk and file stay.
+  -- `apdu` is taken in the form of the handler, which leads from `s` to `t`. The form, the borrowed desk and file
+  -- stay, and failures are counted.
   abbrev pub TakesOn : Handles (TakesEach H S D A B C × W) ToolFault
   TakesOn s apdu r t = TakesIn s.0.form s apdu r t × (t.0.form ≡ s.0.form) × KeepsIn s.0.form s apdu r t
 

@@ -22,8 +22,8 @@ ActsAndSaves effects key old action result new =
 abbrev pub FailsToName : Option Action → ToolFault → Type 0
 FailsToName named fault = ((fault ≡ Arguments) × (named ≡ None)) ⊎ (fault ≡ OutOfMemory)
 
--- The command `act`. If the words name an action, it was performed, and its line written. If they name none,
--- nothing changed. The fault `OutOfMemory` is possible in both cases.
+-- The command `act`. If the words name an action, it was performed (`ActsAndSaves`), and its line written
+-- (`Reports`). If they name none, nothing changed. The fault `OutOfMemory` is possible in both cases.
 abbrev pub RunsAct : {L K : Type 0} → Effects L K → K → Option Action → CommandState L → Result Bool ToolFault →
     CommandState L → Type 0
 RunsAct effects key (Some action) old result new =

@@ -41,12 +41,12 @@ asking_of view = record {
   is_trial = view.is_trial;
 }
 
--- Returns true if a side that is shown as `now` was seen so. If nothing is said of what was seen, it was.
+-- Returns true if `seen` is the text of a side shown as `now`, or if `seen` is `None`.
 abbrev pub is_as_seen : Option (List ℕ) → Shown → Bool
 is_as_seen None now = true
 is_as_seen (Some seen) now = bytes_eq seen (shown_text now)
 
--- Returns the line of a side that was not seen as it is now.
+-- Returns the line that tells that a side, which is shown as `now`, was not seen so.
 abbrev pub changed_line : Shown → List ℕ
 changed_line now = codes "changed " ++ shown_text now ++ codes "\n"
 
@@ -61,7 +61,7 @@ abbrev pub WritesChange : Shown → Option (List ℕ) → Option (List ℕ) → 
 WritesChange now before after result =
     (written : Result (Unit {0}) ToolFault) × WritesText before after (changed_line now) written × (result ≡ not_done written)
 
--- The side was not seen as it is, shown as `now`. Its line was written, and nothing changed.
+-- The side is shown as `now`, and was not seen so. The line of this change was written, and nothing else changed.
 abbrev pub TellsChange : {L : Type 0} → Shown → CommandState L → Result Bool ToolFault → CommandState L → Type 0
 TellsChange now old result new = (new.desk ≡ old.desk) × WritesChange now old.written new.written result
 
@@ -111,8 +111,8 @@ RunsOrTries asked old result new =
     IfSo asked.is_trial (RunsTrial many_sides asked.txn (action_asked asked old.desk.live) old result new)
     (RunsAct many_sides asked.txn (action_asked asked old.desk.live) old result new)
 
--- The command `act`, as a person asks for it. If the loan is not as it was seen, its line is told. Otherwise the action is
--- performed, or only tried.
+-- The command `act`, as a person asks for it. If the loan is not as it was seen, the line of this change is written.
+-- Otherwise the action is performed, or only tried.
 abbrev pub RunsActAs : Asking → CommandState DeskContents → Result Bool ToolFault → CommandState DeskContents → Type 0
 RunsActAs asked old result new =
     IfSo (is_as_seen asked.seen (shown_at many_sides asked.txn old.desk.live)) (RunsOrTries asked old result new)
@@ -120,18 +120,18 @@ RunsActAs asked old result new =
 
 -- ---- the diary
 
--- Returns the line of a diary that names an action with these words, as the next message of a loan with `issued` messages.
--- Without a day there is none.
+-- Returns the line of a diary that names an action with these words, done by the person `by`. The action is the next
+-- message of a loan with `issued` messages. Without a day or without words there is none.
 abbrev pub words_line : Option Date → (by : Option (List ℕ)) → Qualifiers → (words : List (List ℕ)) → (issued : ℕ) → List ℕ
 words_line (Some day) by txn (verb ∷ words) issued = diary_line day by txn verb (issued + 1)
 words_line today by txn words issued = []
 
--- Returns the line of a diary that names the action for which a person asks, as `words_line` does. There is none if it is
--- only tried.
+-- Returns the line of a diary that names the action for which a person asks, as `words_line` does. If the action is
+-- only tried, there is none.
 abbrev pub action_line : Asking → (by : Option (List ℕ)) → (issued : ℕ) → List ℕ
 action_line asked by issued = if asked.is_trial then [] else words_line asked.today by asked.txn asked.words issued
 
--- An action with this answer was entered in a diary, as `EntersDone` says. One that is only tried is not entered.
+-- An action with this answer was entered in a diary, as `EntersDone` says. If it is only tried, nothing was entered.
 abbrev pub EntersUnlessTried : (is_trial : Bool) → Result Bool ToolFault → (line : List ℕ) → DiaryState → DiaryState → Type 0
 EntersUnlessTried true answer line old new = new ≡ old
 EntersUnlessTried false answer line old new = EntersDone answer line old new

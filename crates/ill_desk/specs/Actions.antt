@@ -24,6 +24,7 @@ abbrev pub action_for : Role → Option Date → List (List ℕ) → Option Acti
 action_for Requester today words = option_map Wish (wish_of words)
 action_for Responder today words = deed_on today words
 
--- Returns the action that `words` name for a side of the role `role` on the day `today`.
+-- Returns the action that `words` name for a side of the role `role` on the day `today`. Each must be a word of a
+-- script.
 unfoldable pub action_named : Role → Option Date → List (List ℕ) → Option Action
 action_named role today words = if list_all is_word words then action_for role today words else None

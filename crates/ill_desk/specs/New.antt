@@ -20,8 +20,9 @@ RunsNew line before after (Err (Desk (Store fault))) = Appends before after []
 RunsNew line before after (Err OutOfMemory) = Appends before after []
 RunsNew line before after (Err other) = ⊥
 
--- The first save of `bytes` leads an honest store with this plan from the content `old` to `new`. The new
--- content is `bytes`, unless the store failed or memory ran out before the save.
+-- The first save of `bytes` leads an honest store with this plan from the content `old` to `new`. Without a failure
+-- of the store the new content is `bytes`. If the store failed, it is as `LandsAtFailure` says. If memory ran out, it
+-- is `old` or `bytes`.
 abbrev pub LandsFirst : Option NextCall → List ℕ → Result (Unit {0}) ToolFault → Option (List ℕ) →
     Option (List ℕ) → Type 0
 LandsFirst plan bytes (Ok done) old new = new ≡ Some bytes

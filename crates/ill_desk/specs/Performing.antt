@@ -101,9 +101,9 @@ abbrev pub IsChange : Result DeskOutcome ToolFault → Type 0
 IsChange (Ok outcome) = is_change outcome ≡ true
 IsChange (Err fault) = ⊥
 
--- An event with this outcome and these sides leads from `old` to `new`, with this result. It happened, and
--- was saved if it is a change. Its record is read as these sides. Or it is a change, and the save failed. Or
--- memory ran out for the event, if it needs memory (`WantsMemory`), or for the save.
+-- An event with this outcome and these sides (`event`) leads from `old` to `new`, with this result. It happened, and
+-- was saved if it is a change. The saved record is read as these sides. Or the event is a change, and the save
+-- failed. Or memory ran out for the event, if it needs memory (`WantsMemory`), or for the save.
 abbrev pub Performs : {L K : Type 0} → Effects L K → Type 0 → HeldAndLanded L → Result DeskOutcome ToolFault × L →
     Result DeskOutcome ToolFault → HeldAndLanded L → Type 0
 Performs effects WantsMemory old event (Ok outcome) new =
@@ -122,8 +122,8 @@ Performs effects WantsMemory old event (Err other) new = ⊥
 abbrev pub has_any : {X : Type 0} → List X → Bool
 has_any items = nat_lt 0 (length items)
 
--- One save of all changes leads from `old` to `new`, and its record is read as these sides. Without a change
--- nothing is saved. If the save failed, the store has the old record or the new one. If memory ran out,
+-- One save of all `changes` leads from `old` to `new`. The record is read as the sides that the desk holds. Without a
+-- change nothing is saved. If the save failed, the store has the old record or the new one. If memory ran out,
 -- nothing changed.
 abbrev pub SavesOnce : {L K X : Type 0} → Effects L K → List X → HeldAndLanded L → Result (Unit {0}) ToolFault
     → HeldAndLanded L → Type 0

@@ -20,7 +20,8 @@ WritesMessage text None is_released before after result =
 WritesMessage text (Some a) false before after result = (result ≡ Err (Desk NotSaved)) × Appends before after []
 WritesMessage text (Some a) true before after result = WritesText before after (text (encoding a)) result
 
--- The message `number` of the side was written as `text` makes it of its bytes, if the side is held.
+-- The message `number` of the side was written as `text` makes it of its bytes, if the side is held. Else the fault
+-- is `NoSuchTransaction`, and nothing was written.
 abbrev pub RunsSendAs : (text : List ℕ → List ℕ) → Option DeskEntry → ℕ → Option (List ℕ) → Option (List ℕ) →
     Result (Unit {0}) ToolFault → Type 0
 RunsSendAs text None number before after result =
@@ -28,7 +29,7 @@ RunsSendAs text None number before after result =
 RunsSendAs text (Some held) number before after result =
     WritesMessage text (message (issued_of held.side) number) (nat_le number held.released) before after result
 
--- The command: the bytes of the message `number` of the side were written, if the side is held.
+-- The command: the bytes of the message `number` of the side were written, as `RunsSendAs` says.
 abbrev pub RunsSend : Option DeskEntry → ℕ → Option (List ℕ) → Option (List ℕ) → Result (Unit {0}) ToolFault →
     Type 0
 RunsSend held number before after result = RunsSendAs (λ bytes. bytes) held number before after result

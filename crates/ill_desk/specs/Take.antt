@@ -58,16 +58,16 @@ KeepsTaken is_kept a (Ok outcome) old new =
     Appends old.kept new.kept (kept_text (is_change outcome && is_kept) a)
 KeepsTaken is_kept a (Err fault) old new = KeepsBefore {X = Unit {0}} (kept_text is_kept a) (Err fault) old new
 
--- The save of a taken message leads from `old` to `new`. It succeeded, and its record is read as these sides.
--- Or it failed, or memory ran out and nothing changed.
+-- The save of a taken message leads from `old` to `new`. It succeeded, and its record is read as the sides that the
+-- desk holds. Or it failed, or memory ran out and nothing changed.
 abbrev pub SavesTaken : {L K : Type 0} → Effects L K → HeldAndLanded L → Result (Unit {0}) ToolFault → HeldAndLanded L → Type 0
 SavesTaken effects old (Ok done) new = (new ≡ saved effects old) × IsReadAgain effects old.live
 SavesTaken effects old (Err (Desk (desks.Store Failed))) new = IsFaulted effects old new
 SavesTaken effects old (Err OutOfMemory) new = new ≡ old
 SavesTaken effects old (Err other) new = ⊥
 
--- The count of the store's failures never falls. If the answer is a failure and nothing is kept, the count
--- has risen, or is at its maximum.
+-- The count of the store's failures goes from `old` to `new`, and never falls. `is_kept` is true if taken messages
+-- are kept in a file. If it is false and the answer is a failure, the count has risen, or is at its maximum.
 abbrev pub CountsTaking : {X : Type 0} → Bool → Result X ToolFault → ℕ → ℕ → Type 0
 CountsTaking is_kept answer old new = (old ≤ new) × (is_kept ≡ false → ToolFailsCounted answer old new)
 
@@ -78,12 +78,13 @@ pub record Progress (L : Type 0) : Type 0 where
   pub state : CommandState L
   pub fine : Bool
 
--- Returns the progress of these two parts. The input, which is read between the messages, is left out.
+-- Returns the progress of `state` and `fine`. The input, which is read between the messages, is left out.
 abbrev pub progress : {L : Type 0} → CommandState L → Bool → Progress L
 progress state fine = record { state = with_input None state; fine = fine }
 
--- The message `a` was handed to its side, kept and saved if it was taken, and its outcome written. If memory
--- ran out to read it, nothing changed. After any other fault this was done up to the fault.
+-- The message `a` was handed to its side. If it was taken, it was kept (if `is_kept` is true) and saved. The text
+-- that `told` gives was written. If memory ran out to read the message, nothing changed. After any other fault this
+-- was done up to the fault.
 abbrev pub TakesMessage : {L K : Type 0} → Bool → Wording → Effects L K → Handles (Progress L) ToolFault
 TakesMessage is_kept told effects old a (Ok done) new =
     (outcome : DeskOutcome) × TakesAndSaves effects old.state.desk a (Ok outcome) new.state.desk
@@ -129,7 +130,7 @@ pub record BorrowedParts : Type 0 where
 abbrev pub borrowed_parts : GName → GName → ℕ → BorrowedParts
 borrowed_parts desk file failures = record { desk = desk; file = file; failures = failures }
 
--- The borrowed desk and file are unchanged, and the failures of the store are counted.
+-- The borrowed desk and file are the same, and the failures of the store are counted as `CountsTaking` says.
 abbrev pub KeepsBorrowed : {X : Type 0} → Bool → Result X ToolFault → BorrowedParts → BorrowedParts → Type 0
 KeepsBorrowed is_kept result old new =
     ((new.desk ≡ old.desk) × (new.file ≡ old.file)) × CountsTaking is_kept result old.failures new.failures

@@ -23,7 +23,7 @@ is_fine NoSuchTransaction = false
 is_fine DeskFull = false
 is_fine (Plain outcome) = true
 
--- Returns the parts of a side that a line shows.
+-- Returns the parts of an entry of a desk that a line shows.
 abbrev pub shown_in : DeskEntry → Shown
 shown_in held = shown_of held.side held.released
 

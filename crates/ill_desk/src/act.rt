@@ -81,7 +81,8 @@ pub fn run_desk_act<S: Store, W: Write>(
     }
 }
 
-/// Returns the action that `words` name at a side of `role`, or the fault `Arguments` if they name none.
+/// Returns the action that `words` name at a side of `role`. If they name none, the fault is `Arguments`. If memory
+/// runs out, it is `OutOfMemory`.
 pub(crate) fn named(
     alloc: Global,
     role: Role,
@@ -107,8 +108,8 @@ pub(crate) struct KeyedAction<'a, K> {
     pub(crate) action: &'a Action,
 }
 
-/// Performs `keyed` at `desk`, saves it, and writes the line of the side. If the action is done, `entry` is entered before
-/// the save.
+/// Performs `keyed` at `desk`, saves it, and writes the line of the side. If the action is done, `entry` is entered
+/// before the save. Returns true if the action was done, and false if it was refused.
 #[tactic(auto, using(crate::proofs::ActLemmas::enters_told))]
 pub(crate) fn perform<H: Holdings, S: Store, D: Write, W: Write>(
     alloc: Global,
@@ -132,7 +133,8 @@ pub(crate) fn perform<H: Holdings, S: Store, D: Write, W: Write>(
     }
 }
 
-/// Performs `action` on the side `key`. If it was done, it enters `entry`, and then saves the desk.
+/// Performs `action` on the side `key`. If it was done, it enters `entry`, and then saves the desk. Returns the
+/// outcome.
 #[tactic(auto, using(crate::proofs::ActLemmas::enters_nothing))]
 fn act_and_save<H: Holdings, S: Store, D: Write>(
     alloc: Global,

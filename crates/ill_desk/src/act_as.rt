@@ -40,8 +40,8 @@ pub struct ActionView<'a> {
     pub is_trial: bool,
 }
 
-/// Returns the line of a diary that names the action of `view` at `desk`, as the next message of its loan. There is none
-/// without a day, and if the action is only tried.
+/// Returns the line of a diary that names the action of `view` at `desk`, as the next message of its loan. The line
+/// is empty without a day, without words, and if the action is only tried.
 pub fn action_line<S: Store>(
     alloc: Global,
     desk: &Desk<S>,
@@ -57,6 +57,7 @@ pub fn action_line<S: Store>(
 }
 
 /// Returns the line of a diary that names the action of `view`, as the next message of a loan with `issued` messages.
+/// The line is empty without a day or without words.
 fn words_line(alloc: Global, view: &ActionView<'_>, issued: u8) -> Result<Vec<u8>, OutOfMemory>
     ensures { IfOk result (λ line. line.items ≡ words_line view.now.today (option_map (λ name. name.now) view.now.by)
         view.now.txn.now (map (λ word. word.now) view.now.words.now) issued) }
@@ -72,8 +73,8 @@ fn words_line(alloc: Global, view: &ActionView<'_>, issued: u8) -> Result<Vec<u8
 /// `view` says what was seen, and the loan is shown otherwise now, nothing is done. Then a line with `changed` and
 /// what is shown is written, and the answer is false.
 ///
-/// If the action is only tried, its line is written as if it was done and saved, and nothing is saved. Let the desk go
-/// then: its sides in memory are those after the action.
+/// If the action is only tried, its line is written as if it was saved, and nothing is saved. The caller must not use
+/// the desk after that: its sides in memory are those after the action.
 #[tactic(auto, using(crate::proofs::ActLemmas::enters_unasked, crate::proofs::ActLemmas::enters_unseen))]
 pub fn run_desk_act_as<S: Store, D: Write, W: Write>(
     alloc: Global,
@@ -149,7 +150,7 @@ fn act_words<S: Store, D: Write, W: Write>(
     }
 }
 
-/// Returns true if a side that is shown as `now` was seen so, or if nothing is said of what was seen.
+/// Returns true if `seen` is the text of a side shown as `now`, or if `seen` is `None`.
 fn is_as_seen(alloc: Global, seen: Option<&str>, now: Shown) -> Result<bool, OutOfMemory>
     ensures { IfOk result (λ is. is ≡ is_as_seen (option_map (λ text. text.now) seen.entry) now) }
 {
@@ -163,7 +164,7 @@ fn is_as_seen(alloc: Global, seen: Option<&str>, now: Shown) -> Result<bool, Out
     }
 }
 
-/// Writes the line of a side that was not seen as it is now, and returns false.
+/// Writes the line that tells that a side, which is shown as `now`, was not seen so. Returns false.
 fn tell_change<W: Write>(alloc: Global, now: Shown, writer: &mut W) -> Result<bool, ToolFault>
     ensures { WritesChange now (W.contents writer.old) (W.contents writer.new) result }
 {
@@ -173,7 +174,7 @@ fn tell_change<W: Write>(alloc: Global, now: Shown, writer: &mut W) -> Result<bo
     }
 }
 
-/// Returns the line of a side that was not seen as it is now.
+/// Returns the line that tells that a side, which is shown as `now`, was not seen so.
 fn changed_text(alloc: Global, now: Shown) -> Result<Vec<u8>, OutOfMemory>
     ensures { IfOk result (λ line. line.items ≡ changed_line now) }
 {
@@ -250,6 +251,7 @@ fn act_unsaved<S: Store>(
 }
 
 /// Writes the line of an action that was tried, with this outcome. `now` has the shown parts of its side in memory.
+/// Returns true if the action was done.
 fn report_trial<W: Write>(
     alloc: Global,
     writer: &mut W,

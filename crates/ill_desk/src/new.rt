@@ -38,7 +38,7 @@ pub fn run_desk_new<S: Store, W: Write>(
     }
 }
 
-/// Saves a desk that was just begun, and writes its line.
+/// Saves a desk that was just begun, and writes the line `done`.
 fn save_first<S: Store, W: Write>(
     alloc: Global,
     desk: &mut Desk<S>,

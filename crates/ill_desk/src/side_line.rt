@@ -14,8 +14,8 @@ use ill_words::{DeskOutcome, Outcome, push_shown};
 use std::alloc::Global;
 use std::io::Write;
 
-/// Writes the line of an outcome and of the side after it: `OUTCOME STATE DUE RELEASED/ISSUED`. Returns true if all
-/// went well.
+/// Writes the line of an outcome and of the side after it: `OUTCOME STATE DUE RELEASED/ISSUED`. Returns true if
+/// nothing was refused, and no message was in conflict.
 pub fn report<W: Write>(
     alloc: Global,
     writer: &mut W,
@@ -40,7 +40,7 @@ pub struct Told<'a, 'b> {
 }
 
 /// Writes the line of the outcome of a message. If `told` is long, the heading of the message is before it, and the
-/// lines of its fields after it. Returns true if all went well.
+/// lines of its fields after it. Returns true if nothing was refused, and the message was not in conflict.
 pub fn report_message<W: Write>(
     alloc: Global,
     writer: &mut W,
@@ -56,7 +56,7 @@ pub fn report_message<W: Write>(
     Ok(is_fine(outcome))
 }
 
-/// Appends the text of the outcome of a message.
+/// Appends the text of the outcome of a message: the long text if `told` is long, and else the line alone.
 fn push_words(
     lines: &mut Vec<u8>,
     told: &Told<'_, '_>,

@@ -106,7 +106,8 @@ pub fn run_desk_take_as<H: Holdings, S: Store, F: Write, R: Read, W: Write>(
     take_input(alloc, &mut taken, reader, writer)
 }
 
-/// Takes each APDU of the input with `taken`, which has taken none before.
+/// Takes each APDU of the input with `taken`, which has taken none before. Returns true if none was refused or in
+/// conflict.
 fn take_input<H: Holdings, S: Store, F: Write, R: Read, W: Write>(
     alloc: Global,
     taken: &mut Counted<TakesEach<'_, '_, H, S, F>>,
@@ -131,8 +132,8 @@ fn take_input<H: Holdings, S: Store, F: Write, R: Read, W: Write>(
     }
 }
 
-/// A handler that takes each APDU at a desk, in the form `form`. It writes the text of each, and records if all went
-/// well.
+/// A handler that takes each APDU at `desk`, in the form `form`. If the form says so, it keeps taken ones in `came`.
+/// It writes the text of each. `all_fine` is true if none was refused or in conflict so far.
 #[derive(Drop)]
 struct TakesEach<'a, 'b, H: Holdings, S: Store, F: Write> {
     desk: &'a mut AnyDesk<H, S>,
@@ -142,7 +143,8 @@ struct TakesEach<'a, 'b, H: Holdings, S: Store, F: Write> {
 }
 
 impl<H: Holdings, S: Store, F: Write> TakesEach<'_, '_, H, S, F> {
-    /// Takes `apdu`, which was read as `read`, saves it if it was taken, and writes its line.
+    /// Takes `apdu`, which was read as `read`. If it was taken, it is kept as the form says, and saved. Then its text
+    /// is written.
     fn take_and_tell<W: Write>(
         &mut self,
         alloc: Global,
@@ -210,7 +212,8 @@ impl<H: Holdings, S: Store, F: Write, W: Write> Handler<W> for TakesEach<'_, '_,
     }
 }
 
-/// Takes `apdu`. If it was taken and `is_kept` is set, it is kept in `came`. Then the desk is saved.
+/// Takes `apdu`. If it was taken and `is_kept` is set, it is kept in `came`. Then the desk is saved. Returns the
+/// outcome.
 fn take_and_save<H: Holdings, S: Store, F: Write>(
     alloc: Global,
     desk: &mut AnyDesk<H, S>,
@@ -272,7 +275,7 @@ fn keep<F: Write>(alloc: Global, came: &mut F, apdu: &Apdu) -> Result<(), ToolFa
     keep_bytes(came, &bytes)
 }
 
-/// Keeps `bytes` of messages: they are written and flushed.
+/// Keeps `bytes` of messages: they are written and flushed. If that fails, it is a failure of the store.
 pub fn keep_bytes<F: Write>(came: &mut F, bytes: &[u8]) -> Result<(), ToolFault>
     ensures { KeepsPrefix bytes.now (F.contents came.old) (F.contents came.new) result }
 {

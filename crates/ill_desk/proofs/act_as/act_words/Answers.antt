@@ -7,7 +7,8 @@ use Rattle.ill_desk.specs.Actions.{action_named}
 use Rattle.ill_desk.proofs.ActLemmas.{not_named}
 use Rattle.ill_desk.proofs.act_as.act_words.Goals as goal
 
--- Proves the clause `runs` of `act_words` if the words name no action. Then nothing is written, and nothing changes.
+-- Proves the clause `runs` of `act_words` if `named` fails: the words name no action, or memory runs out. Then
+-- nothing is written, and nothing changes.
 pub returns-in-Err-clause-runs : goal.returns-in-Err-clause-runs
 returns-in-Err-clause-runs g c =
     let words = map (λ (word : Bor (List ℕ)). word.now) c.args.view.now.words.now in

@@ -15,8 +15,8 @@ module _ {T V D B : Type 0} (view : T → V) (kept : D → B) (P : V → V → B
       (subst (λ w. P (view x) (view y) (kept w) (kept r)) g
       (subst (λ w. P (view x) (view w) (kept p) (kept r)) f (subst (λ w. P (view w) (view b) (kept p) (kept r)) e is)))
 
--- Proves the clause `runs` of `run_desk_take_as`. The handler of `take_input` begins and ends with the desk and file of
--- `run_desk_take_as`.
+-- Proves the clause `runs` of `run_desk_take_as`. The handler of `take_input` begins and ends with the desk and file
+-- of `run_desk_take_as`. At first `start` says it of the desk, and `empty` of the file.
 pub returns-clause-runs : goal.returns-clause-runs
 returns-clause-runs g c =
     let start : c.new-taken.result.handler.desk.now ≡ c.args.desk.now = search rules in

@@ -45,8 +45,8 @@ abbrev pub ReplacesKnown : SidesOf → Option (Option (List ℕ)) → Copied →
 ReplacesKnown own None result = Unit {0}
 ReplacesKnown own (Some content) result = Replaces own content result
 
--- A copy of `own` leads from the content `old` of a store to `new`. If `own` extends the record there, or if there
--- is none, it is replaced. Else the store keeps its content. Or the copy failed.
+-- A copy of `own` leads from the content `old` of a store to `new`. If `own` extends the record in the store, or if
+-- the store has no content, `own` is the new content. Else the store keeps its content. Or the copy failed.
 abbrev pub CopiesOver : SidesOf → Option (Option (List ℕ)) → Result Copied ToolFault → Option (Option (List ℕ)) → Type 0
 CopiesOver own old (Ok Done) new = ReplacesKnown own old Done × Copies (sides_encoding own) old (Ok tt) new
 CopiesOver own old (Ok kept) new = ReplacesKnown own old kept × (new ≡ old)

@@ -13,8 +13,8 @@ use ill_values::{OutOfMemory, TxnId};
 use ill_words::is_over;
 use std::alloc::Global;
 
-/// Returns the bytes of the messages that ask, one after another. They are in done mails of `mails`, and came for loans
-/// that are over. A responder answers them in the next outbox.
+/// Returns the bytes of the messages that ask, one after another. They are in those of `mails` that are done by
+/// `verdicts`, and came for loans that are over at `desk`. A responder answers them in the next outbox.
 pub fn asked_by<S: Store>(
     alloc: Global,
     desk: &Desk<S>,

@@ -28,8 +28,9 @@ pub enum Copied {
     NoRecord,
 }
 
-/// Copies `desk` as `run_desk_copy` does, if the desk extends the record in `copy`, or if there is none. Else the desk is
-/// another one, or an older state of it, and `copy` is unchanged. What is no record is not replaced either.
+/// Copies `desk` as `run_desk_copy` does, if the desk extends the record in `copy`, or if `copy` has no content. Else
+/// `copy` is unchanged, and the result says why. The desk is another one, or an older state of it, or `copy` has no
+/// record.
 pub fn run_desk_copy_over<S: Store, C: Store>(
     alloc: Global,
     desk: &Desk<S>,
@@ -49,7 +50,8 @@ pub fn run_desk_copy_over<S: Store, C: Store>(
     }
 }
 
-/// Returns the result of a copy of `own` to `copy`, by what `copy` has.
+/// Returns the result that a copy of `own` to `copy` has, by what `copy` has. It changes nothing. It fails if the
+/// load of `copy` fails or memory runs out.
 fn judge_copy<C: Store>(alloc: Global, own: &Sides, copy: &mut C) -> Result<Copied, ToolFault>
     ensures judged { IfOk result (ReplacesKnown own.now (known (C.state copy.old))) }
     ensures fault { IfErr result IsFileFault }
@@ -64,7 +66,7 @@ fn judge_copy<C: Store>(alloc: Global, own: &Sides, copy: &mut C) -> Result<Copi
     }
 }
 
-/// Returns the result of a copy of `own` over the record `bytes`.
+/// Returns the result that a copy of `own` over the record `bytes` has. It fails if memory runs out.
 fn judge_record(alloc: Global, own: &Sides, bytes: &[u8]) -> Result<Copied, ToolFault>
     ensures judged { IfOk result (ReplacesRead own.now (records_at bytes.now)) }
     ensures fault { IfErr result (λ fault. fault ≡ OutOfMemory) }
@@ -76,7 +78,7 @@ fn judge_record(alloc: Global, own: &Sides, bytes: &[u8]) -> Result<Copied, Tool
     }
 }
 
-/// Returns the result of a copy of `own` over the sides `copied`.
+/// Returns the result that a copy of `own` over the sides `copied` has. It fails if memory runs out.
 fn judge_sides(alloc: Global, own: &Sides, copied: &Sides) -> Result<Copied, ToolFault>
     ensures judged { IfOk result (ReplacesSides own.now copied.now) }
     ensures fault { IfErr result (λ fault. fault ≡ OutOfMemory) }

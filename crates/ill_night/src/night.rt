@@ -22,7 +22,7 @@ pub struct Night<'a> {
     pub outgoing: &'a str,
     /// The day of the run, and the deeds that it makes a responder do.
     pub dates: Option<(Day, Dates)>,
-    /// The stamp of the lines of the diary, if a day is given.
+    /// The day and the person in the lines of the diary, if a day is given.
     pub stamp: Option<Stamp<'a>>,
     /// The path of the file of the copy. On a shelf it is the path of a folder, in which each copy has the name of its
     /// desk.

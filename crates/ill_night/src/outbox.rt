@@ -35,7 +35,7 @@ pub fn run_desk_outbox<S: Store, O: Outgoing>(
     put_all(alloc, &leaving, out)
 }
 
-/// Writes the messages of `run_desk_outbox` to `writer`, one after another.
+/// Writes the messages that `run_desk_outbox` puts into an outlet to `writer`, one after another.
 pub fn run_desk_outbox_stream<S: Store, W: Write>(
     alloc: Global,
     desk: &Desk<S>,
@@ -60,7 +60,7 @@ pub(crate) struct Leaving<'a> {
     pub(crate) apdu: &'a Apdu,
 }
 
-/// Returns the messages that leave `desk`.
+/// Returns the messages that leave `desk`. `asking` has the messages that ask.
 fn leaving_desk<'a, S: Store>(
     alloc: Global,
     desk: &'a Desk<S>,
@@ -72,7 +72,7 @@ fn leaving_desk<'a, S: Store>(
     leaving_sides(alloc, &held, asking)
 }
 
-/// Returns the messages of `sides` that leave.
+/// Returns the messages of `sides` that leave. `asking` has the messages that ask.
 fn leaving_sides<'a>(
     alloc: Global,
     sides: &[HeldSide<'a>],
@@ -87,7 +87,7 @@ fn leaving_sides<'a>(
     Ok(leaving)
 }
 
-/// Appends the released messages of `held`, if it wants sending.
+/// Appends the released messages of `held`, if it wants sending. `asking` has the messages that ask.
 fn push_leaving<'a>(
     leaving: &mut Vec<Leaving<'a>>,
     held: HeldSide<'a>,
@@ -197,7 +197,7 @@ fn loan_stem(alloc: Global, role: Role, txn: &TxnId) -> Result<Vec<u8>, OutOfMem
 /// The number of hexadecimal digits of the digest of a loan's text that begin the names of its mails.
 const STEM: usize = 32;
 
-/// Returns a text that differs from the text of any other loan or role.
+/// Returns a text of the loan `txn` at a desk of the role `role`. It differs from the text of any other loan or role.
 fn loan_text(alloc: Global, role: Role, txn: &TxnId) -> Result<Vec<u8>, OutOfMemory>
     ensures { IfOk result (λ text. text.items ≡ loan_text role txn.now) }
 {

@@ -16,7 +16,7 @@ pub trait Outgoing {
     /// The mails in an outlet after one more was put into it.
     ghost after: { Self.Mails → Letter → Self.Mails };
 
-    /// Puts a message into the outlet, whole or not at all.
+    /// Puts the message `bytes` into the outlet, whole or not at all. `name` is the name of its mail.
     fn put(&mut self, name: &[u8], bytes: &[u8]) -> Result<(), ToolFault>
         ensures { PutsOne after (record { name = name.now; bytes = bytes.now }) (mails self.old) (mails self.new) result };
 }

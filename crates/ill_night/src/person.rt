@@ -121,7 +121,8 @@ pub fn wants_person(role: Role, mails: &[Mail], verdicts: &[Verdict]) -> bool
     mails.iter().zip(verdicts).any(|(mail, verdict)| Matter::of(role, mail, *verdict).is_some())
 }
 
-/// Writes a line to `errors` for each of `mails` that wants a person. It has the mail, and the choices of the person.
+/// Writes a line to `errors` for each of `mails` that wants a person. It has the mail, the matter, and what the
+/// person may do. A line that cannot be written is left out.
 pub fn tell_person<E: Write>(
     alloc: Global,
     role: Role,

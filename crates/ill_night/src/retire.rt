@@ -41,14 +41,14 @@ pub fn run_desk_retire<S: Store, C: Store>(
     }
 }
 
-/// Returns true if the loans of `sides` are all over.
+/// Returns true if the loans of `sides` are all over. The contract tests the sides themselves.
 fn are_over(sides: &[&Side]) -> bool
     ensures { result ≡ are_all_over (map (λ side. side.now) sides.now) }
 {
     are_each_over(sides)
 }
 
-/// Returns true if each of `sides` is over.
+/// Returns true if the loans of `sides` are all over. The contract tests the references to the sides.
 fn are_each_over(sides: &[&Side]) -> bool
     ensures { result ≡ list_all (λ side. is_over side.now) sides.now }
 {

@@ -6,8 +6,8 @@ use Rattle.ill_night.specs.Outbox.{asked_by, asking_bytes_at}
 use Rattle.ill_night.proofs.OutboxLemmas.{asking_split_at}
 use Rattle.ill_night.proofs.asked.asked_by.Goals as goal
 
--- Proves the loop invariant of `asked_by` after one more mail. `asking_split_at` splits off the bytes of the mail at
--- `place`.
+-- Proves the loop invariant of `asked_by` after one more mail. `asking_split_at` splits off `here`, the bytes of the
+-- mail at `place`, from the bytes of the later mails, which are `left`.
 pub loop-place-preserved : goal.loop-place-preserved
 loop-place-preserved g c =
     let live = c.args.desk.now.live in

@@ -45,7 +45,7 @@ deed_at which today state due =
     else if which.expire && may_expire state then Some deeds.Expire
     else None
 
--- Returns the deed that is due on the day `today` in a loan of this role. A requester has no deeds.
+-- Returns the deed to attempt on the day `today` in a loan of this role. A requester has no deeds.
 abbrev pub deed_of_role : Dates → Date → Role → State → Option Date → Option Deed
 deed_of_role which today Requester state due = None
 deed_of_role which today Responder state due = deed_at which today state due
@@ -95,7 +95,7 @@ after_deeds effects today live dues = fold (after_deed effects today) (doing liv
 
 -- ---- the lines
 
--- Returns the texts of all deeds of `done`.
+-- Returns the texts of all deeds of `done`, in this form, with the sides of the desk `live`.
 abbrev pub told_deeds : {L : Type 0} → Form → Effects L Qualifiers → L → List Due → List ℕ
 told_deeds form effects live done = flat_map (told_deed form effects live) done
 

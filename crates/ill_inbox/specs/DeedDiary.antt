@@ -24,16 +24,16 @@ deed_diary_line effects begin live due = begin
 abbrev pub deed_diary_lines : {L : Type 0} → Effects L Qualifiers → (begin : List ℕ) → L → List Due → List ℕ
 deed_diary_lines effects begin live done = flat_map (deed_diary_line effects begin live) done
 
--- Returns the lines of all deeds of `done`. There are none without a text with which they begin.
+-- Returns the lines of all deeds of `done`. If `begin` is empty, there are none.
 abbrev pub lines_beginning : {L : Type 0} → Effects L Qualifiers → (begin : List ℕ) → L → List Due → List ℕ
 lines_beginning effects begin live done = if has_any begin then deed_diary_lines effects begin live done else []
 
--- `lines` were entered in a diary if `has_lines`. Else it stays as it is.
+-- If `has_lines` is true, `lines` were entered in a diary. Else the diary stays as it is.
 abbrev pub EntersIf : (has_lines : Bool) → (lines : List ℕ) → DiaryState → DiaryState → Type 0
 EntersIf true lines old new = Enters lines old new
 EntersIf false lines old new = new ≡ old
 
--- `lines` were entered in a diary. Without lines it stays as it is.
+-- `lines` were entered in a diary. Without lines the diary stays as it is.
 abbrev pub EntersAny : (lines : List ℕ) → DiaryState → DiaryState → Type 0
 EntersAny lines old new = EntersIf (has_any lines) lines old new
 

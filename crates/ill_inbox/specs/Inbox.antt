@@ -51,7 +51,7 @@ sorting_of live sorted = record {
 abbrev pub unsorted : {L : Type 0} → Form → L → Sorting L
 unsorted form live = record { form = form; live = live; verdicts = []; told = []; kept = [] }
 
--- Returns the state after the verdict of the mail `name`.
+-- Returns the state after the verdict of the mail `name`, which is told if the mail stays.
 abbrev pub with_verdict : {L : Type 0} → List ℕ → Verdict → Sorting L → Sorting L
 with_verdict name verdict old = record {
   form = old.form;
@@ -65,8 +65,8 @@ with_verdict name verdict old = record {
 abbrev pub kept_bytes : DeskOutcome → List ℕ → List ℕ
 kept_bytes outcome bytes = if is_change outcome then bytes else []
 
--- Returns the state after a message with this outcome. It is told with its side as it is once all is saved. Its bytes are
--- kept if it was taken.
+-- Returns the state after the message `a` with this outcome, which led to the sides `live`. The message is told with
+-- its side as it is once all is saved. If it was taken, its `bytes` are kept.
 abbrev pub with_message : {L K : Type 0} → Effects L K → List ℕ → Apdu → DeskOutcome → L → Sorting L → Sorting L
 with_message effects bytes a outcome live old = record {
   form = old.form;
@@ -76,15 +76,15 @@ with_message effects bytes a outcome live old = record {
   kept = old.kept ++ kept_bytes outcome bytes;
 }
 
--- Returns the state after a message was handed to its side, and its mail got a verdict. A fault that is no
--- refusal changes nothing. No side returns one.
+-- Returns the state after a message was handed to its side, and its mail got a verdict. A fault that is no refusal
+-- changes nothing. No side returns such a fault.
 abbrev pub after_handing : {L K : Type 0} → Effects L K → List ℕ → List ℕ → Apdu → Result DeskOutcome ToolFault × L →
     Sorting L → Sorting L
 after_handing effects name bytes a (Ok outcome, live) old =
     with_verdict name (verdict_of (effects.role live) outcome) (with_message effects bytes a outcome live old)
 after_handing effects name bytes a (Err fault, live) old = old
 
--- Returns the state after a mail with this message, or with the reason that it has none.
+-- Returns the state after the mail `name` with this message in `bytes`, or with the reason that it has none.
 abbrev pub after_message : {L K : Type 0} → Effects L K → List ℕ → List ℕ → Result Apdu Unfit → Sorting L → Sorting L
 after_message effects name bytes (Ok a) old = after_handing effects name bytes a (handed effects old.live a) old
 after_message effects name bytes (Err unfit) old = with_verdict name (verdict_without_message bytes unfit) old
@@ -153,7 +153,7 @@ HandsOver effects old a (Err fault) new = new ≡ old
 abbrev pub inbox_text : {L : Type 0} → Sorting L → ℕ → List ℕ
 inbox_text end waiting = end.told ++ told_tally end.form (tally_of end.verdicts) waiting
 
--- Returns the state after the counts.
+-- Returns the state `end` after the counts are told.
 abbrev pub concluded : {L : Type 0} → ℕ → Sorting L → Sorting L
 concluded waiting end = record {
   form = end.form;
@@ -209,14 +209,15 @@ EndedWell mails verdicts new =
 
 -- ---- the answer
 
--- Returns true if any mail waits for the next run.
+-- Returns true if any mail waits for the next run: one on the heap `Left`, or one of `waiting` further ones.
 abbrev pub is_waiting : Tally → ℕ → Bool
 is_waiting tally waiting = nat_lt 0 tally.left || nat_lt 0 waiting
 
--- Returns true if no mail was in conflict or put aside, so that no person is needed.
+-- Returns true if no mail was in conflict or put aside.
 abbrev pub is_quiet : Tally → Bool
 is_quiet tally = not (nat_lt 0 tally.conflict || nat_lt 0 tally.aside)
 
--- Returns the result of the command after a run.
+-- Returns the result of the command after a run. If a mail waits, it is the fault `Left`. Else it is true if no mail
+-- was in conflict or put aside.
 abbrev pub ending : Tally → ℕ → Result Bool ToolFault
 ending tally waiting = if is_waiting tally waiting then Err faults.Left else Ok (is_quiet tally)

@@ -29,7 +29,7 @@ staying_text tally waiting =
 abbrev pub tally_line : Tally → ℕ → List ℕ
 tally_line tally waiting = done_text tally ++ staying_text tally waiting
 
--- ---- deeds and messages
+-- ---- deeds and sent messages
 
 -- Returns the line of a deed that was done. It has the transaction, the verb, and the state of the side once
 -- all is saved.

@@ -38,7 +38,7 @@ outcome_fields outcome now =
 abbrev pub message_fields : Apdu → DeskOutcome → Shown → List Field
 message_fields a outcome now = outcome_fields outcome now ++ apdu_fields a
 
--- Returns the fields of the mail `name`, which is put aside or waits.
+-- Returns the fields of the mail `name`, which is put aside or waits. `word` says which, and `reason` why.
 abbrev pub stays_fields : (name word reason : List ℕ) → List Field
 stays_fields name word reason =
     (codes "kind", quoted (codes "mail")) ∷ (codes "name", quoted name) ∷ (codes "verdict", quoted word)
@@ -80,12 +80,13 @@ abbrev pub told_verdict : Form → (name : List ℕ) → Verdict → List ℕ
 told_verdict Lines name verdict = verdict_line name verdict
 told_verdict Json name verdict = verdict_object name verdict
 
--- Returns the text of all counts.
+-- Returns the text of all counts. `waiting` mails had no room in this run.
 abbrev pub told_tally : Form → Tally → (waiting : ℕ) → List ℕ
 told_tally Lines tally waiting = tally_line tally waiting
 told_tally Json tally waiting = object_line (tally_fields tally waiting)
 
--- Returns the text of a deed that was done, with the state of the side once all is saved.
+-- Returns the text of the deed `due`, which was done at the desk `live`. It has the state of the side once all is
+-- saved.
 abbrev pub told_deed : {L : Type 0} → Form → Effects L Qualifiers → L → Due → List ℕ
 told_deed Lines effects live due = deed_line effects live due
 told_deed Json effects live due = object_line (deed_fields due (once_saved (shown_at effects due.txn live)))

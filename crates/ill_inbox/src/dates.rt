@@ -53,10 +53,10 @@ pub(crate) struct DuesOn<'a> {
     pub form: Form,
 }
 
-/// Performs the deeds that are due on the day `today` at `desk`, in the order of its loans. If any was done, it then
-/// saves the desk once. For each done deed it writes a line, and then it flushes these lines: `GROUP TRANSACTION VERB
-/// done STATE DUE RELEASED/ISSUED`. A refused deed changes nothing, and has no line. At the desk of a requester nothing
-/// is done.
+/// Performs the deeds of the kinds `which` that are due on the day `today`, in the order of the desk's loans. If any
+/// was done, it then saves the desk once. For each done deed it writes a line, and then it flushes these lines:
+/// `GROUP TRANSACTION VERB done STATE DUE RELEASED/ISSUED`. A refused deed changes nothing, and has no line. At the
+/// desk of a requester nothing is done.
 ///
 /// After every fault the store has its old record, or the one with all deeds. Unless the fault is `Write`, nothing was
 /// written.
@@ -109,7 +109,7 @@ pub fn run_desk_dates_entered<S: Store, D: Write, W: Write>(
     }
 }
 
-/// Returns the deeds that are due on the day `today` in all loans of `sides`, in their order.
+/// Returns the deeds of the kinds `which` that are due on the day `today` in the loans of `sides`, in their order.
 fn all_due(alloc: Global, sides: &Sides, today: Day, which: Dates) -> Result<Vec<Due>, NoMemory>
     ensures { IfOk result (λ dues. dues.items ≡ all_due which today sides.now.sides) }
 {
@@ -218,7 +218,8 @@ fn run_deeds<H: Holdings<Key = TxnId>, S: Store, D: Write, W: Write>(
     }
 }
 
-/// Performs `dues` on the day `today`, in their order, and returns the ones that were done.
+/// Performs `dues` on the day `today`, in their order, and returns the ones that were done. It fails if memory runs
+/// out.
 fn perform<'a, H: Holdings<Key = TxnId>, S: Store>(
     alloc: Global,
     desk: &mut AnyDesk<H, S>,
@@ -297,7 +298,7 @@ fn told_deeds<H: Holdings<Key = TxnId>, S: Store>(
     Ok(told)
 }
 
-/// Appends the line or the object of the deed `due`.
+/// Appends the line or the object of the deed `due`, with its loan as it is once all is saved.
 fn push_deed<H: Holdings<Key = TxnId>, S: Store>(
     told: &mut Vec<u8>,
     form: Form,

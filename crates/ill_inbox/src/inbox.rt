@@ -50,7 +50,7 @@ pub fn run_desk_inbox<S: Store, F: Write, W: Write>(
     run_inbox(alloc, desk, batch, came, writer)
 }
 
-/// Takes the message of each mail of `batch` at `desk`, saves once, and writes their verdicts.
+/// Does what `run_desk_inbox` does, at a desk of any kind.
 fn run_inbox<H: Holdings, S: Store, F: Write, W: Write>(
     alloc: Global,
     desk: &mut AnyDesk<H, S>,
@@ -86,7 +86,8 @@ pub(crate) struct Sorted {
     kept: Vec<u8>,
 }
 
-/// Hands the messages of all mails to their sides, in their order. It tells them, and then the counts.
+/// Hands the messages of all mails to their sides, in their order. It tells the mails and their messages, and then
+/// the counts.
 fn sort<H: Holdings, S: Store>(
     alloc: Global,
     desk: &mut AnyDesk<H, S>,
@@ -105,7 +106,8 @@ fn sort<H: Holdings, S: Store>(
     }
 }
 
-/// Hands the messages of all mails to their sides, in their order.
+/// Hands the messages of all mails to their sides, in their order. It tells the mails and their messages, but not the
+/// counts.
 fn sort_mails<H: Holdings, S: Store>(
     alloc: Global,
     desk: &mut AnyDesk<H, S>,
@@ -232,7 +234,7 @@ impl Sorted {
     }
 }
 
-/// Delivers `apdu` to its side, and returns the outcome.
+/// Hands `apdu` to its side, and returns the outcome. It fails if memory runs out.
 fn deliver<H: Holdings, S: Store>(
     alloc: Global,
     desk: &mut AnyDesk<H, S>,
@@ -248,7 +250,7 @@ fn deliver<H: Holdings, S: Store>(
     }
 }
 
-/// Returns true if a message was taken.
+/// Returns true for a change, which must be saved: an action was done, or a message was taken.
 fn is_change(outcome: DeskOutcome) -> bool
     ensures { result ≡ is_change outcome }
 {
@@ -258,7 +260,8 @@ fn is_change(outcome: DeskOutcome) -> bool
     )
 }
 
-/// Writes the bytes of the taken messages, and then saves once. Without taken messages it does nothing.
+/// Writes the bytes `kept` of the taken messages to `came`, and then saves once. Without taken messages it does
+/// nothing. If the bytes cannot be written, it saves nothing.
 fn keep_and_save<H: Holdings, S: Store, F: Write>(
     alloc: Global,
     desk: &mut AnyDesk<H, S>,

@@ -169,7 +169,7 @@ fn push_aside_object(text: &mut Vec<u8>, name: &[u8], unfit: Unfit) -> Result<()
     push_stays(text, name, b"aside", &reason)
 }
 
-/// Appends the object of the mail `name`, which is put aside or waits.
+/// Appends the object of the mail `name`, which is put aside or waits. `word` says which, and `reason` why.
 fn push_stays(
     text: &mut Vec<u8>,
     name: &[u8],
@@ -184,7 +184,7 @@ fn push_stays(
     push_plain(text, "}\n")
 }
 
-/// Appends the fields of the mail `name`, which is put aside or waits.
+/// Appends the fields of the mail `name`, which is put aside or waits. `word` says which, and `reason` why.
 #[tactic(auto, unfolding(ill_text::specs::Json::joined))]
 fn push_mail<'a>(
     text: &mut Vec<u8>,
@@ -216,7 +216,7 @@ fn push_tally_object(text: &mut Vec<u8>, tally: &Tally, waiting: usize) -> Resul
     push_plain(text, "}\n")
 }
 
-/// Appends the fields of the counts of mails.
+/// Appends the fields of the counts of mails. `waiting` mails had no room in the run.
 #[tactic(auto, unfolding(ill_text::specs::Json::joined))]
 fn push_counts(text: &mut Vec<u8>, tally: &Tally, waiting: usize) -> Result<(), OutOfMemory>
     ensures { OnOk result (text.new.items ≡ text.old.items ++ joined member [] (tally_fields tally.now waiting)) }

@@ -45,7 +45,7 @@ pub struct Tally {
 }
 
 impl Heap {
-    /// Returns the heap of a mail.
+    /// Returns the heap of a mail with this verdict.
     fn of(verdict: Verdict) -> Heap
         ensures { result ≡ heap_of verdict }
     {
@@ -57,7 +57,7 @@ impl Heap {
         }
     }
 
-    /// Returns the heap of a mail whose message had this outcome.
+    /// Returns the heap of a mail whose message its side answered with `taking`.
     fn of_taking(taking: Taking) -> Heap
         ensures { result ≡ heap_of (verdicts.Done (seen.Plain (outcomes.Answered taking))) }
     {
@@ -103,7 +103,8 @@ impl Tally {
         }
     }
 
-    /// Returns the fault `Left` if mails wait for the next run. Else it returns true if no mail wants a person.
+    /// Returns the fault `Left` if mails wait for the next run. Else it returns true if no mail was in conflict or
+    /// put aside.
     pub fn ending(&self, waiting: usize) -> Result<bool, ToolFault>
         ensures { result ≡ ending self.now waiting }
     {

@@ -6,8 +6,8 @@ use Rattle.ill_inbox.specs.Dates.{all_due, due_at}
 use Rattle.ill_inbox.proofs.DatesLemmas.{deeds_split_at}
 use Rattle.ill_inbox.proofs.dates.all_due.Goals as goal
 
--- Proves the loop invariant of `all_due` after one more loan. `deeds_split_at` splits off the deed of the loan at
--- `place`.
+-- Proves the loop invariant of `all_due` after one more loan. `deeds_split_at` splits off `here`, the deed of the
+-- loan at `place`, from the deeds of the later loans, which are `left`.
 pub loop-place-preserved : goal.loop-place-preserved
 loop-place-preserved c =
     let which = c.args.which in

@@ -63,14 +63,14 @@ WritesLoan text txn bytes before after (Err OutOfMemory) = Appends before after 
 WritesLoan text txn bytes before after result =
     (came : List Apdu) × AreIn bytes came × WritesText before after (text (kept_of txn came)) result
 
--- What the files beside a desk have: the lines of the notes of staff and of the diary, and the bytes of the messages that
--- came.
+-- The content of the files beside a desk: the lines of the notes of staff and of the diary, and the bytes of the
+-- messages that came.
 pub record FilesBeside : Type 0 where
   pub notes : List (List ℕ)
   pub diary : List (List ℕ)
   pub came : List ℕ
 
--- Returns what the files beside a desk have.
+-- Returns the content of the files beside a desk.
 abbrev pub beside_of : Beside → FilesBeside
 beside_of beside = record {
   notes = beside.notes.now;

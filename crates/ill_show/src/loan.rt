@@ -60,7 +60,7 @@ pub struct LoanView<'a> {
     pub form: LoanForm,
 }
 
-/// What the files beside a desk have.
+/// The content of the files beside a desk.
 #[derive(Clone, Copy)]
 pub struct Beside<'a> {
     /// The notes of staff.

@@ -9,7 +9,7 @@ use Rattle.caseless.specs.Caseless.{default_case_fold}
 use Rattle.ill_record.specs.declared.side.Side.{Side}
 use Rattle.ill_rows.specs.Finding.{folded, has_part, is_found}
 
--- Returns the text with its case folded if the Bool is true.
+-- Returns `text` with its case folded if `is` is true, else `text` as it is.
 abbrev folded_if : List ℕ → Bool → List ℕ
 folded_if text is = if is then encode_utf8_all (default_case_fold (chars text)) else text
 

@@ -1,4 +1,4 @@
--- What a list is to find: the words that are sought, and the annex of the desk.
+-- The words that are sought in the loans of a list, and the annex of the desk.
 use Rattle.std.specs.Prelude.{ℕ, List, filter, Option, option_map}
 use Rattle.ill_record.specs.declared.side.Side.{Side}
 use Rattle.ill_list.specs.declared.list.Sought.{Sought}

@@ -33,7 +33,7 @@ use ill_work::Work;
 use std::alloc::Global;
 use std::io::Write;
 
-/// What a list of the loans of a desk is asked for, and the annex of the desk.
+/// The conditions and the words of a list of the loans of a desk, and the annex of the desk.
 #[derive(Clone, Copy)]
 pub struct Sought<'a> {
     /// The conditions on the loans.

@@ -1,4 +1,4 @@
--- What came to a desk since a day, by its diary.
+-- The messages that came to a desk since a day, by its diary.
 use Rattle.std.specs.Prelude.{ℕ, Bool, not, ◌&&◌, List, filter, Option, None, Some}
 use Rattle.std.specs.List.{after_last, list_any}
 use Rattle.ill_values.specs.Day.{Date}

@@ -1,4 +1,4 @@
--- What dates have made due, as news: the messages by which a responder says so.
+-- The messages that dates have made due, as news: a responder's Overdue and Expired.
 use Rattle.std.specs.Prelude.{ℕ, Bool, true, false, not, ◌&&◌, List, [], filter, Option, None, Some}
 use Rattle.std.specs.List.{flat_map}
 use Rattle.ill_values.specs.Day.{Date}

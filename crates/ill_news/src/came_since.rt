@@ -1,4 +1,5 @@
-//! What came to a desk since a day, by its diary. The diary may lack a message, which then came when its neighbours did.
+//! The messages that came to a desk since a day, by its diary. A message that the diary lacks came when its
+//! neighbours did.
 
 ghost use Rattle.std.specs.Prelude.{◌≡◌, ◌+◌, ◌++◌, ◌∷◌, [], not, filter, length, map, IfOk, OnOk, Some};
 ghost use Rattle.std.specs.List.{after_last, list_any, suffix_len};

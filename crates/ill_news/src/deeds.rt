@@ -1,4 +1,4 @@
-//! What dates have made due, as news: the messages by which a responder says so.
+//! The messages that dates have made due, as news: a responder's Overdue and Expired.
 
 ghost use Rattle.std.specs.Prelude.{◌≡◌, ◌++◌, ◌∷◌, [], filter, map, IfOk, OnOk};
 ghost use Rattle.ill_news.specs.Deeds.{deed_key, deeds_at, deeds_since, is_by_date, is_deed_since, is_done_since};

@@ -1,4 +1,4 @@
-//! What came to the loans of a desk, over a desk that is read. No file and no lock is known here.
+//! The news of the loans of a desk, over a desk that is read. No file and no lock is known here.
 #![tactic(auto)]
 
 pub mod came_since;

@@ -4,7 +4,7 @@ use Rattle.ill_record.specs.declared.side.Side.{Side}
 use Rattle.ill_news.specs.Deeds.{deeds_since}
 use Rattle.ill_news.proofs.deeds.push_all.Given as goal
 
--- What dates have made due at the sides so far is appended.
+-- The messages of the sides so far that dates have made due are appended.
 abbrev pub invariant-loop-side : goal.invariant-loop-side
 invariant-loop-side l = record {
   told : l.news.items ≡ l.initial.news.items ++ deeds_since (Some l.day) l.diary

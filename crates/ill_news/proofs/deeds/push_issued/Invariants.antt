@@ -4,7 +4,7 @@ use Rattle.std.specs.Prelude.{filter}
 use Rattle.ill_news.specs.Deeds.{is_deed_since}
 use Rattle.ill_news.proofs.deeds.push_issued.Given as goal
 
--- What dates have made due among the messages so far is appended.
+-- The messages so far that dates have made due are appended.
 abbrev pub invariant-loop-apdu : goal.invariant-loop-apdu
 invariant-loop-apdu l = record {
   told : l.news.items ≡ l.initial.news.items

@@ -412,7 +412,8 @@ fn html_title(alloc: Global, side: &Side) -> Result<Vec<u8>, OutOfMemory>
     Ok(text)
 }
 
-/// Appends the state of the loan of `side`, in words, the day since which it stands so, if `annex` tells it, and its news.
+/// Appends the state of the loan of `side`, in words. The day since which the loan has it, if `annex` tells the day,
+/// and the news follow.
 fn push_state(page: &mut Vec<u8>, side: &Side, annex: &Annex) -> Result<(), OutOfMemory>
     ensures { OnOk result (page.new.items ≡ page.old.items ++ (state_words side.now
         ++ (since_text (since_of (annex_of annex.now) side.now) ++ news_marks (annex_of annex.now).news side.now))) }

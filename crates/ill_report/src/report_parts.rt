@@ -185,7 +185,7 @@ pub(crate) const NEWS: &str = "<small>news: <b>";
 /// The text after the words of a message in the news of a loan.
 pub(crate) const NEWS_END: &str = "</b></small>";
 
-/// The text after the note on a loan, or after the day since which it stands as it does.
+/// The text after the note on a loan, or after the day since which the loan stands as it does.
 pub(crate) const NOTE_END: &str = "</small>";
 
 /// The text after the rows of the loans of a kind of work.

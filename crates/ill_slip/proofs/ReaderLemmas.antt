@@ -85,7 +85,8 @@ no_stop_alone (one ∷ []) last = and-false (value_of one == stop)
 no_stop_alone (one ∷ two ∷ text) last = and-false (value_of one == stop)
 
 -- Let code set B have each character of `text`. Then `text_in` reads it back from its values, a check value and the
--- stop. `total` is the sum of the values before it, and `place` the position of its first character.
+-- stop. `total` is the sum of the values before it, and `place` the position of its first character. `one` is the
+-- value of that character, and `rest` what is read of the others.
 text_is_read : (total place : ℕ) (text : List ℕ) → list_all is_character text ≡ true
     → text_in total place (map value_of text ++ ((total + weighted place text) % 103) ∷ stop ∷ []) ≡ Some text
 text_is_read total place [] are =

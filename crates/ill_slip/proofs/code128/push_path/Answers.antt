@@ -5,7 +5,8 @@ use Rattle.ill_slip.specs.Code128.{check, drawn, start, stop, value_of}
 use Rattle.ill_slip.proofs.PathLemmas.{grown, path_of_code}
 use Rattle.ill_slip.proofs.code128.push_path.Goals as goal
 
--- Proves the contract of `push_path`. By `path_of_code` the pieces that are appended make up the path.
+-- Proves the contract of `push_path`. By `path_of_code` the pieces that are appended make up the path. `started` to
+-- `ended` are the page after each piece.
 pub returns : goal.returns
 returns c =
     let text = c.args.text.now in

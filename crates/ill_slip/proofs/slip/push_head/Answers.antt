@@ -7,7 +7,8 @@ use Rattle.ill_slip.specs.Slip.{head_part, role_text, title_part}
 use Rattle.ill_slip.proofs.PathLemmas.{grown}
 use Rattle.ill_slip.proofs.slip.push_head.Goals as goal
 
--- Proves the contract of `push_head`. By `grown` the texts that are appended make up the head.
+-- Proves the contract of `push_head`. By `grown` the texts that are appended make up the head. `first` to `last` are
+-- the page after each of these texts.
 pub returns : goal.returns
 unfolding head_part
 returns c =

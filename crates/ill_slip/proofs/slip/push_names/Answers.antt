@@ -8,7 +8,8 @@ use Rattle.ill_slip.specs.Slip.{due_part, names_part}
 use Rattle.ill_slip.proofs.PathLemmas.{grown}
 use Rattle.ill_slip.proofs.slip.push_names.Goals as goal
 
--- Proves the contract of `push_names`. By `grown` the texts that are appended make up the names and the date.
+-- Proves the contract of `push_names`. By `grown` the texts that are appended make up the names and the date. `first`
+-- to `last` are the page after each of these texts.
 pub returns : goal.returns
 unfolding names_part
 returns c =

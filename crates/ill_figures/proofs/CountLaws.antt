@@ -38,7 +38,7 @@ same_summed first second same [] = refl
 same_summed first second same (part ∷ parts) =
     omega (arith, sum_by-cons first part parts, sum_by-cons second part parts, same part, same_summed first second same parts)
 
--- The sum of `first part + second part` over `parts` is the sum of `first` and that of `second`.
+-- The sum of `first part + second part` over `parts` is the sum of `first` plus the sum of `second`.
 both_summed : (first second : Count → ℕ) (parts : List Count)
     → sum_by (λ part. first part + second part) parts ≡ sum_by first parts + sum_by second parts
 both_summed first second [] = refl
@@ -56,7 +56,7 @@ none_summed : (parts : List Count) → sum_by (counted []) parts ≡ 0
 none_summed [] = refl
 none_summed (part ∷ parts) = omega (arith, sum_by-cons (counted []) part parts, none_summed parts)
 
--- If `parts` count each end as often as `whole` does, their counts of `asked` add up to that of `whole`.
+-- If `parts` count each end as often as `whole` does, their counts of `asked` add up to the count of `whole`.
 parts_summed : (whole : Count) (parts : List Count)
     → ((end : End) → sum_by (one_of end) parts ≡ one_of end whole)
     → (asked : List Loan) → sum_by (counted asked) parts ≡ counted asked whole

@@ -24,7 +24,7 @@ zero_to_itself n = grind (arith, common_steps)
 one_to_next : (n : ℕ) → passed n (suc n) ≡ Some 1
 one_to_next n = grind (arith, common_steps)
 
--- If `m` is passed from `first` to `second`, and `n` from there on, `m + n` is passed to `last`.
+-- If `passed` is `m` from `first` to `second`, and `n` from `second` to `last`, it is `m + n` from `first` to `last`.
 passed_in_turn : (first second last m n : ℕ) → passed first second ≡ Some m → passed second last ≡ Some n
     → passed first last ≡ Some (m + n)
 passed_in_turn first second last m n one two = grind (arith, common_steps)
@@ -33,7 +33,7 @@ passed_in_turn first second last m n one two = grind (arith, common_steps)
 pub same_day : (day : Date) → days_between day day ≡ Some 0
 same_day day = zero_to_itself (day_number day)
 
--- If `second` is `m` days after `first`, and `last` is `n` days after `second`, `last` is their sum after `first`.
+-- If `second` is `m` days after `first`, and `last` is `n` days after `second`, `last` is `m + n` days after `first`.
 pub in_turn : (first second last : Date) (m n : ℕ) → days_between first second ≡ Some m → days_between second last ≡ Some n
     → days_between first last ≡ Some (m + n)
 in_turn first second last m n one two = passed_in_turn (day_number first) (day_number second) (day_number last) m n one two

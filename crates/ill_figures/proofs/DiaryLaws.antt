@@ -17,7 +17,7 @@ use Rattle.ill_figures.specs.LoanFigures.{Mentioned, dated, dated_of, day_said}
 abbrev with_line : (key : List ℕ) → Option Date → Mentioned → Option Date
 with_line key found line = if bytes_eq line.key key then Some line.day else found
 
--- After one more `line`, the day of the message with this `key` is that of `with_line`.
+-- After one more `line`, the day of the message with this `key` is the one that `with_line` returns.
 day_after_line : (key : List ℕ) (said : List Mentioned) (line : Mentioned)
     → day_said key (said ++ line ∷ []) ≡ with_line key (day_said key said) line
 day_after_line key said line = fold-append (with_line key) None said (line ∷ [])

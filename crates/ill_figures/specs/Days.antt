@@ -14,7 +14,7 @@ abbrev pub is_in : Span → Option Date → Bool
 is_in span None = false
 is_in span (Some day) = not (is_before day span.first) && not (is_before span.last day)
 
--- Returns the number of a day in the calendar.
+-- Returns the number of a day, counted by the calendar from a first day.
 abbrev pub day_number : Date → ℕ
 day_number day = day_count (pos day.year) day.month day.day
 

@@ -43,7 +43,7 @@ impl FiguresView {
     }
 }
 
-/// What figures of a desk are asked for, and what the files beside it have.
+/// The view of the figures of a desk, and the content of the files beside the desk.
 #[derive(Clone, Copy)]
 pub struct FiguresSought<'a> {
     /// The span, and the form.

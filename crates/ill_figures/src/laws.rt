@@ -52,8 +52,8 @@ pub fn the_last_line_tells_the_day()
     ensures { (said : List Mentioned) (line : Mentioned) → day_said line.key (said ++ line ∷ []) ≡ Some line.day }
 {}
 
-/// A day is no days from itself, and one day from the day before it. From the first of three days to the last are as many
-/// days as to the second and from there.
+/// A day is no days from itself, and one day from the day before it. From the first of three days to the last are as
+/// many days as to the second and from the second on.
 #[tactic(auto, using(crate::proofs::DaysLaws::same_day, crate::proofs::DaysLaws::one_day, crate::proofs::DaysLaws::in_turn))]
 pub fn days_are_counted_by_the_calendar()
     ensures same { (day : Date) → days_between day day ≡ Some 0 }

@@ -18,7 +18,7 @@ use ill_text::diary::message_key;
 use ill_values::{AnswerResult, Apdu, Body, Day, OutOfMemory};
 use std::alloc::Global;
 
-/// What a message is for the figures.
+/// A message, by what it is for the figures.
 #[derive(Clone, Copy)]
 pub(crate) enum Event {
     /// The request.
@@ -40,7 +40,7 @@ pub(crate) enum Event {
 /// A message of a loan, with its day if a line of the diary names it.
 #[derive(Clone, Copy)]
 pub(crate) struct Dated {
-    /// What it is.
+    /// The message, by what it is for the figures.
     event: Event,
     /// Its day.
     day: Option<Day>,
@@ -61,7 +61,7 @@ pub(crate) enum Step {
     Back,
 }
 
-/// How a loan ended, or that it is open.
+/// The end of a loan, or that it is open.
 #[derive(Clone, Copy)]
 pub(crate) enum End {
     /// The item was shipped.
@@ -89,7 +89,7 @@ pub(crate) enum End {
 pub(crate) struct Loan {
     /// The day on which it was asked.
     pub asked: Option<Day>,
-    /// How it ended.
+    /// The end of the loan.
     pub end: End,
     /// The days from the request to the first answer.
     pub answer: Option<u32>,

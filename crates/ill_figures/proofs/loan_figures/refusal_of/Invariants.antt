@@ -3,7 +3,7 @@ use Rattle.std.proofs.Common.{◌≡◌, length}
 use Rattle.ill_figures.specs.LoanFigures.{refusal_of}
 use Rattle.ill_figures.proofs.loan_figures.refusal_of.Given as goal
 
--- No message so far gives a reason, so the reason is that of the messages that are left.
+-- No message so far gives a reason. So the messages that are left give the reason.
 abbrev pub invariant-loop-message : goal.invariant-loop-message
 invariant-loop-message l = record {
   left : refusal_of l.rest ≡ refusal_of l.messages;

@@ -67,7 +67,8 @@ TellsChange now old result new = (new.desk ≡ old.desk) × WritesChange now old
 
 -- ---- a trial
 
--- Returns the parts of a side that the line of a trial shows. If the action was done, they are those after its save.
+-- Returns the parts of a side that the line of a trial shows. If the action was done, these are the parts after a
+-- save.
 abbrev pub tried_shown : DeskOutcome → Shown → Shown
 tried_shown outcome now = if is_change outcome then once_saved now else now
 
@@ -85,7 +86,7 @@ TriesAction effects key old action result new =
     ⊎ ((result ≡ Err OutOfMemory) × (new.live ≡ old.live)))
     × (new.path ≡ old.path)
 
--- The command `act`, if the action is only tried. Its line is that of the action, as if it was saved.
+-- The command `act`, if the action is only tried. Its line is the line of the action, as if the action was saved.
 abbrev pub RunsTrial : {L K : Type 0} → Effects L K → K → Option Action → CommandState L → Result Bool ToolFault →
     CommandState L → Type 0
 RunsTrial effects key (Some action) old result new =

@@ -9,9 +9,9 @@ use Rattle.ill_store.specs.Store.{Allows, LandsAtFailure, StoreState, plan_after
 use Rattle.ill_text.specs.declared.fault.ToolFault.{ToolFault}
 use Rattle.ill_text.specs.declared.fault.ToolFault.TheVariants.{Desk, Write, OutOfMemory}
 
--- The output grew from `before` to `after` by `line`, once the record was saved. After the fault `Write` it
--- grew by a prefix of `line`. If the store has a record, or the store failed, or memory ran out, it did not
--- grow.
+-- The output grew from `before` to `after` by `line`, once the record was saved. After the fault `Write` it grew by a
+-- prefix of `line`. If the store has a record, or the store failed, or memory ran out, it did not grow. No other
+-- fault is possible.
 abbrev pub RunsNew : List ℕ → Option (List ℕ) → Option (List ℕ) → Result (Unit {0}) ToolFault → Type 0
 RunsNew line before after (Ok done) = Appends before after line
 RunsNew line before after (Err Write) = (size : ℕ) × Appends before after (take size line)
@@ -22,7 +22,7 @@ RunsNew line before after (Err other) = ⊥
 
 -- The first save of `bytes` leads an honest store with this plan from the content `old` to `new`. Without a failure
 -- of the store the new content is `bytes`. If the store failed, it is as `LandsAtFailure` says. If memory ran out, it
--- is `old` or `bytes`.
+-- is `old` or `bytes`. No other fault is possible.
 abbrev pub LandsFirst : Option NextCall → List ℕ → Result (Unit {0}) ToolFault → Option (List ℕ) →
     Option (List ℕ) → Type 0
 LandsFirst plan bytes (Ok done) old new = new ≡ Some bytes
@@ -36,9 +36,9 @@ LandsFirst plan bytes (Err other) old new = ⊥
 abbrev pub MayHaveLanded : List ℕ → Option (List ℕ) → Type 0
 MayHaveLanded bytes landed = (landed ≡ None) ⊎ (landed ≡ Some bytes)
 
--- The beginning of a desk leads an honest store with this plan from its content to `new`, with this answer.
--- If the store has a record, that stays, and the answer is `Exists` or another fault. If it has none, `bytes`
--- have landed; after a fault they may have landed.
+-- The beginning of a desk leads an honest store with this plan from its content to `new`, with this answer. If the
+-- store has a record, that stays, and the answer is `Exists` or another fault. If it has none, `bytes` have landed;
+-- after a fault they may have landed. No other answer is possible.
 abbrev pub BeginsOver : List ℕ → Option NextCall → Option (List ℕ) → Result (Unit {0}) ToolFault →
     Option (List ℕ) → Type 0
 BeginsOver bytes plan None (Ok done) new = (new ≡ Some bytes) × Allows {X = Unit {0}} plan (Ok tt)
@@ -59,16 +59,24 @@ BeginsOver bytes plan landed answer new = ⊥
 -- out before the store is called.
 pub record SavesFirst (bytes : List ℕ) (old : StoreState) (answer : Result (Unit {0}) ToolFault) (new : StoreState)
     : Type 0 where
+  -- An honest store has the content that `LandsFirst` allows.
   pub landed : old.is_honest ≡ true → LandsFirst old.plan bytes answer old.landed new.landed
+  -- A failure of the store is counted.
   pub counted : CountsToolFailure answer old.failures new.failures
+  -- The store is as honest as before.
   pub honest : new.is_honest ≡ old.is_honest
+  -- The plan is the old one if the store was not called. Else the save has spent it.
   pub plan : (new.plan ≡ old.plan) ⊎ (new.plan ≡ plan_after_call old.plan)
 
 -- The beginning of a desk with the first record `bytes` leads from the store `old` to `new`, with this
 -- answer. Its first call of the store, the load, spends the plan.
 pub record BeginsIn (bytes : List ℕ) (old : StoreState) (answer : Result (Unit {0}) ToolFault) (new : StoreState)
     : Type 0 where
+  -- An honest store has the content that `BeginsOver` allows.
   pub landed : old.is_honest ≡ true → BeginsOver bytes old.plan old.landed answer new.landed
+  -- A failure of the store is counted.
   pub counted : CountsToolFailure answer old.failures new.failures
+  -- The store is as honest as before.
   pub honest : new.is_honest ≡ old.is_honest
+  -- The load has spent the plan.
   pub plan : new.plan ≡ plan_after_call old.plan

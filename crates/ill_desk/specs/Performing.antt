@@ -103,7 +103,8 @@ IsChange (Err fault) = ⊥
 
 -- An event with this outcome and these sides (`event`) leads from `old` to `new`, with this result. It happened, and
 -- was saved if it is a change. The saved record is read as these sides. Or the event is a change, and the save
--- failed. Or memory ran out for the event, if it needs memory (`WantsMemory`), or for the save.
+-- failed. Or memory ran out for the event, if it needs memory (`WantsMemory`), or for the save. No other fault is
+-- possible.
 abbrev pub Performs : {L K : Type 0} → Effects L K → Type 0 → HeldAndLanded L → Result DeskOutcome ToolFault × L →
     Result DeskOutcome ToolFault → HeldAndLanded L → Type 0
 Performs effects WantsMemory old event (Ok outcome) new =
@@ -124,7 +125,7 @@ has_any items = nat_lt 0 (length items)
 
 -- One save of all `changes` leads from `old` to `new`. The record is read as the sides that the desk holds. Without a
 -- change nothing is saved. If the save failed, the store has the old record or the new one. If memory ran out,
--- nothing changed.
+-- nothing changed. No other fault is possible.
 abbrev pub SavesOnce : {L K X : Type 0} → Effects L K → List X → HeldAndLanded L → Result (Unit {0}) ToolFault
     → HeldAndLanded L → Type 0
 SavesOnce effects changes old (Ok done) new =
@@ -152,10 +153,10 @@ abbrev pub IsSavedRun : {L K A : Type 0} → Effects L K → HeldAndLanded L →
 IsSavedRun effects old run new =
     (new ≡ after_run effects old run) × (run.has_changed ≡ true → IsReadAgain effects run.live)
 
--- The end of a run leads from `old` to `new`, with this answer. Without a fault all changes are saved and the
--- lines written. After the fault `Write` all is saved, and a prefix of the lines written. If the save failed,
--- the store has the old record or the new one, and nothing is written. If memory ran out, the store has the
--- old record, and nothing is written.
+-- The end of a run leads from `old` to `new`, with this answer. Without a fault all changes are saved and the lines
+-- written. After the fault `Write` all is saved, and a prefix of the lines written. If the save failed, the store has
+-- the old record or the new one, and nothing is written. If memory ran out, the store has the old record, and nothing
+-- is written. No other fault is possible.
 abbrev pub EndsRun : {L K A : Type 0} → Effects L K → Run L A → CommandState L → Result A ToolFault → CommandState L →
     Type 0
 EndsRun effects run old (Ok answer) new =

@@ -34,8 +34,8 @@ abbrev pub kept_text : Bool → Apdu → List ℕ
 kept_text true a = encoding a
 kept_text false a = []
 
--- The kept bytes grew from `before` to `after` by `text`. If a write failed, which counts as a failure of the
--- store, they grew by a prefix of `text`. If memory ran out, they did not grow.
+-- The kept bytes grew from `before` to `after` by `text`. If a write failed, which counts as a failure of the store,
+-- they grew by a prefix of `text`. If memory ran out, they did not grow. No other fault is possible.
 abbrev pub KeepsPrefix : List ℕ → Option (List ℕ) → Option (List ℕ) → Result (Unit {0}) ToolFault → Type 0
 KeepsPrefix text before after (Ok done) = Appends before after text
 KeepsPrefix text before after (Err (Desk (desks.Store Failed))) = (size : ℕ) × Appends before after (take size text)
@@ -59,7 +59,7 @@ KeepsTaken is_kept a (Ok outcome) old new =
 KeepsTaken is_kept a (Err fault) old new = KeepsBefore {X = Unit {0}} (kept_text is_kept a) (Err fault) old new
 
 -- The save of a taken message leads from `old` to `new`. It succeeded, and its record is read as the sides that the
--- desk holds. Or it failed, or memory ran out and nothing changed.
+-- desk holds. Or it failed, or memory ran out and nothing changed. No other fault is possible.
 abbrev pub SavesTaken : {L K : Type 0} → Effects L K → HeldAndLanded L → Result (Unit {0}) ToolFault → HeldAndLanded L → Type 0
 SavesTaken effects old (Ok done) new = (new ≡ saved effects old) × IsReadAgain effects old.live
 SavesTaken effects old (Err (Desk (desks.Store Failed))) new = IsFaulted effects old new
@@ -73,7 +73,7 @@ CountsTaking is_kept answer old new = (old ≤ new) × (is_kept ≡ false → To
 
 -- ---- the command
 
--- The progress of the command: its state, and true if all went well so far.
+-- The progress of the command: its state, and true if nothing was refused or in conflict so far.
 pub record Progress (L : Type 0) : Type 0 where
   pub state : CommandState L
   pub fine : Bool
@@ -105,8 +105,8 @@ abbrev pub answer_of : Result ℕ ToolFault → Bool → Result Bool ToolFault
 answer_of (Ok count) fine = Ok fine
 answer_of (Err fault) fine = Err fault
 
--- The command `take`, which writes texts by `told`, and keeps the messages if `is_kept` is true. Its state went
--- from `old` to `new`. If the input was read to its end, the answer is true if all went well.
+-- The command `take`, which writes texts by `told`, and keeps the messages if `is_kept` is true. Its state went from
+-- `old` to `new`. If the input was read to its end, the answer is true if nothing was refused or in conflict.
 abbrev pub RunsTaking : {L K : Type 0} → Bool → Wording → Effects L K → CommandState L → Result Bool ToolFault →
     CommandState L → Type 0
 RunsTaking is_kept told effects old result new =

@@ -68,10 +68,10 @@ wording false = short
 
 -- ---- the output and the answer
 
--- `text` is the output of a command after an event, and the last argument its answer. If the event has an
--- outcome, `text` is its words, and the answer is true if all went well. After the fault `Write`, `text` is a
--- prefix of the words; after `OutOfMemory` it is empty. If the event has a fault, that is the answer, and
--- `text` is empty.
+-- `text` is the output of a command after an event, and the last argument its answer. If the event has an outcome,
+-- `text` is the words of the outcome, and the answer is its `is_fine`. After the fault `Write`, `text` is a prefix of
+-- the words; after `OutOfMemory` it is empty. If the event has a fault, that is the answer, and `text` is empty.
+-- After an outcome no other fault is possible.
 abbrev pub Reports : Words → Result DeskOutcome ToolFault → Shown → List ℕ → Result Bool ToolFault → Type 0
 Reports words (Ok outcome) now text (Ok fine) = (fine ≡ is_fine outcome) × (text ≡ words outcome now)
 Reports words (Ok outcome) now text (Err Write) = (size : ℕ) × (text ≡ take size (words outcome now))
@@ -79,8 +79,8 @@ Reports words (Ok outcome) now text (Err OutOfMemory) = text ≡ []
 Reports words (Ok outcome) now text (Err other) = ⊥
 Reports words (Err fault) now text result = (result ≡ Err fault) × (text ≡ [])
 
--- The output grew from `before` to `after` by the words of `outcome`. The result is true if all went well. If
--- the writer failed, it grew by a prefix of the words. If memory ran out for the words, it did not grow.
+-- The output grew from `before` to `after` by the words of `outcome`. The result is `is_fine outcome`. If the writer
+-- failed, it grew by a prefix of the words. If memory ran out for the words, it did not grow.
 abbrev pub WritesOutcome : Words → Option (List ℕ) → Option (List ℕ) → DeskOutcome → Shown → Result Bool ToolFault → Type 0
 WritesOutcome words before after outcome now result =
     (text : List ℕ) × Appends before after text × Reports words (Ok outcome) now text result

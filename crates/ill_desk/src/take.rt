@@ -25,9 +25,9 @@ use std::io::{Read, Sink, Write, sink};
 /// Takes each APDU of the input, up to its end. For each it writes a line of its outcome and of the side after it. Only
 /// a taken APDU is saved, before its line is written. Returns true if none was refused or in conflict.
 ///
-/// After a faulty APDU or one too many, the APDUs before it are taken and saved, and their lines written. So it is too
-/// if the reader fails or memory runs out. If a save fails, its APDU is taken in memory. A message that it has issued
-/// may not be sent. If the writer fails, the saved record remains.
+/// After a faulty APDU or one too many, the APDUs before it are taken and saved, and their lines written. The same
+/// holds if the reader fails or memory runs out. If a save fails, its APDU is taken in memory. A message that it has
+/// issued may not be sent. If the writer fails, the saved record remains.
 pub fn run_take<S: Store, R: Read, W: Write>(
     alloc: Global,
     desk: &mut Desk1<S>,

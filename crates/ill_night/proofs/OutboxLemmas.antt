@@ -38,7 +38,7 @@ streamed start [] = ap Some (sym (append-nil start))
 streamed start (letter ∷ letters) =
     streamed (start ++ letter.bytes) letters ∙ ap Some (append_assoc start letter.bytes (stream_of letters))
 
--- If a stream was empty, its bytes are those of the mails that were put on it.
+-- If a stream was empty, its bytes are the bytes of the mails that were put on the stream.
 stream_has : (letters : List Letter) (start bytes : List ℕ) → start ≡ []
     → Some bytes ≡ after_all (λ there letter. there ++ letter.bytes) letters (Some start) → bytes ≡ stream_of letters
 stream_has letters start bytes empty put =
@@ -79,7 +79,7 @@ mail_without_verdict_is_silent : (live : DeskContents) (mail : Option Mail) (res
 mail_without_verdict_is_silent live None rest = refl
 mail_without_verdict_is_silent live (Some mail) rest = refl
 
--- The bytes that ask from `place` on are those of the mail at `place`, and those of the later mails.
+-- The bytes that ask from `place` on are those of the mail at `place`, and then those of the later mails.
 pub asking_split_at : (live : DeskContents) (mails : List Mail) (verdicts : List Verdict) (place : ℕ)
     → asking_bytes_at live (slice_get mails place) (slice_get verdicts place)
     ++ asked_by live (zip (drop (suc place) mails) (drop (suc place) verdicts))

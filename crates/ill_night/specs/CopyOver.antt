@@ -11,7 +11,7 @@ use Rattle.ill_night.specs.declared.copy.Copied.{Copied}
 use Rattle.ill_night.specs.declared.copy.Copied.TheVariants.{Done, HasMore, NoRecord}
 use Rattle.ill_night.specs.Copy.{Copies}
 
--- There is a side `own`, and its first messages are those of `copied`.
+-- There is a side `own`, and its first messages are the messages of `copied`.
 abbrev pub Continues : Side → Option Side → Type 0
 Continues copied None = ⊥
 Continues copied (Some own) = IsPrefix (issued_of copied) (issued_of own)

@@ -124,16 +124,16 @@ PutsOne after letter old new (Err fault) = IsFileFault fault × (new ≡ old)
 abbrev pub after_all : {M : Type 0} → (M → Letter → M) → List Letter → Option M → Option M
 after_all after letters there = fold (after_one after) there letters
 
--- The messages in `letters` were put into the outlet in mails of the form `form`, and the answer is the number of messages.
--- Or a prefix of these mails was, and the next one failed.
+-- The messages in `letters` were put into the outlet in mails of the form `form`, and the answer is the number of
+-- messages. Or a prefix of these mails was put, and putting the next mail failed.
 abbrev pub PutsAs : {M : Type 0} → (M → Letter → M) → (form : List Letter → List Letter) → List Letter → Option M → Option M →
     Result ℕ ToolFault → Type 0
 PutsAs after form letters old new (Ok count) = (count ≡ length letters) × (new ≡ after_all after (form letters) old)
 PutsAs after form letters old new (Err fault) =
     IsFileFault fault × ((size : ℕ) × (new ≡ after_all after (take size (form letters)) old))
 
--- Each message was put into the outlet in a mail of its own, and the answer is the number of messages. Or a prefix of these
--- mails was, and the next one failed.
+-- Each message was put into the outlet in a mail of its own, and the answer is the number of messages. Or a prefix of
+-- these mails was put, and putting the next mail failed.
 abbrev pub PutsAll : {M : Type 0} → (M → Letter → M) → List Letter → Option M → Option M → Result ℕ ToolFault → Type 0
 PutsAll after letters old new result = PutsAs after (λ mails. mails) letters old new result
 

@@ -6,7 +6,8 @@ use Rattle.std.proofs.lemmas.List.{length-map, take_all}
 use Rattle.ill_night.proofs.OutboxLemmas.{each_put, first_mails}
 use Rattle.ill_night.proofs.outbox.put_all.Goals as goal
 
--- Proves the contract of `put_all` if putting a mail fails. The outlet then has the mails before it.
+-- Proves the contract of `put_all` if putting a mail fails. The outlet then has the mails before the failed one. By
+-- `there` and `first` these are the first `size` mails.
 pub returns-in-Err : goal.returns-in-Err
 returns-in-Err g c =
     let after = g.O.Outgoing.after in

@@ -16,6 +16,7 @@ use std::io::{Sink, Write, sink};
 pub struct DeedDiary<D> {
     /// The text with which each line begins. If it is empty, nothing is entered.
     begin: Vec<u8>,
+    /// The stream of the diary, and true if a line could not be entered.
     diary: Diary<D>,
 }
 

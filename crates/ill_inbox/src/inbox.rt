@@ -79,6 +79,7 @@ fn run_inbox<H: Holdings, S: Store, F: Write, W: Write>(
 pub(crate) struct Sorted {
     /// The form in which the mails are told.
     form: Form,
+    /// The verdicts of the mails, in their order.
     verdicts: Vec<Verdict>,
     /// The lines or objects of the mails.
     told: Vec<u8>,

@@ -90,7 +90,7 @@ is_in_checked_in state e = search rules
 -- ---- a requester's record and a responder's
 
 -- `P` holds of two records that satisfy `RequesterInvariant` and `ResponderInvariant`. Each has issued all messages
--- that were sent to the other.
+-- that were sent to the other. In a proof `issued` says this of the responder, and `heeded` of the requester.
 abbrev pub HoldsOfRecords : (RequesterRecord → ResponderRecord → Type 0) → Type 0
 HoldsOfRecords P =
     (txn : Qualifiers) (x : RequesterRecord) (y : ResponderRecord) (responder_sent requester_sent : List (Option Apdu))

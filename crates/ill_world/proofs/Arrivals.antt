@@ -38,8 +38,8 @@ use Rattle.ill_world.proofs.Claims.{AreIssued, has_issued, cancelled_faces, not_
 use Rattle.ill_world.proofs.Claims.{live_issues}
 use Rattle.ill_world.proofs.Agreements.{tells_requested, cancel_is_open}
 
--- These facts of the tables are assumed here. A requester that takes an end of the request gets to its states. A
--- responder that takes a Returned gets to RETURNED or CHECKED-IN.
+-- These facts of the tables are assumed in this file. A requester that takes a message that ends the request gets to
+-- the states of this end. A responder in SHIPPED or later that takes a Returned gets to RETURNED or CHECKED-IN.
 pub record TransitionsSettle : Type 0 where
   pub shipped : (x : RequesterRecord) (a : Apdu) (due : Date) → is_same_txn a.txn x.txn ≡ true → a.body ≡ types.Shipped due
       → is_among (states.Pending ∷ states.Conditional ∷ states.CancelPending ∷ later) x.state ≡ true
@@ -217,7 +217,7 @@ yes_arrives rows txn x y responder_sent requester_sent n c a requester_stands re
     rows.cancelled x a c (same_txn_as txn x y responder_sent requester_sent n a requester_stands responder_stands at) is parts.1
     parts.0
 
--- Requester `x` gets by `a` to the states in which an end with `body` settles it.
+-- By taking `a`, requester `x` gets to the states of an end with `body` (`settled_by`).
 abbrev Leads : RequesterRecord → Apdu → Body → Type 0
 Leads x a body = requester.LeadsTo (settled_by body) (requester_deliveries.takes x a)
 
@@ -252,9 +252,9 @@ arrives_as rows txn x y responder_sent requester_sent n a (types.IllAnswer answe
 arrives_as rows txn x y responder_sent requester_sent n a body requester_stands responder_stands issued heeded at is ends =
     search rules
 
--- ---- its outcome
+-- ---- the outcome of a delivery
 
--- If an answer is Taken or a Repeat, so is its outcome.
+-- If an answer is Taken or a Repeat, the outcome of the delivery is this answer.
 answers : (answer : Result Taking Refusal) → (answer ≡ Ok Taken) ⊎ (answer ≡ Ok Repeat)
     → (answer_to answer ≡ Answered Taken) ⊎ (answer_to answer ≡ Answered Repeat)
 answers answer (inl taken) = inl (ap answer_to taken)

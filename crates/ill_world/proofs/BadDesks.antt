@@ -40,7 +40,8 @@ use Rattle.ill_world.proofs.Runs.{run_both, run_one}
 
 -- ---- runs
 
--- If `more` is `first ++ rest`, it is so with one more event before `more` and `first`, or with none.
+-- If `more` is `first ++ rest`, this stays true if `own` puts `event` before `more` and before `first`. If `own` is
+-- false, nothing is put before them.
 pub joined : {X : Type 0} (own : Bool) (event : X) (first rest more : List X) → more ≡ first ++ rest
     → (if own then event ∷ more else more) ≡ (if own then event ∷ first else first) ++ rest
 joined true event first rest more is = ap (λ l. event ∷ l) is
@@ -72,7 +73,7 @@ runs_go_on events event txn before after =
 
 -- ---- the events of a transaction
 
--- A single event of desks is the event of a transaction if `is_event_of` is true, and else none.
+-- The events of `txn` in a list of one event are this event if `is_event_of` is true, and else none.
 pub one_event : (txn : Qualifiers) (w : DeskParties) (event : DeskEvent)
     → events_for txn w (event ∷ []) ≡ (if is_event_of txn w event then plain event ∷ [] else [])
 unfolding events_for
@@ -85,7 +86,8 @@ pub whole_events : (txn : Qualifiers) (w : DeskParties) (role : Role) (landed : 
 unfolding events_for
 whole_events txn w role landed = refl
 
--- A single event of desks is an event of the transaction if `own`, the value of `is_event_of`, is true.
+-- The events of `txn` in a list of one event are this event if `own` is true, and else none. `own` is the value of
+-- `is_event_of`.
 is_one : (txn : Qualifiers) (w : DeskParties) (event : DeskEvent) (own : Bool) → is_event_of txn w event ≡ own
     → events_for txn w (event ∷ []) ≡ (if own then plain event ∷ [] else [])
 is_one txn w event own is = one_event txn w event ∙ ap (λ b. if b then plain event ∷ [] else []) is
@@ -220,7 +222,8 @@ not_plain (Plain outcome) plainly (inr is) = search rules
 not_plain NoSuchTransaction plainly missed = plainly
 not_plain DeskFull plainly missed = plainly
 
--- If a desk holds a transaction, an event of it reaches its side.
+-- Desk `p` holds `txn`, and `ReachesAt` holds of an event of transaction `of`, which is `txn`. Then the event reaches
+-- its side.
 held_missed : (may_begin : Bool) (p : DeskParty) (txn of : Qualifiers) (held : DeskEntry) (outcome : DeskOutcome) → of ≡ txn
     → found_by txn_held txn p.live.held ≡ Some held → ReachesAt may_begin p of outcome → IsNotReached outcome → ⊥
 held_missed may_begin p txn of held outcome is found reaches missed =
@@ -266,7 +269,7 @@ reaches_desk w (events.Send role of n) nameless reaches = absurd (nameless of re
 reaches_desk w (events.Deliver role of n) nameless reaches = absurd (nameless of refl)
 reaches_desk w event nameless reaches = reaches
 
--- If `ReachesSide` holds of an event, it has the right outcome where no side is held.
+-- If `ReachesSide` holds of an event, `MissesNew` does not.
 pub none_missed_new : (w : DeskParties) (event : DeskEvent) → MissesNew w event → ReachesSide w event → ⊥
 none_missed_new w event (begins_none txn may unheld room missed) reaches =
     let outcome = (desks_happen w event).0 in
@@ -285,7 +288,7 @@ none_missed_new w event (finds_one txn may unheld other) reaches =
 none_missed_new w event (misses_desk nameless missed) reaches =
     not_plain (desks_happen w event).0 (reaches_desk w event nameless reaches) missed
 
--- If `DeskMayChange` holds of an event that is not reached, the projection has not changed.
+-- If the outcome says that the event reaches no side, and `DeskMayChange` holds, the projection has not changed.
 pub none_changed : (outcome : DeskOutcome) (old new : Parties) → ChangesUnreached outcome old new
     → DeskMayChange outcome old new → ⊥
 none_changed (Plain outcome) old new (missed, changed) may = not_plain (Plain outcome) tt missed

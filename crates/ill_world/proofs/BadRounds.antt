@@ -1,5 +1,5 @@
--- The definitions of a round exclude worlds that are amiss. A round without the last message of a side, or without
--- its first one, leaves them so. A whole round brings both sides in step.
+-- The definitions of a round exclude worlds that are amiss. In some worlds a round without the last or first message of
+-- a side leaves the sides out of step. A whole round brings them in step.
 use Rattle.std.proofs.Common.{rules, inl, inr, List, Err, refl, sym, subst}
 use Rattle.std.proofs.lemmas.Bool.{true≢false}
 use Rattle.ill_core.specs.Requester.{RequesterRecord}
@@ -21,13 +21,13 @@ use Rattle.ill_world.proofs.BadNights.{not_at_rest}
 
 -- ---- worlds that are amiss
 
--- A responder's side faces no side as a requester's.
+-- `Facing P` holds of no pair whose first side is a responder's.
 responder_first : (P : RequesterRecord → ResponderRecord → Type 0) (y : ResponderRecord) (side : Side)
     → Facing P (sides.Responder y) side → ⊥
 responder_first P y (sides.Requester x) faces = faces
 responder_first P y (sides.Responder z) faces = faces
 
--- A requester's side is faced by no side as a responder's.
+-- `Facing P` holds of no pair whose second side is a requester's.
 requester_second : (P : RequesterRecord → ResponderRecord → Type 0) (x : RequesterRecord) (side : Side)
     → Facing P side (sides.Requester x) → ⊥
 requester_second P x (sides.Requester z) faces = faces

@@ -49,7 +49,7 @@ module _ {W E C : Type 0} (play : Play W E C) (from : Progress W C) (text left w
   abbrev after : Streams
   after = record { left = Some left; written = Some written }
 
-  -- If the writer fails, the bytes written do not leave the trace.
+  -- If the writer fails, `Leaves` does not hold of the bytes written and the trace.
   pub none_leaves : Leaves written (trace_on play from (reading_on play from text).events)
       → Plays play from before (Err Write) after → ⊥
   none_leaves leaves (read, trace, consumed, appended, answers) =
@@ -58,7 +58,8 @@ module _ {W E C : Type 0} (play : Play W E C) (from : Progress W C) (text left w
       (subst (λ l. IsPrefix l (trace_on play from (reading_on play from (read ++ left)).events)) (sym appended)
       (answers left refl)))
 
-  -- If memory runs out, the bytes written are the trace of a prefix of the events.
+  -- If memory runs out, `IsOfNoPrefix` does not hold of the bytes written: they are the trace of a prefix of the
+  -- events.
   pub some_prefix : IsOfNoPrefix (trace_on play from) (reading_on play from text).events written
       → Plays play from before (Err OutOfMemory) after → ⊥
   some_prefix none (read, trace, consumed, appended, answers) =
@@ -70,7 +71,7 @@ module _ {W E C : Type 0} (play : Play W E C) (from : Progress W C) (text left w
   read_all : (read : List ℕ) → text ≡ read ++ left → left ≡ [] → read ≡ text
   read_all read consumed none = sym (consumed ∙ ap (λ l. read ++ l) none ∙ append-nil read)
 
-  -- The result of a play from the first event on does not misreport.
+  -- `Misreports` does not hold of the result of a play from the first event on.
   pub none_misreports : (result : Result ℕ SimFault) → from.count ≡ 0
       → Misreports (trace_on play from) (reading_on play from) (broken_on play from) text left written result
       → Plays play from before result after → ⊥

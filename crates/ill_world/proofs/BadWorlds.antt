@@ -1,4 +1,5 @@
--- The definitions of safety and agreement exclude each world of `IsUnsafe` and `Disagrees`.
+-- The definitions of safety and agreement exclude each world of `IsUnsafe` and `Disagrees`. The promises on events
+-- exclude each event of `TakesBack` and `ArrivesInVain`.
 use Rattle.std.proofs.Common.{rules, ◌≡◌, inl, inr, ℕ, true, false, List, [], ◌∷◌, Option, Some, None, sym, ap, subst, refl, ◌∙◌}
 use Rattle.std.proofs.lemmas.Option.{same_Some}
 use Rattle.ill_values.specs.Day.{Date}
@@ -59,7 +60,7 @@ no_contradiction x y (never_shipped is none) ends shipped granted = let both : t
 no_contradiction x y (never_granted due is none) ends shipped granted = let grant = granted due is in
     none grant.0 grant.1 grant.2 grant.3
 
--- An unsafe world is not safe.
+-- A world of which `IsUnsafe` holds is not safe.
 pub not_safe : (w : Parties) → IsUnsafe w → Safe w → ⊥
 not_safe w (contradicted x y requester_has responder_has bad) safe =
     no_contradiction x y bad (of_pair EndsAlike w x y safe.ends requester_has responder_has)
@@ -75,7 +76,7 @@ has_asked states.CancelPending is waits done = waits refl
 has_asked states.Cancelled is waits done = done refl
 has_asked state is waits done = search rules
 
--- If `IsNotLater` and `SaysTrue` hold of two records, they do not mislead.
+-- If `IsNotLater` and `SaysTrue` hold of two records, `Misleads` does not.
 not_misled : (x : RequesterRecord) (y : ResponderRecord) → Misleads x y → IsNotLater x y → SaysTrue x y → ⊥
 not_misled x y (due_later due is after) dates says = let granted = dates due is in let both : true ≡ false =
     sym (after granted.0 granted.1) ∙ granted.2 in cc
@@ -85,7 +86,8 @@ not_misled x y (cancelled_unasked is waits done) dates says = has_asked x.state 
 not_misled x y (not_received is none) dates says = let both : true ≡ false = sym (says.received is) ∙ none in cc
 not_misled x y (not_checked_in is other) dates says = other (says.checked_in is)
 
--- If no two messages answer one number, no two bodies of messages with different numbers answer k.
+-- No two messages of `at` answer one number, and the bodies `this` and `that` answer k. Then no two messages of `at`
+-- with different numbers have these bodies.
 not_twice : (answered : Body → Option ℕ) (at : ℕ → Option Apdu) (k : ℕ) (this that : Body) → answered this ≡ Some k
     → answered that ≡ Some k → AnswersOnce answered at
     → TwoSay at (λ body. body ≡ this) (λ body. body ≡ that) → ⊥
@@ -104,7 +106,7 @@ not_ended_twice : (side : Side) → EndsOnce side
 not_ended_twice side once two =
     two.6 (same_Some two.0 two.1 (sym (once two.0 two.2 two.4 two.7) ∙ once two.1 two.3 two.5 two.8))
 
--- If two sides disagree, they do not agree.
+-- If `Disagrees` holds of a world, its sides do not agree.
 pub not_agreed : (w : Parties) → Disagrees w → Agrees w → ⊥
 not_agreed w (conditions_twice at k said again of two) agrees =
     not_twice replied_number at k (ConditionalReply k said) (ConditionalReply k again) refl refl
@@ -138,7 +140,7 @@ not_taken_back old None (due, was, now) (inr (inr raised)) = cc
 not_taken_back old (Some later) (due, was, now) (inr (inr raised)) =
     not_before_itself due (before_chains due later due (sym (ap (is_after_due later) was) ∙ raised) (now later refl))
 
--- An event other than its restart keeps or raises the requester's live due date.
+-- If `KeepsLiveDate` holds of an event other than the requester's restart, the event keeps or raises the live due date.
 live_kept : (event : Event) (old new : Party) → (event ≡ Restart who.Requester → ⊥) → KeepsLiveDate event old new
     → KeepsDue (due_date_of old.live) (due_date_of new.live)
 live_kept (Restart who.Requester) old new other keeps = absurd (other refl)

@@ -26,7 +26,7 @@ use Rattle.ill_world.specs.Changes.{OnlyLands, OnlyLandedChanges, MayChange, Kee
 use Rattle.ill_world.specs.Invariant.{SendsSaved, Invariant}
 use Rattle.ill_world.proofs.Kept.{stays_sent}
 
--- These facts of the tables are assumed here. A delivery that is not Taken changes nothing.
+-- These facts of the tables are assumed in this file. A delivery that is not Taken changes nothing.
 pub record RefusalsChangeNothing : Type 0 where
   pub requester : (x : RequesterRecord) (a : Apdu)
       → ((requester_deliveries.takes x a).0 ≡ Ok Taken) ⊎ ((requester_deliveries.takes x a).1 ≡ x)

@@ -1,4 +1,5 @@
--- One arrival of the end of a request, or of a Returned, is enough at a desk too. For it holds the transaction.
+-- One arrival of the end of a request, or of a Returned, is enough at a desk too. For the desk holds the transaction of
+-- this message.
 use Rattle.std.proofs.Common.{rules, ◌≡◌, ℕ, nat_lt, length, zero, suc, Bool, true, false, ◌&&◌, not, List, [], ◌∷◌, Option, Some}
 use Rattle.std.proofs.Common.{None, is_some, refl, sym, ap, ◌∙◌, subst, true≢false}
 use Rattle.ill_values.specs.TxnId.{Qualifiers}
@@ -107,9 +108,10 @@ held_plainly may_begin p txn (Some held) outcome e not_idle reaches =
 held_plainly may_begin p txn None outcome e not_idle reaches =
     absurd (not_idle (ap (λ o. issued_of (found_or (idle_held p.live.role txn) o).side) e ∙ idle_issues p.live.role txn))
 
--- ---- the law
+-- ---- deliveries at a desk
 
--- If a delivery reaches its transaction and settles the expected side, it settles the side that is seen.
+-- A delivery reaches its transaction, and `Settles` holds of the expected outcome and side. Then `SettlesAt` holds of
+-- the outcome at the desks and the side in `new`.
 settles_as : (among : List State) (own : Bool) (expected : Outcome × Parties) (old new : Parties) (outcome : DeskOutcome)
     (side : Parties → Side)
     → IsSeenAs (if_reached outcome own) expected old outcome new → own ≡ true → IsPlain outcome

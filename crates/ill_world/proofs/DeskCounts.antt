@@ -91,7 +91,7 @@ abbrev without : Qualifiers → List Qualifiers → List Qualifiers
 without txn [] = []
 without txn (first ∷ txns) = cond (is_same_txn txn first) txns (first ∷ without txn txns)
 
--- Without its first member, or without one of the others, a list is one shorter.
+-- Without its first member (`same`), or without one of the others (`there`), a list is one shorter.
 one_less : (first : Qualifiers) (txns rest : List Qualifiers) (same there : Bool) → (same || there) ≡ true
     → (there ≡ true → suc (length rest) ≡ length txns)
     → suc (length (cond same txns (first ∷ rest))) ≡ suc (length txns)
@@ -159,8 +159,8 @@ has_found key txn (item ∷ items) =
     either_some (is_same_txn txn (key item)) (is_one_of txn (map key items)) item (found_by key txn items)
     (has_found key txn items)
 
--- An event leaves the live and landed transactions unchanged, or begins one of which `May` holds. Or it lands the live
--- ones, or replaces them by the landed ones.
+-- An event leaves the live and landed transactions unchanged. Or it begins a transaction of which `May` holds, if this
+-- is not live, and fewer than 1,000 are. Or it lands the live ones, or replaces them by the landed ones.
 pub data Leads (May : Qualifiers → Type 0) (live landed new_live new_landed : List Qualifiers) : Type 0 where
   stays : new_live ≡ live → new_landed ≡ landed → Leads May live landed new_live new_landed
   begun : (txn : Qualifiers) → is_one_of txn live ≡ false → length live + 1 ≤ 1000 → May txn → new_live ≡ live ++ txn ∷ []
@@ -172,13 +172,13 @@ pub data Leads (May : Qualifiers → Type 0) (live landed new_live new_landed : 
 abbrev pub LeadsTo : (Qualifiers → Type 0) → DeskParty → DeskParty → Type 0
 LeadsTo May p new = Leads May (live_txns p) (landed_txns p) (live_txns new) (landed_txns new)
 
--- The desk is unchanged, or puts an entry of `of`.
+-- Desk `new` is `p`, or is `p` with an entry of transaction `of` put in its live contents.
 abbrev Puts : Qualifiers → DeskParty → DeskParty → Type 0
 Puts of p new = (new ≡ p) ⊎ ((held : DeskEntry) × (txn_held held ≡ of) × (new ≡ record p { live = with_held p.live held }))
 
 -- Desk `p` may begin the transaction `of` only if `May` holds of it.
 module _ (May : Qualifiers → Type 0) (p : DeskParty) (of : Qualifiers) where
-  -- A put side leaves the transactions unchanged if its own is held. Else it begins its own.
+  -- If `of` is held, an entry of `of` that is put leaves the transactions unchanged. Else the entry begins `of`.
   put_leads : (held : DeskEntry) → txn_held held ≡ of → (found : Option DeskEntry) → found_by txn_held of p.live.held ≡ found
       → (found ≡ None → (nat_lt (length p.live.held) most_sides ≡ true) × May of)
       → LeadsTo May p (record p { live = with_held p.live held })
@@ -194,7 +194,7 @@ module _ (May : Qualifiers → Type 0) (p : DeskParty) (of : Qualifiers) where
       few : nat_lt (length p.live.held) most_sides ≡ true → length (live_txns p) + 1 ≤ 1000
       few room = omega (arith, ltb-true (length p.live.held) 1000 room, length-map p.live.held txn_held)
 
-  -- If a desk puts a side or is unchanged, `LeadsTo` holds.
+  -- If `Puts` holds from `p` to `new`, and `of` is held or may be begun, `LeadsTo` holds.
   puts_lead : (new : DeskParty) → Puts of p new → (found : Option DeskEntry) → found_by txn_held of p.live.held ≡ found
       → (found ≡ None → (nat_lt (length p.live.held) most_sides ≡ true) × May of) → LeadsTo May p new
   puts_lead new (inl is) found e may = subst (LeadsTo May p) (sym is) (stays refl refl)
@@ -226,7 +226,7 @@ Permits May partner_sent other = Unit {0}
 
 -- Desk `p` may begin only transactions of which `May` holds.
 module _ (grows : RowsGrow) (May : Qualifiers → Type 0) (p : DeskParty) where
-  -- A decision puts its side, or leaves the desk unchanged.
+  -- A decision puts the entry with its new side, or leaves the desk unchanged.
   decided_puts : (of : Qualifiers) (action : Action) (held : DeskEntry) → txn_held held ≡ of → (result : Result Side Refusal)
       → acts held.side action ≡ result → Puts of p (desk_decides p (acted_at p.live held result)).1
   decided_puts of action held is (Ok new) e =
@@ -243,7 +243,7 @@ module _ (grows : RowsGrow) (May : Qualifiers → Type 0) (p : DeskParty) where
       (begins action) may (nat_lt (length p.live.held) most_sides) refl (found_by txn_held of p.live.held) refl
   decides_leads of action may false = stays refl refl
 
-  -- A taken message puts its side, or leaves the desk unchanged.
+  -- A message puts the entry with its new side, or leaves the desk unchanged.
   took_puts : (a : Apdu) (held : DeskEntry) → txn_held held ≡ a.txn → (answer : Result Taking Refusal) (new : Side)
       → takes held.side a ≡ (answer, new) → Puts a.txn p (record p { live = (took_at p.live held (answer, new)).1 })
   took_puts a held is (Ok _) new e =
@@ -439,7 +439,7 @@ first_counts = ((tt, omega arith), (tt, omega arith), (tt, (λ t is. is), (λ t 
 
 -- ---- deliveries
 
--- If a transaction is held or has room, its delivery is not DeskFull.
+-- If an entry is found, or there is room, `Reaches` does not hold of the outcome DeskFull.
 never_full : (may_begin has_room : Bool) (found : Option DeskEntry) → (found ≡ None → has_room ≡ false → ⊥)
     → Reaches may_begin has_room found DeskFull → ⊥
 never_full may_begin has_room (Some held) room reaches = reaches

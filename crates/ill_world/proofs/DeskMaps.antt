@@ -18,7 +18,8 @@ use Rattle.ill_world.proofs.Standings.{none_sent}
 abbrev Entries : Type 0
 Entries = List (Qualifiers × List (Option Apdu))
 
--- If the list and the map agree on `txn` after their first entry `e`, they agree on `txn` with it.
+-- If the list and the map agree on `txn` after their first entry `e`, they agree with `e` too. `same` tells if `e` is
+-- of `txn`.
 sent_first : (txn : Qualifiers) (e : Qualifiers × List (Option Apdu)) (found : Option Sending)
     (there : Option (List (Option Apdu))) (same : Bool)
     → (found_or {X = Sending} (record { txn = txn; sent = nothing_sent }) found).sent ≡ found_or nothing_sent there
@@ -43,7 +44,8 @@ nothing_there n = go (sent_message nothing_sent n) refl
     go None e = refl
     go (Some a) e = absurd (none_sent n a e)
 
--- If `set_value` and `put_by` agree after the first entry `e`, they agree with it.
+-- If `set_value` and `put_by` agree after the first entry `e`, they agree with `e` before. `same` tells if `e` is of
+-- `txn`.
 set_first : (txn : Qualifiers) (new sent : List (Option Apdu)) (e : Qualifiers × List (Option Apdu))
     (found : Option (List (Option Apdu))) (entries set_on : Entries) (put_on : List Sending) (same : Bool)
     → is_same_txn txn e.0 ≡ same → cond same (Some e.1) found ≡ Some sent → (found ≡ Some sent → sendings_of set_on ≡ put_on)

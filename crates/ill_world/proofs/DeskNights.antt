@@ -73,7 +73,8 @@ module _ (wants : Side → Bool) where
   idle_either idle true = refl
   idle_either idle false = refl
 
-  -- The selected side found for `txn` is its side, if `wants` holds of it. Else it is idle.
+  -- The side of `txn` is found among the selected sides if `wants` holds of it. Else no side is found, and `idle` takes
+  -- its place.
   found_wanted : (txn : Qualifiers) (idle : Side) (all : List Side) → AreApart (map txn_of all)
       → found_or idle (found_by txn_of txn (filter wants all))
       ≡ cond (wants (found_or idle (found_by txn_of txn all))) (found_or idle (found_by txn_of txn all)) idle
@@ -110,8 +111,8 @@ abbrev passes_of : Role → Side → List Event
 passes_of role side = sends_and_delivers role 1 (length (issued_of side))
 
 module _ (projects : EachProjects) (reaches : EachReaches) (after : EachStands) (txn : Qualifiers) where
-  -- In `txn` the half of the selected sides is the half of its side. If `wants` does not hold of its side, the half is
-  -- a save.
+  -- In `txn` the half of a night of two desks is the half of a night of two parties. If `wants` holds of the side of
+  -- `txn`, all its messages are passed on. Else the half is a save.
   half_if_alike : (wants : Side → Bool) (w : DeskParties) (role : Role) → DesksInvariant w
       → project txn (desks_run w (desk_half_if wants role w))
       ≡ run_of (project txn w) (half_if (wants (party (project txn w) role).live) role (project txn w))
@@ -157,7 +158,7 @@ module _ (projects : EachProjects) (reaches : EachReaches) (after : EachStands) 
       go false = ap (λ (apdus : List Apdu). run_of v (events.Save role ∷ sends_and_delivers role 1 (length apdus)))
           (idle_issues live.role txn)
 
-  -- In `txn` a night of two desks is a night of both sides. Each half is one of its side, by `half_if_alike`.
+  -- In `txn` a night of two desks is a night of both sides. Each half is the half of a side, by `half_if_alike`.
   pub night_alike : (w : DeskParties) → DesksInvariant w
       → project txn (desks_run w (desk_night_of w)) ≡ run_of (project txn w) (night_of (project txn w))
   night_alike w stands =

@@ -4,8 +4,8 @@ use Rattle.std.specs.List.{slice_get, flat_map}
 use Rattle.std.proofs.lemmas.List.{take_more, flat_map_more}
 use Rattle.std.proofs.lemmas.Option.{get_or_from_slice_get, slice_get_within}
 
--- `before` has `first`, and `f` of each of the first i members of `xs`. If `f` of the next one is appended, `after` has
--- those of i + 1.
+-- The list `before` has `first`, and `f` of each of the first i members of `xs`. `after` is `before` with `f` of the
+-- next member `x`. Then `after` has `first`, and `f` of each of the first i + 1 members.
 pub flat_map_grows : {X A : Type 0} (f : X → List A) (xs : List X) (i : ℕ) (x : X) (first : A) (before after : List A)
     → slice_get xs i ≡ Some x → after ≡ before ++ f x
     → before ≡ first ∷ flat_map f (take i xs) → after ≡ first ∷ flat_map f (take (i + 1) xs)

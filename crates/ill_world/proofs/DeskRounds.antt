@@ -57,7 +57,7 @@ idle_sends p n released none = ap (λ apdus. (sends p n (message apdus n) releas
     go zero = refl
     go (suc m) = refl
 
--- If an answer leaves a record unchanged, a refusal does so too.
+-- If `answer` leaves record `y` unchanged, `unless_refused` leaves it unchanged, with a refusal and without one.
 refused_or_same : (refusal : Option Refusal) (y : ResponderRecord) (answer : _ × ResponderRecord) → answer.1 ≡ y
     → (unless_refused refusal y answer).1 ≡ y
 refused_or_same (Some refusal) y answer same = refl
@@ -101,8 +101,8 @@ same_party : (v : Parties) (role : Role) → with_party v role (party v role) �
 same_party v who.Requester = refl
 same_party v who.Responder = refl
 
--- An event of the transaction leads to the expected world, if it is not DeskFull, and NoSuchTransaction changes
--- nothing.
+-- If `own` is true, the event is one of the transaction, and leads to the expected world. Its outcome may not be
+-- DeskFull. If the outcome is NoSuchTransaction, the expected world must be the old one.
 pub seen_alike : (own : Bool) → own ≡ true → (expected : Outcome × Parties) (old new : Parties) (outcome : DeskOutcome)
     → IsSeenAs (if_reached outcome own) expected old outcome new
     → (outcome ≡ DeskFull → ⊥) → (outcome ≡ NoSuchTransaction → expected.1 ≡ old) → new ≡ expected.1
@@ -111,7 +111,7 @@ seen_alike true is expected old new NoSuchTransaction seen room stays = seen ∙
 seen_alike true is expected old new DeskFull seen room stays = absurd (room refl)
 seen_alike false is expected old new outcome seen room stays = absurd (true≢false (sym is))
 
--- An event of another transaction changes nothing, with any outcome.
+-- If `own` is false, the event is one of another transaction, and changes nothing, with any outcome.
 pub seen_elsewhere : (own : Bool) → own ≡ false
     → (expected : Outcome × Parties) (old new : Parties) (outcome : DeskOutcome)
     → IsSeenAs (if_reached outcome own) expected old outcome new → new ≡ old
@@ -237,7 +237,8 @@ module _ (projects : EachProjects) (reaches : EachReaches) (after : EachStands) 
 
   -- ---- the messages of a side
 
-  -- To pass on messages of `txn` leads the projection on as two parties.
+  -- Two desks pass on `count` messages of `role` in `txn`, from number n on. In `txn` this leads to the world to which
+  -- two parties get by passing on these messages.
   passes_alike : (w : DeskParties) (role : Role) (n count : ℕ) → DesksInvariant w
       → project txn (desks_run w (map (in_txn txn) (sends_and_delivers role n count)))
       ≡ run_of (project txn w) (sends_and_delivers role n count)
@@ -286,7 +287,8 @@ module _ (projects : EachProjects) (reaches : EachReaches) (after : EachStands) 
       ∙ sides_stay (desks_run w (passes_side role side)) role more parts.1 (desks_stand_on after w (passes_side role side) stands)
       ∙ others_stay (txn_of side) parts.0 w role 1 (length (issued_of side)) stands
 
-  -- No two of the sides are of one transaction. To pass on their messages is, in `txn`, to pass on those of its side.
+  -- No two of the sides `all` are of one transaction. To pass on all their messages is, in `txn`, to pass on those of
+  -- the side of `txn`. If none is of `txn`, nothing is passed on.
   pub sides_alike : (w : DeskParties) (role : Role) (idle : Side) → issued_of idle ≡ [] → (all : List Side)
       → AreApart (map txn_of all) → DesksInvariant w
       → project txn (desks_run w (flat_map (passes_side role) all))
@@ -337,7 +339,7 @@ module _ (projects : EachProjects) (reaches : EachReaches) (after : EachStands) 
       let known = stands.counts.2 in
       subst AreApart (sym (map-map txn_of (λ (held : DeskEntry). held.side) w.responder.live.held)) known.0
 
-  -- In `txn` the half of a round of a desk is the half of a round of its side.
+  -- In `txn` the half of a round of two desks is the half of a round of two parties.
   half_alike : (w : DeskParties) (role : Role) → DesksInvariant w
       → project txn (desks_run w (desk_half_of role w)) ≡ run_of (project txn w) (half_of role (project txn w))
   unfolding run_by side_with

@@ -1,4 +1,5 @@
--- In each transaction two desks are safe. For each of their events is one of the two parties, or changes nothing.
+-- In each transaction an event of two desks is an event of two parties, or changes nothing. So two desks are safe in
+-- each transaction.
 use Rattle.std.proofs.Common.{rules, ◌≡◌, ℕ, Bool, true, false, if◌then◌else◌, List, [], ◌∷◌, Option, Some, None, Result, Ok, Err}
 use Rattle.std.proofs.Common.{refl, sym, ap, ◌∙◌, subst}
 use Rattle.ill_values.specs.TxnId.{Qualifiers}
@@ -46,7 +47,7 @@ use Rattle.ill_world.proofs.Projections.{PartySeen, KeepsTo, party_seen, first_p
 
 -- ---- an event of two desks, seen in one transaction
 
--- If `IsSeenAs` holds of a world, it holds of each part of it.
+-- If `IsSeenAs` holds of two values, it holds of the part `f` of each.
 seen_in : {P Q : Type 0} (f : P → Q) (own : Bool) (expected : Outcome × P) (old new : P) (outcome : DeskOutcome)
     → IsSeenAs own expected old outcome new → IsSeenAs own (expected.0, f expected.1) (f old) outcome (f new)
 seen_in f true expected old new outcome seen = (seen.0, ap f seen.1)
@@ -129,37 +130,37 @@ desk_projects grows rows txn w event stands =
 
 -- ---- a desk keeps its role
 
--- A decision at a held side leaves the roles of a desk.
+-- A decision at a held side leaves both roles of a desk unchanged, live and landed.
 acted_role : (role : Role) (p : DeskParty) (held : DeskEntry) (result : Result Side Refusal) → IsDeskOf role p
     → IsDeskOf role (desk_decides p (acted_at p.live held result)).1
 acted_role role p held (Ok new) is = is
 acted_role role p held (Err refusal) is = is
 
--- A decision leaves the roles of a desk, if its side is reached or not.
+-- A decision leaves both roles of a desk unchanged, if its side is reached or not.
 reached_role : (role : Role) (p : DeskParty) (action : Action) (found : Result DeskEntry DeskFault) → IsDeskOf role p
     → IsDeskOf role (desk_decides p (acts_reached p.live action found)).1
 reached_role role p action (Ok held) is = acted_role role p held (acts held.side action) is
 reached_role role p action (Err fault) is = is
 
--- A decision leaves the roles of a desk, if its role may act or not.
+-- A decision leaves both roles of a desk unchanged, if the desk's role may act or not.
 decided_role : (role : Role) (p : DeskParty) (action : Action) (found : Result DeskEntry DeskFault) (may : Bool) → IsDeskOf role p
     → IsDeskOf role (desk_decides p (if may then acts_reached p.live action found else Err (faults.Core WrongRole))).1
 decided_role role p action found true is = reached_role role p action found is
 decided_role role p action found false is = is
 
--- A message that a held side takes leaves the live role of a desk.
+-- A message that a held side takes leaves the live role of a desk unchanged.
 took_role : (role : Role) (p : DeskParty) (held : DeskEntry) (answer : Result _ Refusal) (new : Side) → IsDeskOf role p
     → (took_at p.live held (answer, new)).1.role ≡ role
 took_role role p held (Ok _) new is = is.0
 took_role role p held (Err refusal) new is = is.0
 
--- A message leaves the live role of a desk, if its side is reached or not.
+-- A message leaves the live role of a desk unchanged, if its side is reached or not.
 takes_role : (role : Role) (p : DeskParty) (a : Apdu) (found : Result DeskEntry DeskFault) → IsDeskOf role p
     → (takes_reached p.live a found).1.role ≡ role
 takes_role role p a (Ok held) is = took_role role p held (takes held.side a).0 (takes held.side a).1 is
 takes_role role p a (Err fault) is = is.0
 
--- A delivery leaves the roles of a desk.
+-- A delivery leaves both roles of a desk unchanged.
 pub receives_role : (role : Role) (p : DeskParty) (found : Option Apdu) → IsDeskOf role p
     → IsDeskOf role (desk_receives p found).1
 receives_role role p None is = is
@@ -171,20 +172,20 @@ receives_role role p (Some a) is = (go (is_own p.live.role a.body), is.1)
     go true = is.0
     go false = takes_role role p a (side_for_call p.live a.txn (is_ill_request a.body)) is
 
--- A Send leaves the roles of a desk, if the sent message does.
+-- A Send leaves both roles of a desk unchanged, if the desk `after` the sent message has them.
 sends_role : (role : Role) (p : DeskParty) (after : Apdu → DeskParty) (issued : Option Apdu) (released : Bool)
     → IsDeskOf role p → ((a : Apdu) → IsDeskOf role (after a)) → IsDeskOf role (sends_by p after issued released).1
 sends_role role p after None released is sent = is
 sends_role role p after (Some a) false is sent = is
 sends_role role p after (Some a) true is sent = sent a
 
--- A Send of message n in transaction `of` leaves the roles of a desk.
+-- A Send of message n in transaction `of` leaves both roles of a desk unchanged.
 send_role : (role : Role) (p : DeskParty) (of : Qualifiers) (n : ℕ) (found : Option DeskEntry) → IsDeskOf role p
     → IsDeskOf role (desk_sends p of n found).1
 send_role role p of n None is = is
 send_role role p of n (Some held) is = sends_role role p _ _ _ is (λ a. is)
 
--- Each event leaves the roles of its desk.
+-- Each event leaves both roles of its desk unchanged.
 pub role_kept : (role : Role) (p : DeskParty) (partner_sent : List Sending) (event : DeskEvent) → IsDeskOf role p
     → IsDeskOf role (desk_happens_to p partner_sent event).1
 role_kept role p partner_sent (events.Wish of wish) is =
@@ -201,7 +202,7 @@ role_kept role p partner_sent (events.Deliver at of n) is = receives_role role p
 role_kept role p partner_sent (events.Noise at bytes) is = is
 role_kept role p partner_sent (events.Restart at) is = (is.1, is.1)
 
--- Each event leaves the roles of both desks.
+-- Each event leaves the roles of both desks unchanged.
 roles_kept : (w : DeskParties) (role : Role) (event : DeskEvent) → IsDeskOf who.Requester w.requester
     → IsDeskOf who.Responder w.responder
     → let after = (happens_at w role (λ p partner. desk_happens_to p partner.sent event)).1 in
@@ -253,8 +254,8 @@ EachProjects = (txn : Qualifiers) (w : DeskParties) (event : DeskEvent) → Desk
 abbrev pub EachStands : Type 0
 EachStands = (w : DeskParties) (event : DeskEvent) → DesksInvariant w → DesksInvariant (desks_happen w event).1
 
--- If the event is one of the transaction, `more` after it leads to the run of both from `w`. Otherwise `more` alone
--- leads on from `w`.
+-- The event was seen in the transaction, and led from `w` to `new`. If `own` is true, `more` leads from `new` to the
+-- world of `event` and `more` from `w`. Else it leads to the world of `more` alone from `w`.
 leads_on : (own : Bool) (w : Parties) (event : Event) (more : List Event) (new : Parties) (outcome : DeskOutcome)
     → IsSeenAs own (happens w event) w outcome new
     → run_of new more ≡ run_of w (if own then event ∷ more else more)

@@ -37,8 +37,8 @@ keeps_on (Some x) (Some y) c (inr (inr raised)) (inr (inl same)) =
 keeps_on (Some x) (Some y) None (inr (inr raised)) (inr (inr again)) = search rules
 keeps_on (Some x) (Some y) (Some z) (inr (inr raised)) (inr (inr again)) = inr (inr (before_chains x y z raised again))
 
--- These facts of the tables are assumed here. A wish leaves the requester's due date unchanged. A message that it takes
--- keeps or raises it.
+-- These facts of the tables are assumed in this file. A wish leaves the requester's due date unchanged. A message that
+-- the requester takes keeps or raises the due date. The record must have one exactly in SHIPPED or later.
 pub record TransitionsKeepDue : Type 0 where
   pub acts : (x new : RequesterRecord) (wish : Wish) → requester_actions.acts x wish ≡ Ok new → new.due ≡ x.due
   pub takes : (x : RequesterRecord) (a : Apdu) → is_some x.due ≡ is_among later x.state

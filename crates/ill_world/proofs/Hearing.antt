@@ -1,5 +1,5 @@
--- `has_heard` holds of a message if it would not change the record now. After a record takes all messages in order, it
--- holds of each that no later one reopens.
+-- `has_heard` holds of a message that would not change the record now. After a record takes all messages in order,
+-- `has_heard` holds of each message that no later one reopens.
 use Rattle.std.proofs.Common.{rules, arith, ◌≡◌, ℕ, zero, suc, ◌<◌, Bool, true, false, List, [], ◌∷◌, Some, refl, sym, subst}
 use Rattle.std.specs.Prelude.{slice_get}
 use Rattle.ill_values.specs.declared.apdu.Apdu.{Apdu}
@@ -20,8 +20,8 @@ module _ {R : Type 0} (take : R → Apdu → R) where
   keeps_all P keeps r [] holds = holds
   keeps_all P keeps r (a ∷ apdus) holds = keeps_all P keeps (take r a) apdus (keeps r a holds)
 
-  -- For records of which `Is` holds, and messages of which `Of` holds: a taken message satisfies `has_heard` at once.
-  -- It does so until a message that reopens it is taken.
+  -- A record of which `Is` holds satisfies `Is` after each message too. If it takes a message of which `Of` holds,
+  -- `has_heard` holds of this message at once. This stays so until a message is taken that reopens it.
   pub record Hears (Is : R → Type 0) (Of : Apdu → Type 0) (has_heard : R → ℕ → Body → Bool) (reopens : Body → Body → Bool) : Type
       0 where
     pub keeps : (r : R) (a : Apdu) → Is r → Is (take r a)

@@ -22,7 +22,7 @@ encoded_whole again bytes a is encoded = ap apdu_at (encoded ∙ sym (append-nil
 pub apdu_is : ReadAgain → (bytes : List ℕ) (a : Apdu) → IsApdu a → bytes ≡ encoding a → apdu_of (apdu_at bytes) ≡ a
 apdu_is again bytes a is encoded = ap apdu_of (encoded_whole again bytes a is encoded)
 
--- Bytes that encode an APDU are read as their APDU, and no byte is left.
+-- Bytes that encode an APDU are read as the APDU that `apdu_of` gives, and no byte is left.
 pub is_whole : ReadAgain → (bytes : List ℕ) (a : Apdu) → IsApdu a → bytes ≡ encoding a
     → apdu_at bytes ≡ Ok (apdu_of (apdu_at bytes), [])
 is_whole again bytes a is encoded =

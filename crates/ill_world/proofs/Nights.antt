@@ -192,8 +192,8 @@ rest_after : (w : Parties) (events : List Event) → AreAtRest w → events ≡ 
 unfolding run_by
 rest_after w events rest is = subst (λ (l : List Event). AreAtRest (run_of w l)) (sym is) rest
 
--- After a night both sides are in step if the night is a round that brings them in step. They are at rest if they were
--- so before, and only save.
+-- If the loan is open for the requester, the night is a round, which brings both sides in step. If the loan is over,
+-- both sides were at rest, and only save, so that they are at rest still.
 pub one_night : (w : Parties) → (is_over w.requester.live ≡ false → night_of w ≡ round_of w)
     → (is_over w.requester.live ≡ true → night_of w ≡ Save who.Requester ∷ Save who.Responder ∷ [])
     → (is_over w.requester.live ≡ true → AreAtRest w) → AreInStep (run_of w (round_of w))

@@ -54,8 +54,9 @@ asks x a = (requester_deliveries.takes x a).1
 abbrev lends : ResponderRecord → Apdu → ResponderRecord
 lends y a = (responder_deliveries.takes y a).1
 
--- These facts of the tables are assumed here. If a record takes a message, `has_heard` holds of it, until a later one
--- reopens it. A responder that takes messages issues nothing but an ILL-Answer unfilled.
+-- These facts of the tables are assumed in this file. A record that takes a message keeps its transaction. `has_heard`
+-- then holds of this message, until a later one reopens it. A requester issues nothing by it, a responder nothing but
+-- an ILL-Answer unfilled. No message leads a responder out of NOT-SUPPLIED, CANCELLED or CHECKED-IN.
 pub record TransitionsHear : Type 0 where
   pub requester_txn : (x : RequesterRecord) (a : Apdu) → (asks x a).txn ≡ x.txn
   pub requester_issues : (x : RequesterRecord) (a : Apdu) → (asks x a).issued ≡ x.issued
@@ -142,7 +143,8 @@ abbrev GrantsOverdue : Body → Body → Type 0
 GrantsOverdue first second = (c : ℕ) × (due day : Date) × (grant_of first ≡ Some (grant c due)) × (second ≡ types.Overdue day)
     × (is_same_day day due ≡ true)
 
--- Only a Shipped reopens a Recall at a requester, and only its grant an Overdue. Nothing reopens another plain APDU.
+-- An APDU that names no conditions is plain. At a requester only a Shipped reopens a Recall, and only a grant of the
+-- Overdue's date an Overdue. Nothing reopens another plain APDU.
 plain_reopens : (first second : Body) → names_conditions second ≡ false
     → (is_shipped first ≡ true → is_recall second ≡ true → ⊥) → (GrantsOverdue first second → ⊥)
     → notices.reopens first second ≡ false

@@ -46,8 +46,9 @@ use Rattle.ill_world.proofs.Claims.{not_supplied_faces, shipped_by, ships_before
 use Rattle.ill_world.proofs.Agreements.{says_true, cancel_is_open, cancels_with, tells_cancel, tells_refused, at_most_one}
 use Rattle.ill_world.proofs.Arrivals.{not_none}
 
--- Neither record would be changed now by a message that the other has issued: `has_heard` holds. The requester has it
--- of all plain messages, and of the last one. The responder can answer a Conditional-Reply no.
+-- A message that names no conditions is plain. At the requester `has_heard` holds of each plain message of the
+-- responder, and of the last message. At the responder it holds of each message of the requester. An undecided
+-- responder has a number left.
 pub record HaveHeard (x : RequesterRecord) (y : ResponderRecord) : Type 0 where
   pub requester : (n : ℕ) (a : Apdu) → message y.issued n ≡ Some a → names_conditions a.body ≡ false
       → notices.has_heard x a.number a.body ≡ true
@@ -167,7 +168,7 @@ record StatesFit (s t : State) : Type 0 where
       ≡ is_among (states.Overdue ∷ states.RenewOverdue ∷ []) t
   conditions : is_among (states.Conditional ∷ []) t ≡ true → is_among (states.Conditional ∷ []) s ≡ true
 
--- ---- kinds of messages
+-- ---- kinds of messages, and the facts that they attest
 
 -- A message that ends the request without the item names no conditions.
 unsupplied_is_plain : (body : Body) → is_unsupplied body ≡ true → names_conditions body ≡ false
@@ -290,12 +291,12 @@ cancel_left : (t : State) → is_among (states.Pending ∷ states.Received ∷ s
 cancel_left states.CancelPending role idle cancelled unsupplied shipped decided = refl
 cancel_left t role idle cancelled unsupplied shipped decided = search rules
 
--- An undecided responder has answered each Cancel.
+-- An undecided state is none of those in which the last Cancel may have no answer.
 open_answers : (t : State) → is_among records.undecided t ≡ true → is_among (records.unanswered MayCancel) t ≡ false
 open_answers states.CancelPending is = search rules
 open_answers t is = search rules
 
--- A responder in SHIPPED or OVERDUE has answered each Renew.
+-- SHIPPED and OVERDUE are none of the states in which the last Renew may have no answer.
 settled_answers : (t : State) → is_among (states.Shipped ∷ states.Overdue ∷ []) t ≡ true
     → is_among (records.unanswered MayRenew) t ≡ false
 settled_answers states.Shipped is = refl
@@ -377,7 +378,7 @@ open_left states.Conditional states.InProcess is faced = refl
 open_left states.Conditional t is faced = search rules
 open_left s t is faced = search rules
 
--- ---- numbers
+-- ---- options, numbers and conditions, and further facts of states
 
 -- An option that is not empty has a value.
 pub some_of : {X : Type 0} (o : Option X) → is_some o ≡ true → (v : X) × (o ≡ Some v)
@@ -454,7 +455,7 @@ waits_outstanding y n is same at = search rules
 fits_face : (s t : State) → StatesFit s t → is_among (faced_in s) t ≡ true
 fits_face s t fit = search rules
 
--- ---- due dates
+-- ---- due dates, and states that are overdue
 
 -- Two days of which neither is before the other are equal.
 same_date : (d e : Date) → is_before d e ≡ false → is_before e d ≡ false → d ≡ e
@@ -498,7 +499,8 @@ attests_overdue n due body attests = search rules
 first_false : (a b : Bool) → (a && b) ≡ false → b ≡ true → a ≡ false
 first_false a b none is = search rules
 
--- If `has_heard` holds of an Overdue for its due date, the requester is not in time.
+-- If `has_heard` holds of an Overdue for the requester's due date, the requester is in no state of
+-- `states_before_overdue`.
 overdue_heard : (x : RequesterRecord) (n : ℕ) (due : Date) (body : Body) → is_overdue_of due body ≡ true
     → x.due ≡ Some due → notices.has_heard x n body ≡ true → is_among states_before_overdue x.state ≡ false
 overdue_heard x n due (types.Overdue day) is its heard =
@@ -527,7 +529,8 @@ late_is_out states.Overdue is = (refl, refl, refl)
 late_is_out states.RenewOverdue is = (refl, refl, refl)
 late_is_out t is = search rules
 
--- A responder in OVERDUE or later, and in none of RECALL, RETURNED, CHECKED-IN, is overdue.
+-- A responder in OVERDUE, RENEW/OVERDUE, RECALL, RETURNED or CHECKED-IN, and in none of the last three, is overdue: it
+-- is in OVERDUE or RENEW/OVERDUE.
 overdue_left : (t : State)
     → is_among (states.Overdue ∷ states.RenewOverdue ∷ states.Recall ∷ states.Returned ∷ states.CheckedIn ∷ []) t ≡ true
     → is_among (states.Recall ∷ []) t ≡ false
@@ -536,7 +539,7 @@ overdue_left states.Overdue may recalled returned = refl
 overdue_left states.RenewOverdue may recalled returned = refl
 overdue_left t may recalled returned = search rules
 
--- A requester in SHIPPED or later that is not in time, and is in neither RECALL nor RETURNED, is overdue.
+-- A requester in SHIPPED or later, and in no state of `states_before_overdue`, nor in RECALL or RETURNED, is overdue.
 overdue_at : (s : State) → is_among later s ≡ true → is_among (states.Recall ∷ []) s ≡ false
     → is_among (states.Returned ∷ []) s ≡ false → is_among states_before_overdue s ≡ false
     → is_among (states.NotReceivedOverdue ∷ states.Overdue ∷ states.RenewOverdue ∷ []) s ≡ true
@@ -650,7 +653,7 @@ module _ (txn : Qualifiers) (x : RequesterRecord) (y : ResponderRecord) (respond
       subst (λ k. k ≤ n) asked.3 (not_above_last says x.txn x.issued at.0 n asked.0 borrower.rules.numbered at.1
       (is_so asked.0.body asked.2) own)
 
-  -- If the responder has no unanswered question, it has issued an answer to the last one.
+  -- If the responder's state is none in which the last question may have no answer, the responder has answered it.
   answer_to : (question : Question) (n : ℕ) → responder.last_asked question y ≡ Some n
       → is_among (records.unanswered question) y.state ≡ false
       → Finds (λ a. answered_number question a.body) y.issued n
@@ -848,7 +851,7 @@ module _ (txn : Qualifiers) (x : RequesterRecord) (y : ResponderRecord) (respond
 
   -- ---- due dates
 
-  -- A Renew-Answer of the responder grants no date after the due date of the requester.
+  -- If the requester is in neither RECALL nor RETURNED, no Renew-Answer grants a date after its due date.
   answer_not_after : (c : ℕ) (due granted : Date) (j : ℕ) (b : Apdu) → x.due ≡ Some due
       → is_among (states.Recall ∷ states.Returned ∷ []) x.state ≡ false → message y.issued j ≡ Some b
       → b.body ≡ types.RenewAnswer c (Some granted) → is_before due granted ≡ false
@@ -871,7 +874,7 @@ module _ (txn : Qualifiers) (x : RequesterRecord) (y : ResponderRecord) (respond
       attests_not_after known.0.number c due granted known.0.body (ap (λ (o : Apdu). o.body) (same_apdu known.0 b same) ∙ body)
       known.2
 
-  -- No granted date is after the due date of the requester.
+  -- If the requester is in neither RECALL nor RETURNED, no granted date is after its due date.
   last_not_after : (due granted : Date) (i j : ℕ) (a b : Apdu) → x.due ≡ Some due
       → is_among (states.Recall ∷ states.Returned ∷ []) x.state ≡ false → message y.issued i ≡ Some a
       → grant_in a.body ≡ Some due → message y.issued j ≡ Some b → grant_in b.body ≡ Some granted → is_before granted due ≡ false

@@ -1,4 +1,4 @@
--- Each event of desks is an event of one transaction, or leaves its projection unchanged.
+-- For each transaction an event of desks is one of its events, or leaves the projection to it unchanged.
 use Rattle.std.proofs.Common.{rules, ◌≡◌, ◌⊎◌, inl, inr, ℕ, nat_le, nat_lt, length, Bool, true, false, cond, if◌then◌else◌, List}
 use Rattle.std.proofs.Common.{Option, Some, None, Result, Ok, Err, refl, ap, sym, subst, ◌∙◌}
 use Rattle.std.specs.Prelude.{option_map}
@@ -132,7 +132,8 @@ abbrev Seen : (Qualifiers → Outcome × Party) → Qualifiers → DeskParty →
 Seen expected of p txn after = IsSeenAs (if_reached after.0 (is_same_txn txn of)) (expected txn) (party_for txn p) after.0
     (party_for txn after.1)
 
--- If `of` has the expected party, and each other transaction its old one, `Seen` holds in all transactions.
+-- If `of` has the expected outcome and party, and each other transaction its old party, `Seen` holds in all
+-- transactions.
 single : (expected : Qualifiers → Outcome × Party) (of : Qualifiers) (p new : DeskParty) (outcome : Outcome)
     → expected of ≡ (outcome, party_for of new)
     → ((txn : Qualifiers) → is_same_txn txn of ≡ false → party_for txn new ≡ party_for txn p) → (txn : Qualifiers)
@@ -362,7 +363,7 @@ desk_sends_seen p of n (Some held) e txn =
 
 -- ---- events of a whole desk
 
--- After a desk saves, it shows the party after its save.
+-- After a save a desk shows its earlier party as `saves` changes it.
 saves_seen : (p : DeskParty) (txn : Qualifiers) → party_for txn (desk_saves p) ≡ saves (party_for txn p)
 saves_seen p txn =
     ap (λ (h : DeskEntry). record (party_for txn p)
@@ -370,13 +371,13 @@ saves_seen p txn =
     ∙ ap (λ side. record (party_for txn p) { live = side; landed = side; released = length (issued_of side) })
     (side_of_held txn p.live)
 
--- After a save of a desk fails, it shows the party after its failed save.
+-- After a failed save a desk shows its earlier party as `fails_to_save` changes it.
 fault_of_save : (p : DeskParty) (txn : Qualifiers) (landed : Bool)
     → party_for txn (desk_fails_to_save p landed) ≡ fails_to_save (party_for txn p) landed
 fault_of_save p txn true = ap (λ side. record (party_for txn p) { landed = side }) (side_of_held txn p.live)
 fault_of_save p txn false = refl
 
--- After a desk restarts, it shows the party after its restart.
+-- After a restart a desk shows its earlier party as `restarts` changes it.
 pub restarts_seen : (p : DeskParty) (txn : Qualifiers) → party_for txn (desk_restarts p) ≡ restarts (party_for txn p)
 restarts_seen p txn = ap (λ (h : DeskEntry). record (party_for txn p) { live = h.side; released = h.released })
     (whole_for txn p.landed)
@@ -422,7 +423,7 @@ delivers_seen grows rows role p partner_sent keeps to of n (Some a) e txn =
     (λ own. own_refused (held_for a.txn p.live).side a (held_txn a.txn p.live)
     (ap (λ r. is_own r a.body) (keeps.role_held a.txn ∙ sym keeps.role_is) ∙ own)) txn)
 
--- A role is `is_same_role` as itself.
+-- `is_same_role` is true of a role and itself.
 same_role : (role : Role) → is_same_role role role ≡ true
 same_role who.Requester = refl
 same_role who.Responder = refl

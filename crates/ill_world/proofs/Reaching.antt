@@ -1,4 +1,5 @@
--- Each event of desks reaches a side that is held, or one that it begins.
+-- Each event of desks reaches the side that is held, or a side that it begins. If it may begin none, or there is no
+-- room, its outcome is NoSuchTransaction or DeskFull.
 use Rattle.std.proofs.Common.{◌≡◌, ℕ, nat_lt, length, Bool, true, false, not, if◌then◌else◌, Option, Some, None, Result, Ok, Err}
 use Rattle.std.proofs.Common.{refl, sym, ap, ◌∙◌, subst}
 use Rattle.ill_values.specs.TxnId.{Qualifiers}
@@ -47,7 +48,7 @@ decided_plainly : (p : DeskParty) (held : DeskEntry) (result : Result Side Refus
 decided_plainly p held (Ok new) = tt
 decided_plainly p held (Err refusal) = tt
 
--- An action of the desk's role reaches the side that is held, or one that it begins.
+-- `ReachesAt` holds of an action of the desk's own role.
 decides_reaches : (p : DeskParty) (txn : Qualifiers) (action : Action)
     → is_same_role p.live.role (role_for action) ≡ true
     → ReachesAt (begins action) p txn (desk_decides p (desk_acts p.live txn action)).0
@@ -72,7 +73,7 @@ took_plainly : (live : DeskContents) (held : DeskEntry) (answer : Result _ Refus
 took_plainly live held (Ok _) new = tt
 took_plainly live held (Err refusal) new = tt
 
--- A message of the other role reaches the side that is held, or one that it begins.
+-- `ReachesAt` holds of the delivery of a message of the other role.
 takes_reaches : (p : DeskParty) (a : Apdu) → is_own p.live.role a.body ≡ false
     → ReachesAt (is_ill_request a.body) p a.txn (desk_receives p (Some a)).0
 takes_reaches p a others =
@@ -92,7 +93,7 @@ sent_by_other w who.Responder stands txn n a sent =
     let requester = (stands.each txn).requester in
     ap not (requesters_own txn _ _ n a requester.landed (requester.saved.landed n a sent))
 
--- A delivery of a sent message reaches the side that is held, or one that it begins.
+-- `ReachesAt` holds of the delivery of a message that the other desk has sent.
 delivers_reaches : (w : DeskParties) (role : Role) → DesksInvariant w
     → (txn : Qualifiers) (n : ℕ) (a : Apdu) (found : Option Apdu) → found ≡ Some a
     → sent_message (sent_for txn (party w (other role)).sent) n ≡ Some a

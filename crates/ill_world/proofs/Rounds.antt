@@ -26,7 +26,7 @@ takes_all side (a ∷ apdus) = takes_all (takes side a).1 apdus
 
 -- ---- one message
 
--- If `a` is put at place i of a list, the list has `a` there.
+-- If a list has a place i, and `a` is put at it, place i has `a`.
 pub put_here : (slots : List (Option Apdu)) (i : ℕ) (a : Apdu) → i < length slots
     → option_flatten (slice_get (slice_set slots i (Some a)) i) ≡ Some a
 put_here [] i a within = absurd (omega (arith, within))
@@ -83,7 +83,7 @@ passes who.Responder w n a at free there =
 
 -- ---- all messages of a party
 
--- A party has issued `apdus`, and all are released. They are at most 255.
+-- A party has issued `apdus`, and all are released. They are at most 255, and `p.sent` has a place for each number.
 record MaySend (p : Party) (apdus : List Apdu) : Type 0 where
   issued : issued_of p.live ≡ apdus
   released : length apdus ≤ p.released
@@ -158,7 +158,8 @@ pub record Rounds (w new : Parties) : Type 0 where
   pub responder : new.responder.live ≡ takes_all w.responder.live (issued_of w.requester.live)
   pub requester : new.requester.live ≡ takes_all w.requester.live (issued_of new.responder.live)
 
--- If each party has issued at most 255 messages when it saves, `Rounds` holds of a round.
+-- `Rounds` holds of a round if each party has issued at most 255 messages when it saves. Each must have 255 places for
+-- sent messages.
 pub round_passes : (w : Parties)
     → let between = run_of w (half_of who.Requester w) in length (issued_of w.requester.live) ≤ 255
     → length w.requester.sent ≡ 255 → length (issued_of between.responder.live) ≤ 255
@@ -177,8 +178,8 @@ round_passes w few places few_more places_more =
 
 -- ---- the events of a half, as a list that grows
 
--- A loop appends the Send and the Deliver of message n to `before`. If `before` lacked the events of `size` messages,
--- the list now lacks those of `left`.
+-- A loop appends the Send and the Deliver of message n to `before`. Of the list `all`, `before` lacked the events of
+-- `size` messages. The longer list lacks those of the `left` later messages.
 pub passes_grow : (of partner : Role) (n number size left : ℕ) (before sent delivered all : List Event)
     → partner ≡ other of → number ≡ n → size ≡ suc left → sent ≡ before ++ events.Send of number ∷ []
     → delivered ≡ sent ++ events.Deliver partner number ∷ [] → before ++ sends_and_delivers of n size ≡ all
@@ -223,7 +224,8 @@ module _ {W E O M : Type 0} (happening : W → E → O × W) where
     is ∙ ap (λ w. run_by happening w some) led ∙ sym (run_both happening old first some),
   )
 
-  -- If `P` holds of the world after events, and memory did not run out, it holds after they were performed.
+  -- If `P` holds of the world after `events`, it holds of `new` after they were performed. Memory must not have run
+  -- out.
   pub performed : (P : W → Type 0) (events : List E) (old new : W) (result : Result (Unit {0}) M)
       → Performs (run_by happening) events old result new → P (run_by happening old events) → OnOk result (P new)
   performed P events old new (Ok done) performs there = subst P (sym performs) there

@@ -33,7 +33,7 @@ use Rattle.ill_world.proofs.Shelves.{BothLack, lack_elsewhere, group_in_order}
 -- ---- events that have their home at a group
 
 module _ (group : List ℕ) where
-  -- Each of the events, given with `group`, has its home there.
+  -- Each of the events, given with `group`, has its home at `group`.
   abbrev pub AllAt : List DeskEvent → Type 0
   AllAt [] = Unit {0}
   AllAt (event ∷ more) = (group_of group event ≡ group) × AllAt more
@@ -51,7 +51,7 @@ module _ (group : List ℕ) where
   both_at [] second at second_at = second_at
   both_at (event ∷ first) second at second_at = (at.0, both_at first second at.1 second_at)
 
-  -- An event in a transaction of the group has its home there.
+  -- An event in a transaction of the group has its home at the group.
   event_at : (txn : Qualifiers) (event : Event) → txn.group ≡ group → group_of group (in_txn txn event) ≡ group
   event_at txn (events.Wish wish) is = is
   event_at txn (events.Deed deed today) is = is
@@ -62,7 +62,7 @@ module _ (group : List ℕ) where
   event_at txn (events.Noise role bytes) is = refl
   event_at txn (events.Restart role) is = refl
 
-  -- Events in a transaction of the group have their home there.
+  -- Events in a transaction of the group have their home at the group.
   txn_at : (txn : Qualifiers) (all : List Event) → txn.group ≡ group → AllAt (map (in_txn txn) all)
   txn_at txn [] is = tt
   txn_at txn (event ∷ more) is = (event_at txn event is, txn_at txn more is)
@@ -74,7 +74,7 @@ module _ (group : List ℕ) where
   AllOf [] = Unit {0}
   AllOf (side ∷ more) = ((txn_of side).group ≡ group) × AllOf more
 
-  -- The events that pass on the messages of sides of the group have their home there.
+  -- The events that pass on the messages of sides of the group have their home at the group.
   passes_at : (role : Role) (all : List Side) → AllOf all → AllAt (flat_map (passes_side role) all)
   passes_at role [] of = tt
   passes_at role (side ∷ more) of =
@@ -134,7 +134,7 @@ module _ (group : List ℕ) where
             (wanted_of wants all (held_of w.responder.live.held (λ txn apart. (lack txn apart).1.0))),
       )
 
-  -- All events of a night of the desks of a group, given with the group, have their home there.
+  -- All events of a night of the desks of `group`, given with `group`, have their home at `group`.
   pub night_at : RowsGrow → EachStands → DesksInvariant first_desks → (all : List ShelfEvent)
       → let night = desk_night_of (desks_run first_desks (events_at group all)) in events_at group (in_group group night) ≡ night
   night_at grows after first all =

@@ -55,7 +55,8 @@ group_in_order group (e ∷ before) after =
 
 -- ---- runs
 
--- If the home `at` of an event is `group`, the run of `group` begins with the event. Otherwise it goes on without it.
+-- If the home `at` of an event is `group`, the desks of `group` run the event, and then `more`. Otherwise they run
+-- `more` alone.
 one_on : (w : Shelves) (group at : List ℕ) (event : DeskEvent) (more : List DeskEvent) (same : Bool) → bytes_eq group at ≡ same
     → desks_run (if same then (desks_happen (w at) event).1 else w group) more
     ≡ desks_run (w group) (if same then event ∷ more else more)
@@ -230,7 +231,7 @@ whole_idle txn (events.Noise role bytes) names is = absurd (true≢false (sym is
 whole_idle txn (events.Restart who.Requester) names is = refl
 whole_idle txn (events.Restart who.Responder) names is = refl
 
--- If the expected sides of an event are idle, idle sides stay idle at it.
+-- The old world is `idle`, and so is the expected world if the event is one of the transaction. Then `new` is `idle`.
 seen_idle : (own : Bool) (expected : Outcome × Parties) (old new idle : Parties) (outcome : DeskOutcome)
     → IsSeenAs (if_reached outcome own) expected old outcome new → (own ≡ true → expected.1 ≡ idle) → old ≡ idle
     → new ≡ idle

@@ -32,7 +32,7 @@ number_left issued few =
 
 -- ---- the requester
 
--- If a wish has a transition, and a number is left, it is done.
+-- If a wish has a transition, and a number is left, the wish is done.
 wish_done : (x : RequesterRecord) (t : Transition) → length x.issued < 255 → IsOk (acts_by x (Ok t) (next_number x.issued))
 wish_done x t few = subst (λ (r : Result ℕ Refusal). IsOk (acts_by x (Ok t) r)) (sym (number_left x.issued few)) refl
 
@@ -103,7 +103,7 @@ can_ask x turn few = asks_in x x.state turn few
 
 -- ---- the responder
 
--- If a deed has a transition, and a number is left, it is done.
+-- If a deed has a transition, and a number is left, the deed is done.
 deed_done : (y : ResponderRecord) (t : responder.Transition) → length y.issued < 255
     → IsOk (responder.acts_by y (Ok t) (next_number y.issued))
 deed_done y t few =

@@ -14,13 +14,13 @@ use Rattle.ill_world.specs.PartyRefinement.{GivesOutcome}
 use Rattle.ill_world.specs.Invariant.{Invariant}
 use Rattle.ill_world.specs.Agreement.{KeepsDates}
 
--- The first party of an idle side of `txn` is a party of the first world.
+-- The transaction `t` is `txn`. Then the first party of an idle side of `t` is a party of the first world.
 first_side : (role : Role) (txn t : Qualifiers) (side : Side) (p : Party) → t ≡ txn → side ≡ idle_side role t
     → p ≡ first_party side → p ≡ party (first_world txn) role
 first_side who.Requester txn t side p copied idle new = new ∙ ap first_party (idle ∙ ap (idle_side who.Requester) copied)
 first_side who.Responder txn t side p copied idle new = new ∙ ap first_party (idle ∙ ap (idle_side who.Responder) copied)
 
--- The first parties of both idle sides of `txn` are its first world.
+-- If `t` and `u` are `txn`, the first parties of their idle sides are the first world of `txn`.
 pub first_is : (txn t u : Qualifiers) (x y : Side) (p q : Party) → t ≡ txn → u ≡ txn → x ≡ idle_side who.Requester t
     → y ≡ idle_side who.Responder u
     → p ≡ first_party x → q ≡ first_party y → ◌≡◌ {A = Parties} (record { requester = p; responder = q }) (first_world txn)
@@ -36,7 +36,8 @@ stays_whole : {P : Type 0} (w : TwoOf P) (of : Role) → with_party w of (party 
 stays_whole w who.Requester = refl
 stays_whole w who.Responder = refl
 
--- If a call gives the expected outcome and party, it gives the expected outcome and world.
+-- If a call gives the expected outcome and the expected member `of`, it gives the expected outcome and world. The event
+-- happens at the role `at`, which is `of`.
 pub both_give : {M O P : Type 0} (happening : P → P → O × P) (w : TwoOf P) (at of : Role) (result : Result O M) (new : P)
     → at ≡ of
     → GivesOutcome (happening (party w of) (party w (other of))) (party w of) result new
@@ -45,7 +46,7 @@ both_give {O = O} {P = P} happening w at of (Ok outcome) new is gives =
     ap (λ o. happens_at w o happening) is ∙ ap (λ (after : O × P). (after.0, with_party w of after.1)) gives
 both_give happening w at of (Err memory) new is same = ap (with_party w of) same ∙ stays_whole w of
 
--- If a call gives the outcome of an event and its party, it gives the outcome and the world.
+-- If a call gives the outcome of an event and the party `of` after it, it gives the world too.
 pub world_gives : {M : Type 0} → (w : Parties) (event : Event) (of : Role) (result : Result Outcome M) (new : Party)
     → who_of event ≡ of
     → GivesOutcome (happens_to (party w of) (party w (other of)).sent event) (party w of) result new
@@ -59,7 +60,7 @@ pub given_keeps : {M O P : Type 0} (F : P → Type 0) (expected : O × P) (old n
 given_keeps {O = O} {P = P} F expected old new (Ok outcome) gives before after = subst (λ (x : O × P). F x.1) gives after
 given_keeps F expected old new (Err memory) same before after = subst F (sym same) before
 
--- If each event keeps the invariant, so does each call.
+-- If each event keeps the invariant, a call that gives an event, or runs out of memory, keeps it too.
 pub still_stands : {M : Type 0} → (txn : Qualifiers) (w new : Parties) (event : Event) (result : Result Outcome M)
     → ((w : Parties) (event : Event) → Invariant txn w → Invariant txn (happens w event).1)
     → GivesOutcome (happens w event) w result new → Invariant txn w → Invariant txn new
@@ -71,7 +72,7 @@ pub same_dates : (w : Parties) (event : Event) → KeepsDates w event w
 same_dates w (events.Restart who.Requester) = (tt, inr (inl refl))
 same_dates w event = (inr (inl refl), inr (inl refl))
 
--- If an event keeps the requester's due dates, so does its call.
+-- If an event keeps the requester's due dates, a call that gives this event keeps them too.
 pub dates_of : {M : Type 0} → (w new : Parties) (event : Event) (result : Result Outcome M)
     → KeepsDates w event (happens w event).1 → GivesOutcome (happens w event) w result new → KeepsDates w event new
 dates_of w new event result keeps gives =

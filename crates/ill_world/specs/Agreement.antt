@@ -71,7 +71,9 @@ AcceptedBy w (sides.Requester x) = ⊥
 abbrev pub IsNotLater : RequesterRecord → ResponderRecord → Type 0
 IsNotLater x y = (d : Date) → x.due ≡ Some d → (e : Date) × (due_of y ≡ Some e) × (is_before e d ≡ false)
 
--- Each record's claims on the other side are right: on a return, a cancellation, a receipt and a check-in.
+-- The claims of `x` and `y` on each other are right. If `y` is in RETURNED or CHECKED-IN, `x` is in RETURNED. If `y` is
+-- in CANCELLED, `x` is in CANCEL-PENDING or CANCELLED. If `y` has the received mark, `x` has issued a Received. If `x`
+-- has the checked-in mark, `y` is in CHECKED-IN.
 pub record SaysTrue (x : RequesterRecord) (y : ResponderRecord) : Type 0 where
   pub returned : is_among (states.Returned ∷ states.CheckedIn ∷ []) y.state ≡ true → x.state ≡ states.Returned
   pub cancelled : y.state ≡ states.Cancelled →
@@ -97,19 +99,21 @@ IsAgreeingRun w events = (n : ℕ) → Agrees (run_of w (take n events))
 
 -- ---- events
 
--- If the requester has a live due date, an event other than its restart keeps or raises it.
+-- The requester is `old` before the event, and `new` after it. If `old` has a live due date, an event other than the
+-- requester's restart keeps or raises it.
 abbrev pub KeepsLiveDate : Event → Party → Party → Type 0
 KeepsLiveDate (Restart Requester) old new = Unit {0}
 KeepsLiveDate event old new = KeepsDue (due_date_of old.live) (due_date_of new.live)
 
--- If the requester has a landed due date, an event keeps or raises it. It keeps or raises the live one too, unless it
--- is the requester's restart.
+-- The event leads from `old` to `new`. If the requester has a landed due date, the event keeps or raises it. Unless the
+-- event is the requester's restart, it keeps or raises the live due date too.
 abbrev pub KeepsDates : Parties → Event → Parties → Type 0
 KeepsDates old event new =
     KeepsLiveDate event old.requester new.requester
     × KeepsDue (due_date_of old.requester.landed) (due_date_of new.requester.landed)
 
--- Returns the states to which an APDU that ends the request leads a requester.
+-- Returns the states to which an APDU that ends the request leads a requester: SHIPPED and later after a Shipped,
+-- CANCELLED after a Cancel-Reply, and NOT-SUPPLIED after any other.
 abbrev pub settled_by : Body → List State
 settled_by (types.Shipped due) = requester.later
 settled_by (types.CancelReply c is_yes) = states.Cancelled ∷ []
@@ -120,8 +124,9 @@ abbrev pub Settles : List State → Outcome → Side → Type 0
 Settles among outcome side =
     ((outcome ≡ Answered Taken) ⊎ (outcome ≡ Answered Repeat)) × (is_among among (state_of side) ≡ true)
 
--- A delivery of a message that ends the request settles the requester in the states of `settled_by`. A delivery of a
--- Returned settles the responder in RETURNED or CHECKED-IN.
+-- The delivery of a sent message that ends the request is Taken or a Repeat. After it the requester is in one of the
+-- states of this end (`settled_by`). The delivery of a sent Returned is Taken or a Repeat. After it the responder is in
+-- RETURNED or CHECKED-IN.
 abbrev pub Arrives : Parties → Event → Type 0
 Arrives w (Deliver Requester n) =
     (a : Apdu) → sent_message w.responder.sent n ≡ Some a → is_end a.body ≡ true →

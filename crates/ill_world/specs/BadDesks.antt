@@ -55,8 +55,8 @@ MissesHeld w event =
 abbrev pub desk_of : DeskParties → DeskEvent → DeskParty
 desk_of w event = party w (who_of (plain event))
 
--- The event names `txn`, and the Bool tells if it may begin a side. Only a Request may, and an ILL-Request that was
--- sent.
+-- The event names `txn`, and `may` is true if the event may begin a side. Only a Request may, and the delivery of an
+-- ILL-Request that was sent.
 pub data MayBegin (w : DeskParties) (txn : Qualifiers) (may : Bool) : DeskEvent → Type 0 where
   by_wish : (wish : RequesterWish) → begins (actions.Wish wish) ≡ may → MayBegin w txn may (Wish txn wish)
   by_deed : (deed : ResponderDeed) (today : Date) → may ≡ false → MayBegin w txn may (Deed txn deed today)
@@ -64,7 +64,8 @@ pub data MayBegin (w : DeskParties) (txn : Qualifiers) (may : Bool) : DeskEvent 
   by_delivery : (who : Role) (n : ℕ) (a : Apdu) → sent_message (sent_for txn (party w (other who)).sent) n ≡ Some a →
       is_ill_request a.body ≡ may → MayBegin w txn may (Deliver who txn n)
 
--- The event has the wrong outcome where no side is held. Each case gives one reason.
+-- The event has a wrong outcome. No side of its transaction is held, or the event is one of a whole desk. Each case
+-- gives one reason.
 pub data MissesNew (w : DeskParties) (event : DeskEvent) : Type 0 where
   -- It may begin a side of a transaction, and there is room. But it reaches none.
   begins_none : (txn : Qualifiers) → MayBegin w txn true event →
@@ -99,9 +100,9 @@ pub data Hides (p : DeskParty) (txn : Qualifiers) (shown : Party) : Type 0 where
   hides_sent : (sending : Sending) → found_by txn_sent txn p.sent ≡ Some sending → (shown.sent ≡ sending.sent → ⊥) →
       Hides p txn shown
 
--- The event of desks is not seen in `txn` as the event that it is there.
+-- The event of desks is not seen in `txn` as `Projects` says.
 pub data IsMisseen (txn : Qualifiers) (w : DeskParties) (event : DeskEvent) : Type 0 where
-  -- It is an event of `txn`, but with another outcome than there, or another world after it.
+  -- It is an event of `txn`. But its outcome, or the projection after it, is not that of the event of two parties.
   other_outcome : is_event_of txn w event ≡ true →
       ((desks_happen w event).0 ≡ Plain (happens (project txn w) (plain event)).0 → ⊥) → IsMisseen txn w event
   other_world : is_event_of txn w event ≡ true →
@@ -120,13 +121,13 @@ pub data EndsIn : Body → List State → Type 0 where
   refused : (answer : AnswerResult) → is_final answer ≡ true →
       EndsIn (bodies.IllAnswer answer) (states.NotSupplied ∷ [])
 
--- The delivery does not reach its transaction, or `IsUnheeded` holds there.
+-- The delivery does not reach its transaction, or `IsUnheeded` holds of its outcome and the side.
 abbrev pub IsUnheededAt : List State → DeskOutcome → Side → Type 0
 IsUnheededAt among (Plain outcome) side = IsUnheeded among outcome side
 IsUnheededAt among other side = Unit {0}
 
--- A message sent in a transaction arrives in vain. It ends the request and reaches the requester's desk, or is a
--- Returned and reaches the responder's.
+-- A message sent in a transaction arrives in vain: `IsUnheededAt` holds after its delivery. The message ends the
+-- request and comes to the requester's desk, or is a Returned and comes to the responder's.
 pub data ArrivesInVainAt (w : DeskParties) : DeskEvent → Type 0 where
   end_in_vain : (txn : Qualifiers) (n : ℕ) (a : Apdu) (among : List State) →
       sent_message (sent_for txn w.responder.sent) n ≡ Some a → EndsIn a.body among →

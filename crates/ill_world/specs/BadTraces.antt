@@ -10,16 +10,17 @@ pub data Leaves (written trace : List ℕ) : Type 0 where
   differs : (common rest more : List ℕ) (byte other : ℕ) → written ≡ common ++ byte ∷ rest →
       trace ≡ common ++ other ∷ more → (byte ≡ other → ⊥) → Leaves written trace
 
--- No prefix of `events` has this result, as a trace or as the world after it.
+-- `result` is `result_of` no prefix of `events`. `result_of` gives the trace of events, or the world after them.
 abbrev pub IsOfNoPrefix : {E X : Type 0} → (List E → X) → List E → X → Type 0
 IsOfNoPrefix {E = E} result_of events result =
     (prefix more : List E) → events ≡ prefix ++ more → result ≡ result_of prefix → ⊥
 
--- The result of a simulation of `text` is wrong. It has left these bytes of the text in the reader, and has written
--- others. `script` reads a whole text, and `script_read` one at whose end the reader failed.
+-- The result of a simulation of `text` is wrong. The simulation has left the bytes `left` of the text in the reader,
+-- and has written the bytes `written`. `script` gives the reading of a whole text, and `script_read` that of a text at
+-- whose end the reader failed.
 pub data Misreports {E : Type 0} (trace_of : List E → List ℕ) (script script_read : List ℕ → Said E) (text left written : List ℕ)
     : Result ℕ SimFault → Type 0 where
-  -- It tells a count of events. But bytes are left, a line is bad, or the count or the trace is another.
+  -- The result is a count of events. But bytes are left, a line is bad, or the count or the trace is another.
   stops_early : (count : ℕ) → (left ≡ [] → ⊥) → Misreports trace_of script script_read text left written (Ok count)
   passes_over : (count line : ℕ) → (script text).bad ≡ Some line →
       Misreports trace_of script script_read text left written (Ok count)
@@ -27,12 +28,12 @@ pub data Misreports {E : Type 0} (trace_of : List E → List ℕ) (script script
       Misreports trace_of script script_read text left written (Ok count)
   miswrites : (count : ℕ) → (written ≡ trace_of (script text).events → ⊥) →
       Misreports trace_of script script_read text left written (Ok count)
-  -- It names a bad line. But the first bad line is another, or the trace is not that of the events before it.
+  -- The result names a bad line. But the first bad line is another, or the trace is not that of the events before it.
   misnames : (line : ℕ) → ((script text).bad ≡ Some line → ⊥) →
       Misreports trace_of script script_read text left written (Err (Script line))
   miswrites_before : (line : ℕ) → (written ≡ trace_of (script text).events → ⊥) →
       Misreports trace_of script script_read text left written (Err (Script line))
-  -- It tells that the reader failed. But no text before the bytes left has this trace, and no bad line.
+  -- The result says that the reader failed. But no text before the bytes `left` has this trace and no bad line.
   misreads : ((read : List ℕ) → text ≡ read ++ left → (script_read read).bad ≡ None →
       written ≡ trace_of (script_read read).events → ⊥) →
       Misreports trace_of script script_read text left written (Err Read)

@@ -123,8 +123,8 @@ abbrev pub IsUnheeded : List State → Outcome → Side → Type 0
 IsUnheeded among outcome side =
     ((outcome ≡ Answered Taken → ⊥) × (outcome ≡ Answered Repeat → ⊥)) ⊎ (is_among among (state_of side) ≡ false)
 
--- A sent message arrives in vain. It ends the request and reaches the requester, or is a Returned and reaches the
--- responder.
+-- A sent message arrives in vain: `IsUnheeded` holds after its delivery. The message ends the request and comes to the
+-- requester, or is a Returned and comes to the responder.
 pub data ArrivesInVain (w : Parties) : Event → Type 0 where
   shipped_in_vain : (n : ℕ) (a : Apdu) (due : Date) → sent_message w.responder.sent n ≡ Some a →
       a.body ≡ Shipped due →

@@ -19,7 +19,8 @@ pub record OnlyLands (old new : Party) : Type 0 where
 abbrev pub OnlyLandedChanges : Parties → Parties → Type 0
 OnlyLandedChanges old new = OnlyLands old.requester new.requester × OnlyLands old.responder new.responder
 
--- The outcome allows the change from `old` to `new`. After a failed save `Landed` holds of `old` and `new`.
+-- The outcome allows the change from `old` to `new`. Done, Saved, Sent, Restarted and Answered Taken allow any change.
+-- After a failed save `Landed` holds of `old` and `new`. Each other outcome allows no change.
 abbrev pub MayChange : {P : Type 0} → (P → P → Type 0) → Outcome → P → P → Type 0
 MayChange Landed Done old new = Unit {0}
 MayChange Landed Saved old new = Unit {0}

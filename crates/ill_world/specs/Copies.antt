@@ -1,5 +1,5 @@
--- A copy of a landed record may be put back if it has every message that its party has sent. This is no event of a
--- script. It is this profile's own.
+-- A copy of a landed record may be put back if it has every message that its party has sent. No event of a script puts
+-- a copy back. These definitions are this profile's own.
 use Rattle.std.specs.Prelude.{◌≡◌, ℕ, List, [], ◌∷◌, ◌++◌, Some}
 use Rattle.ill_values.specs.declared.apdu.Apdu.{Apdu}
 use Rattle.ill_values.specs.declared.apdu.AnswerResult.TheVariants.{Unfilled}

@@ -29,20 +29,23 @@ abbrev pub IsPlain : DeskOutcome → Type 0
 IsPlain (Plain outcome) = Unit {0}
 IsPlain other = ⊥
 
--- If the side is held, the event reaches it. Else it reaches a new side, if it may begin one and there is room.
--- Otherwise the outcome is DeskFull or NoSuchTransaction.
+-- If a side is held, the event reaches this side: the outcome is plain. If none is held, the event reaches a new side
+-- if `may_begin` and `has_room` are true. If only `may_begin` is true, the outcome is DeskFull. If `may_begin` is
+-- false, it is NoSuchTransaction.
 abbrev pub Reaches : Bool → Bool → Option DeskEntry → DeskOutcome → Type 0
 Reaches may_begin has_room (Some held) outcome = IsPlain outcome
 Reaches true true None outcome = IsPlain outcome
 Reaches true false None outcome = outcome ≡ DeskFull
 Reaches false has_room None outcome = outcome ≡ NoSuchTransaction
 
--- The event reaches a side of `txn` at desk `p`, which has room below 1,000 sides.
+-- `Reaches` holds of an event in `txn` at desk `p`. The desk has room if it holds fewer than 1,000 sides.
 abbrev pub ReachesAt : Bool → DeskParty → Qualifiers → DeskOutcome → Type 0
 ReachesAt may_begin p txn outcome =
     Reaches may_begin (nat_lt (length p.live.held) 1000) (found_by txn_held txn p.live.held) outcome
 
--- The event reaches a side. Only a Request, and an ILL-Request that was sent, may begin a new one.
+-- `ReachesAt` holds of an event that names a transaction, at its desk. Only a Request, and an ILL-Request that was
+-- sent, may begin a new side. The delivery of a message that was not sent reaches no side. An event of a whole desk has
+-- a plain outcome.
 abbrev pub ReachesSide : DeskParties → DeskEvent → Type 0
 ReachesSide w (Wish txn wish) =
     ReachesAt (begins (actions.Wish wish)) w.requester txn (desks_happen w (Wish txn wish)).0

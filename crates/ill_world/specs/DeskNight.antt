@@ -24,7 +24,8 @@ is_asked_by w side = asks (held_for (txn_of side) w.requester.live).side
 abbrev pub desk_asking_half : DeskParties → List DeskEvent
 desk_asking_half w = desk_half_if (wants_sending false) Requester w
 
--- Returns the half of the requester's desk in a night, and then that of the responder's.
+-- Returns the events of a night: the half of the requester's desk, and then that of the responder's. A side of the
+-- responder was asked if the requester's desk asks in its transaction.
 abbrev pub desk_night_of : DeskParties → List DeskEvent
 desk_night_of w =
     desk_asking_half w

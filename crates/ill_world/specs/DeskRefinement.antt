@@ -22,7 +22,8 @@ use Rattle.ill_world.specs.Desks.{Sending, DeskParty, fault_seen}
 abbrev pub sendings_of : List (Qualifiers × List (Option Apdu)) → List Sending
 sendings_of entries = map (λ e. record { txn = e.0; sent = e.1 }) entries
 
--- If there is a changed entry, it takes the place of the entry of `txn`. Else `a` comes back, and nothing changes.
+-- If there is a `changed` entry, `new` is `old` with it as the entry of `txn`, and `back` is `None`. Else `back` is
+-- `a`, and `new` is `old`.
 abbrev pub BecomesAmong : Qualifiers → List (Qualifiers × List (Option Apdu)) → Option (List (Option Apdu)) →
     Option Apdu → Apdu → List (Qualifiers × List (Option Apdu)) → Type 0
 BecomesAmong txn old None back a new = (back ≡ Some a) × (new ≡ old)
@@ -47,12 +48,13 @@ pub record IsReadyDesk (desk : DeskOf DeskContents MemoryStoreState) : Type 0 wh
 
 -- ---- answers
 
--- The fault is one of an action, or of a message that is exactly one APDU.
+-- The fault is a refusal of an action or of an APDU, or out of memory.
 abbrev pub CanBeSeen : DeskFault → Type 0
 CanBeSeen faults.OutOfMemory = Unit {0}
 CanBeSeen fault = is_refusal fault ≡ true
 
--- The result is the outcome of the fault. If memory runs out, there is no outcome.
+-- The result is the outcome of the fault, as `fault_seen` gives it. The result has no outcome exactly if the fault is
+-- out of memory.
 abbrev pub FaultSeen : {M : Type 0} → DeskFault → Result DeskOutcome M → Type 0
 FaultSeen faults.OutOfMemory (Err memory) = Unit {0}
 FaultSeen faults.OutOfMemory (Ok outcome) = ⊥

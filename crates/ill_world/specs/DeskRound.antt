@@ -24,6 +24,6 @@ saves_and_passes who sides = Save who ∷ flat_map (passes_side who) sides
 abbrev pub desk_half_of : Role → DeskParties → List DeskEvent
 desk_half_of who w = saves_and_passes who (sides_held (party w who).live).sides
 
--- Returns the half of the requester's desk, and then that of the responder's.
+-- Returns the events of a round: the half of the requester's desk, and then that of the responder's.
 abbrev pub desk_round_of : DeskParties → List DeskEvent
 desk_round_of w = desk_half_of Requester w ++ desk_half_of Responder (desks_run w (desk_half_of Requester w))

@@ -20,7 +20,7 @@ use Rattle.ill_world.specs.Safety.{Safe}
 use Rattle.ill_world.specs.Agreement.{Agrees, Settles, settled_by}
 use Rattle.ill_world.specs.Invariant.{Invariant}
 
--- ---- why
+-- ---- the invariant of two desks
 
 -- The desk has this role, and so have its landed sides.
 abbrev pub IsDeskOf : Role → DeskParty → Type 0
@@ -57,8 +57,9 @@ abbrev pub SettlesAt : List State → DeskOutcome → Side → Type 0
 SettlesAt among (Plain outcome) side = Settles among outcome side
 SettlesAt among other side = ⊥
 
--- A delivery of a message that ends the request settles the requester's side in the states of `settled_by`. A delivery
--- of a Returned settles the responder's side in RETURNED or CHECKED-IN.
+-- The delivery of a sent message that ends the request is Taken or a Repeat. After it the requester's side is in one of
+-- the states of this end (`settled_by`). The delivery of a sent Returned is Taken or a Repeat. After it the responder's
+-- side is in RETURNED or CHECKED-IN.
 abbrev pub ArrivesAt : DeskParties → DeskEvent → Type 0
 ArrivesAt w (Deliver Requester txn n) =
     let after = desks_happen w (Deliver Requester txn n) in

@@ -8,8 +8,8 @@ use Rattle.ill_world.specs.DeskScript.{EventIn, desk_meaning, says_in}
 use Rattle.ill_world.specs.DeskTrace.{desk_line}
 use Rattle.ill_script.specs.Play.{Play, before_first, Said, end_reading, broken_reading, reading_from, trace_from, Plays}
 
--- In the play of two desks each line has its meaning in the transaction in use. This transaction is carried from line
--- to line.
+-- The play of two desks has three parts. `says` is the meaning of a line in the transaction in use, `next` the desks
+-- after an event. `text` is the event's line of the trace. The transaction in use is carried from line to line.
 abbrev pub two_desks : Play DeskParties EventIn (Option Qualifiers)
 two_desks = record {
   says = λ in_use bytes. says_in in_use (desk_meaning bytes);
@@ -17,11 +17,12 @@ two_desks = record {
   text = λ number w e. desk_line number e.txn (desks_happen w e.event).0 (desks_happen w e.event).1;
 }
 
--- Returns the reading of a whole text. At first no transaction is in use.
+-- Returns the reading of a whole text: the events before its first bad line, and the number of this line. At first no
+-- transaction is in use.
 abbrev pub desk_script : List ℕ → Said EventIn
 desk_script text = reading_from two_desks (end_reading two_desks) None 1 text
 
--- Returns the reading of a text at whose end the reader failed.
+-- Returns the reading of a text at whose end the reader failed. The bytes after the last LF say no event.
 abbrev pub desk_script_read : List ℕ → Said EventIn
 desk_script_read text = reading_from two_desks broken_reading None 1 text
 
@@ -41,7 +42,8 @@ desk_line_after events event =
     (desks_happen (desks_run first_desks (desk_events events)) event.event).0
     (desks_run first_desks (desk_events (events ++ event ∷ [])))
 
--- A simulation has this result. The reader went from `old` to `new`, and the writer from `before` to `after`.
+-- A simulation of two desks has this result. Its reader has the bytes `old` before, and `new` after. Its writer has the
+-- bytes `before`, and then `after`.
 abbrev pub SimulatesDesks : Option (List ℕ) → Option (List ℕ) → Option (List ℕ) → Option (List ℕ) →
     Result ℕ SimFault → Type 0
 SimulatesDesks old new before after result =

@@ -90,7 +90,8 @@ fault_seen (faults.Core refusal) = Plain (Refused refusal)
 fault_seen faults.DeskFull = DeskFull
 fault_seen other = NoSuchTransaction
 
--- Returns the outcome and the desk after a decision of the library in one transaction.
+-- Returns the outcome and the desk after a decision of the library in one transaction. The second argument is the new
+-- live contents, or the fault of the decision.
 abbrev pub desk_decides : DeskParty → Result DeskContents DeskFault → DeskOutcome × DeskParty
 desk_decides p (Ok new) = (Plain Done, record p { live = new })
 desk_decides p (Err fault) = (fault_seen fault, p)
@@ -104,7 +105,8 @@ abbrev pub desk_fails_to_save : DeskParty → Bool → DeskParty
 desk_fails_to_save p true = record p { landed = sides_held p.live }
 desk_fails_to_save p false = p
 
--- Returns the outcome of a Send, and the desk after it. A message may be sent if its side is held and has released it.
+-- Returns the outcome of a Send of message n of `txn`, and the desk after it. The last argument is the held entry of
+-- `txn`, if there is one. The message is sent if this entry's side has issued it, and has released it.
 abbrev pub desk_sends : DeskParty → Qualifiers → ℕ → Option DeskEntry → DeskOutcome × DeskParty
 desk_sends p txn n None = (NoSuchTransaction, p)
 desk_sends p txn n (Some held) =
@@ -126,8 +128,8 @@ abbrev pub desk_receives : DeskParty → Option Apdu → DeskOutcome × DeskPart
 desk_receives p None = (Plain NotSent, p)
 desk_receives p (Some a) = desk_takes_message p a
 
--- Returns the outcome of noise, by the APDU with which its bytes begin. Noise changes nothing, since nobody forges an
--- APDU of any transaction.
+-- Returns the outcome of noise, by the APDU with which its bytes begin. Exactly one APDU, of any transaction, is
+-- Forged. Other bytes are Garbled. Noise changes nothing.
 abbrev pub desk_hears : Result (Apdu × List ℕ) DerFault → Outcome
 desk_hears (Ok (a, [])) = Forged
 desk_hears (Ok (a, byte ∷ rest)) = Garbled
@@ -171,7 +173,8 @@ party_for txn p = record {
 abbrev pub project : Qualifiers → DeskParties → Parties
 project txn w = record { requester = party_for txn w.requester; responder = party_for txn w.responder }
 
--- Returns true if the event names `txn`, or happens to a whole desk. A save, a failed save and a restart do so.
+-- Returns true if the event names `txn`, or is a save, a failed save or a restart of a desk. Noise concerns no
+-- transaction.
 abbrev pub concerns : Qualifiers → DeskEvent → Bool
 concerns txn (Wish named wish) = is_same_txn txn named
 concerns txn (Deed named deed today) = is_same_txn txn named
@@ -182,7 +185,7 @@ concerns txn (Deliver who named n) = is_same_txn txn named
 concerns txn (Noise who bytes) = false
 concerns txn (Restart who) = true
 
--- Returns `may_be` if the event reaches its transaction. Else returns false.
+-- Returns `may_be` if the outcome is `Plain`: the event reaches its transaction. Else returns false.
 abbrev pub if_reached : DeskOutcome → Bool → Bool
 if_reached (Plain outcome) may_be = may_be
 if_reached other may_be = false
@@ -198,7 +201,8 @@ events_for txn w (event ∷ events) =
     let others = events_for txn (desks_happen w event).1 events in
     if is_event_of txn w event then plain event ∷ others else others
 
--- If the Bool is true, the outcome and the new projection are the expected ones. Else the projection stays unchanged.
+-- If the Bool is true, `outcome` and `new` are those of `expected`. Else `new` is `old`. Both are projections, or parts
+-- of projections, before and after an event.
 abbrev pub IsSeenAs : {P : Type 0} → Bool → Outcome × P → P → DeskOutcome → P → Type 0
 IsSeenAs true expected old outcome new = (outcome ≡ Plain expected.0) × (new ≡ expected.1)
 IsSeenAs false expected old outcome new = new ≡ old

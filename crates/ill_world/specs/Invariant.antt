@@ -42,7 +42,7 @@ abbrev pub RequesterNotes : RequesterRecord → List (Option Apdu) → Type 0
 RequesterNotes x sent =
     (notice : Notice) → Reflects x notice → (a : Apdu) × WasSent sent a × Attests a.number a.body notice
 
--- For each Cancel and each Renew that a responder was asked, the requester has sent a message with this number.
+-- If a responder was asked a question under a number, the requester has sent this question with this number.
 abbrev pub ResponderWasAsked : ResponderRecord → List (Option Apdu) → Type 0
 ResponderWasAsked y sent =
     (question : Question) (number : ℕ) → WasAsked question y number →

@@ -40,7 +40,7 @@ night_of w =
     let between = run_of w (asking_half w) in
     asking_half w ++ half_if (wants_sending (asks w.requester.live) between.responder.live) Responder between
 
--- ---- the two records after it
+-- ---- the two records after a night
 
 -- The loan is over for both records, and their states face each other.
 pub record AtRest (x : RequesterRecord) (y : ResponderRecord) : Type 0 where

@@ -1,4 +1,5 @@
--- The two-party model sees a party by its memory and its store. These definitions relate both.
+-- The code has a party as a desk in memory, its store and its sent messages. These definitions relate it to a party of
+-- the two-party model.
 use Rattle.std.specs.Prelude.{◌≡◌, ℕ, Bool, false, List, [], ◌∷◌, Option, Result, Ok, Err}
 use Rattle.ill_values.specs.declared.apdu.Apdu.{Apdu}
 use Rattle.ill_values.specs.TxnId.{Qualifiers}
@@ -57,7 +58,8 @@ pub record IsReady (desk : DeskOf DeskEntry MemoryStoreState) : Type 0 where
 
 -- ---- answers
 
--- The outcome and the party after an event are as expected. If memory runs out, the party stays unchanged.
+-- After an event the result is the outcome of `expected`, and `new` is the party or world of `expected`. If memory runs
+-- out, `new` is `old`, the value before the event.
 abbrev pub GivesOutcome : {O M P : Type 0} → O × P → P → Result O M → P → Type 0
 GivesOutcome expected old (Ok outcome) new = expected ≡ (outcome, new)
 GivesOutcome expected old (Err memory) new = new ≡ old

@@ -1,5 +1,6 @@
 -- In a round all messages of the requester reach the responder, in order. Then all messages of the responder reach the
--- requester. After it both records are in step. The round is this profile's own.
+-- requester. If the responder can answer a Conditional-Reply no, both records are in step after the round. The round is
+-- this profile's own.
 use Rattle.std.specs.Prelude.{◌≡◌, ◌⊎◌, ℕ, zero, suc, ◌+◌, ◌<◌, true, false, List, [], ◌∷◌, ◌++◌, length, Result, Ok, Err}
 use Rattle.ill_core.specs.declared.state.State.{State}
 use Rattle.ill_core.specs.declared.state.State.TheVariants as states
@@ -33,12 +34,13 @@ half_of who w = Save who ∷ sends_and_delivers who 1 (length (issued_of (party 
 abbrev pub round_of : Parties → List Event
 round_of w = half_of Requester w ++ half_of Responder (run_of w (half_of Requester w))
 
--- The new world is the one after `events`, from `old` on. If memory ran out, it is the one after a prefix of them.
+-- The function `run` gives the world after events. If the result is Ok, `new` is the world after `events`, from `old`
+-- on. If memory ran out, `new` is the world after a prefix of `events`.
 abbrev pub Performs : {W E M : Type 0} → (W → List E → W) → List E → W → Result (Unit {0}) M → W → Type 0
 Performs run events old (Ok done) new = new ≡ run old events
 Performs {E = E} run events old (Err memory) new = (first : List E) × IsPrefix first events × (new ≡ run old first)
 
--- ---- the two records after it
+-- ---- the two records after a round
 
 -- Returns the states of a responder that a requester in this state may face.
 abbrev pub faced_in : State → List State
@@ -58,8 +60,9 @@ faced_in states.Recall = states.Recall ∷ []
 faced_in states.Returned = states.Returned ∷ states.CheckedIn ∷ []
 faced_in other = []
 
--- The two records are in step. Their states face each other, and no conditions are declined. Either side knows of a
--- receipt and a check-in. The due dates are equal, unless the item was recalled or returned.
+-- The two records are in step. Their states face each other, and no conditions are declined. A responder in SHIPPED or
+-- later has the received mark exactly if the requester has issued a Received. The requester has the checked-in mark
+-- exactly if the responder is in CHECKED-IN. The due dates are equal, unless the item was recalled or returned.
 pub record InStep (x : RequesterRecord) (y : ResponderRecord) : Type 0 where
   pub faced : is_among (faced_in x.state) y.state ≡ true
   pub undeclined : is_declined x ≡ false

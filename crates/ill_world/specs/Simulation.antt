@@ -8,7 +8,8 @@ use Rattle.ill_world.specs.Script.{meaning}
 use Rattle.ill_world.specs.Trace.{line}
 use Rattle.ill_script.specs.Play.{Play, before_first, Said, end_reading, broken_reading, reading_from, trace_from, Plays}
 
--- In the play of two sides each line has its own meaning. No value is carried from line to line.
+-- The play of two sides has three parts. `says` is the meaning of a line, `next` the world after an event. `text` is
+-- the event's line of the trace. No value is carried from line to line.
 abbrev pub two_sides : Play Parties Event (Unit {0})
 two_sides = record {
   says = λ none bytes. (meaning bytes, none);
@@ -16,11 +17,11 @@ two_sides = record {
   text = λ number w event. line number (happens w event).0 (happens w event).1;
 }
 
--- Returns the reading of a whole text.
+-- Returns the reading of a whole text: the events before its first bad line, and the number of this line.
 abbrev pub script : List ℕ → Said Event
 script text = reading_from two_sides (end_reading two_sides) tt 1 text
 
--- Returns the reading of a text at whose end the reader failed.
+-- Returns the reading of a text at whose end the reader failed. The bytes after the last LF say no event.
 abbrev pub script_read : List ℕ → Said Event
 script_read text = reading_from two_sides broken_reading tt 1 text
 
@@ -34,7 +35,8 @@ line_after txn events event =
     line (length events + 1) (happens (run_of (first_world txn) events) event).0
     (run_of (first_world txn) (events ++ event ∷ []))
 
--- A simulation has this result. The reader went from `old` to `new`, and the writer from `before` to `after`.
+-- A simulation of two sides of `txn` has this result. Its reader has the bytes `old` before, and `new` after. Its
+-- writer has the bytes `before`, and then `after`.
 abbrev pub Simulates : Qualifiers → Option (List ℕ) → Option (List ℕ) → Option (List ℕ) →
     Option (List ℕ) → Result ℕ SimFault → Type 0
 Simulates txn old new before after result =

@@ -25,15 +25,15 @@ use Rattle.ill_words.specs.declared.outcome.Outcome.TheVariants.{NotSaved, NotSe
 
 -- ---- the world
 
--- A party has its side in memory, its landed side, and the count of its released messages. The landed side is idle if
--- nothing has landed. `sent` has message n at place n - 1, if it was sent.
+-- A party has its side in memory (`live`), its landed side, and the count of its released messages. The landed side is
+-- idle if nothing has landed. `sent` has message n at place n - 1, or `None` if it was not sent.
 pub record Party : Type 0 where
   pub live : Side
   pub landed : Side
   pub released : ℕ
   pub sent : List (Option Apdu)
 
--- A pair has one value for the requester of a loan, and one for its responder.
+-- A pair has one value of type `P` for the requester of a loan, and one for its responder.
 pub record TwoOf (P : Type 0) : Type 0 where
   pub requester : P
   pub responder : P
@@ -50,7 +50,7 @@ nothing_sent = replicate 255 None
 abbrev pub first_party : Side → Party
 first_party idle = record { live = idle; landed = idle; released = 0; sent = nothing_sent }
 
--- Returns the world in which both parties of `txn` are idle.
+-- Returns the first world of `txn`. Both parties are idle, and have released and sent nothing.
 abbrev pub first_world : Qualifiers → Parties
 first_world txn = record {
   requester = first_party (idle_side Requester txn);
@@ -67,7 +67,7 @@ abbrev pub with_party : {P : Type 0} → TwoOf P → Role → P → TwoOf P
 with_party w Requester p = record w { requester = p }
 with_party w Responder p = record w { responder = p }
 
--- Returns message n of `sent`, if it was sent. No message has the number 0.
+-- Returns message n of `sent`, or `None` if it was not sent. No message has the number 0.
 abbrev pub sent_message : List (Option Apdu) → ℕ → Option Apdu
 sent_message sent zero = None
 sent_message sent (suc n) = option_flatten (slice_get sent n)
@@ -79,7 +79,8 @@ with_sent sent (suc n) a = slice_set sent n (Some a)
 
 -- ---- one event
 
--- Returns the outcome and the party after a decision of its library. The result is the new live side, or a refusal.
+-- Returns the outcome and the party after a decision of its library. The second argument is the new live side, or the
+-- refusal of the decision.
 abbrev pub decides : Party → Result Side Refusal → Outcome × Party
 decides p (Ok new) = (Done, record p { live = new })
 decides p (Err refusal) = (Refused refusal, p)
@@ -93,14 +94,16 @@ abbrev pub fails_to_save : Party → Bool → Party
 fails_to_save p true = record p { landed = p.live }
 fails_to_save p false = p
 
--- Returns the outcome of a Send, and the party after it. A message is sent if it is issued and released. `sending`
--- gives the party after it.
+-- Returns the outcome of a Send at party `p`, and the party after it. The third argument is the issued message, if
+-- there is one. The Bool is true if the message is released. A message that is issued and released is sent. Then
+-- `sending` gives the party.
 abbrev pub sends_by : {P : Type 0} → P → (Apdu → P) → Option Apdu → Bool → Outcome × P
 sends_by p sending None is_released = (NoSuchMessage, p)
 sends_by p sending (Some a) false = (NotSaved, p)
 sends_by p sending (Some a) true = (Sent, sending a)
 
--- Returns the outcome of a Send of message n, and the party after it. If the message is sent, it joins `p.sent`.
+-- Returns the outcome of a Send of message n, and the party after it. `issued` is message n, if `p` has issued it. If
+-- the message is sent, it joins `p.sent`.
 abbrev pub sends : Party → ℕ → Option Apdu → Bool → Outcome × Party
 sends p n issued is_released = sends_by p (λ a. record p { sent = with_sent p.sent n a }) issued is_released
 
@@ -113,13 +116,14 @@ answer_to (Err refusal) = Refused refusal
 abbrev pub takes_message : Party → Apdu → Outcome × Party
 takes_message p a = (answer_to (takes p.live a).0, record p { live = (takes p.live a).1 })
 
--- Returns the outcome of a delivery, and the party after it. Only a message that the other party has sent is delivered.
+-- Returns the outcome of a delivery, and the party after it. The second argument is the message, if the other party has
+-- sent it. Otherwise nothing is delivered.
 abbrev pub receives : Party → Option Apdu → Outcome × Party
 receives p None = (NotSent, p)
 receives p (Some a) = takes_message p a
 
--- Returns the outcome of noise, by the APDU with which its bytes begin. Noise changes nothing. Nobody forges an APDU of
--- the transaction, and an APDU of another is refused.
+-- Returns the outcome of noise, by the APDU with which its bytes begin. Exactly one APDU of the party's transaction is
+-- Forged. Exactly one APDU of another transaction is refused. Other bytes are Garbled. Noise changes nothing.
 abbrev pub hears : Party → Result (Apdu × List ℕ) DerFault → Outcome
 hears p (Ok (a, [])) = if is_same_txn a.txn (txn_of p.live) then Forged else Refused OtherTransaction
 hears p (Ok (a, byte ∷ rest)) = Garbled
@@ -164,7 +168,7 @@ happens w event = happens_at w (who_of event) (λ p partner. happens_to p partne
 
 -- ---- a run: one event after another
 
--- Returns the world after `events`, one after another by `happening`.
+-- Returns the world after `events`, from `w` on. `happening` gives the outcome of each event, and the world after it.
 unfoldable pub run_by : {W E O : Type 0} → (W → E → O × W) → W → List E → W
 run_by happening w [] = w
 run_by happening w (event ∷ events) = run_by happening (happening w event).1 events

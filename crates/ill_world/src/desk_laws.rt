@@ -108,8 +108,9 @@ pub fn desks_reach_what_they_hold()
     ensures { (w : DeskParties) (event : DeskEvent) → DesksInvariant w → ReachesSide w event }
 {}
 
-/// If two desks satisfy `DesksInvariant`, one delivery of a message that ends the request settles the requester's side.
-/// One delivery of a Returned settles the responder's side (`ArrivesAt`).
+/// If two desks satisfy `DesksInvariant`, one delivery of each message is enough (`ArrivesAt`). A message that ends the
+/// request brings the requester's side to the states of this end. A Returned brings the responder's side to RETURNED or
+/// CHECKED-IN. Either is Taken or a Repeat.
 pub fn one_arrival_at_a_desk_is_enough()
     ensures { (w : DeskParties) (event : DeskEvent) → DesksInvariant w → ArrivesAt w event }
 {
@@ -185,8 +186,9 @@ pub fn no_bad_desk_event_passes()
         ArrivesInVainAt w event → ArrivesAt w event → ⊥ }
 {}
 
-/// Two desks show a copy that is put back as a copy in each transaction. If two desks satisfy `DesksInvariant`, a copy of
-/// what has landed may be put back later. Each transaction is safe then in which it has every message that was sent.
+/// Two desks show a copy that is put back as a copy in each transaction. If two desks satisfy `DesksInvariant`, a copy
+/// of what has landed may be put back later. Then each transaction is safe in which the copy has every message that was
+/// sent.
 pub fn a_copy_of_a_desk_may_be_put_back()
     ensures each { (txn : Qualifiers) (w : DeskParties) (who : Role) (copy : SidesOf) →
         project txn (desk_puts_back who copy w) ≡ puts_back who (side_for txn copy) (project txn w) }
@@ -203,8 +205,8 @@ pub fn a_copy_of_a_desk_may_be_put_back()
     laws::was_granted();
 }
 
-/// The projection of a desk hides nothing that it holds, has landed or has sent. An event of a transaction is seen there
-/// with its outcome and its world, and any other changes nothing there.
+/// A party to which a desk projects hides nothing that the desk holds, has landed or has sent. If `Projects` holds, an
+/// event of a transaction is seen in it with its outcome and its world. Any other event changes nothing in it.
 #[tactic(auto, using(crate::proofs::BadDesks::none_hidden, crate::proofs::BadDesks::none_misseen))]
 pub fn no_bad_projection_passes()
     ensures shows { (p : DeskParty) (txn : Qualifiers) (shown : Party) →

@@ -1,4 +1,5 @@
-//! A desk party is one of two desks, with its store and the messages that it has sent.
+//! A desk party is one of two desks, with its store and the messages that it has sent. A call that performs an event
+//! returns the outcome. If memory runs out, the call changes nothing.
 
 ghost use Rattle.std.specs.Prelude.{◌≡◌, option_map, IfOk};
 ghost use Rattle.ill_der.specs.ShortForm.{apdu_at};
@@ -175,7 +176,8 @@ impl DeskParty {
     }
 }
 
-/// Returns the outcome of noise: bytes that the other desk has not sent. An APDU of any transaction would be forged.
+/// Returns the outcome of noise: bytes that the other desk has not sent. It is `Forged` if `bytes` are exactly one
+/// APDU, of any transaction, and else `Garbled`.
 pub fn heard(alloc: Global, bytes: &[u8]) -> Result<Outcome, OutOfMemory>
     ensures { IfOk result (λ outcome. outcome ≡ desks.desk_hears (apdu_at bytes.now)) }
 {
@@ -190,7 +192,7 @@ pub fn heard(alloc: Global, bytes: &[u8]) -> Result<Outcome, OutOfMemory>
     }
 }
 
-/// Returns the outcome of a fault of an action or a message.
+/// Returns the outcome of a fault of an action or a message. Fails if the fault is out of memory.
 fn seen(fault: DeskFault) -> Result<DeskOutcome, OutOfMemory>
     requires { CanBeSeen fault }
     ensures { FaultSeen fault result }

@@ -53,10 +53,10 @@ impl DeskWorld {
 
     /// Performs an event, and returns its outcome. If memory runs out, nothing has changed.
     ///
-    /// In each transaction it is one event of `World`, with its outcome there, or changes nothing. An event other than
-    /// its restart keeps or raises the requester's due date. One `Deliver` of the message that ended a request leads
-    /// the requester's side to its outcome. One of a Returned leads the responder's side to RETURNED, or the item is
-    /// checked in.
+    /// In each transaction the event is one event of `World`, with the outcome of that event, or changes nothing. An
+    /// event other than the requester's restart keeps or raises the requester's due date. One `Deliver` of the message
+    /// that ended a request leads the requester's side to the states of this end. One `Deliver` of a Returned leads the
+    /// responder's side to RETURNED or CHECKED-IN.
     pub fn step(&mut self, alloc: Global, event: &DeskEvent) -> Result<DeskOutcome, OutOfMemory>
         ensures gives { GivesOutcome (model.desks_happen self.old event.now) self.old result self.new }
         ensures projects { (txn : Qualifiers) → Projects txn self.old event.now }
@@ -75,7 +75,7 @@ impl DeskWorld {
     /// Then it does so for the responder's desk. If memory runs out, only a prefix of the events of the round has
     /// happened.
     ///
-    /// Then both sides of a transaction are in step, if the responder had ended the request or has a number left.
+    /// If the responder had ended the request before, or had a number left, both sides of the transaction are in step.
     pub fn exchange(&mut self, alloc: Global) -> Result<(), OutOfMemory>
         ensures performs { Performs model.desks_run (desk_round_of self.old) self.old result self.new }
         ensures in_step { OnOk result ((txn : Qualifiers) →
@@ -159,8 +159,8 @@ impl DeskWorld {
 
 /// Returns the two desks after `events`, from desks on that hold nothing.
 ///
-/// In each transaction they are the world of two sides after its own events. Every world on the way is safe in each
-/// transaction, and both sides agree, as `run` says of one.
+/// In each transaction the desks are the world of two sides after the events of this transaction. Every world on the
+/// way is safe in each transaction, and both sides agree, as `run` says of one transaction.
 pub fn run_desks(alloc: Global, events: &[DeskEvent]) -> Result<DeskWorld, OutOfMemory>
     ensures runs { IfOk result (λ world. world ≡ model.desks_run model.first_desks events.now) }
     ensures each { (n : ℕ) → IsRunOfEach (take n events.now) }
@@ -212,7 +212,7 @@ fn push_passes(
     Ok(())
 }
 
-/// Performs an event of two desks.
+/// Performs an event of two desks, at the desk of the event's role. Returns the outcome.
 fn happen(
     requester: &mut DeskParty,
     responder: &mut DeskParty,
@@ -230,7 +230,8 @@ fn happen(
     }
 }
 
-/// Performs an event of a desk. The desk `other` has sent the messages that may be delivered to it.
+/// Performs an event of the desk `party`, and returns the outcome. The desk `other` has sent the messages that may be
+/// delivered to `party`.
 fn perform(
     party: &mut DeskParty,
     other: &DeskParty,

@@ -151,8 +151,9 @@ pub fn every_run_agrees()
     every_world_agrees();
 }
 
-/// If a world satisfies the invariant, one delivery of a message that ends the request settles the requester. One
-/// delivery of a Returned settles the responder (`Arrives`).
+/// If a world satisfies the invariant, one delivery of each message is enough (`Arrives`). A message that ends the
+/// request brings the requester to the states of this end. A Returned brings the responder to RETURNED or CHECKED-IN.
+/// Either is Taken or a Repeat.
 pub fn one_arrival_is_enough()
     ensures { (txn : Qualifiers) (w : Parties) (event : Event) → Invariant txn w → Arrives w event }
 {
@@ -200,8 +201,8 @@ pub fn no_round_may_begin_late()
         AreInStep (run_of (two_unheard who) (round_of (two_unheard who))) }
 {}
 
-/// Two records are not in step if their states do not face each other. They are not in step if one lacks a fact that
-/// the other has.
+/// Two records of which `OutOfStep` holds are not in step. Their states do not face each other, or the requester has
+/// declined conditions. Or a mark of receipt or check-in is wrong, or the due dates differ.
 pub fn no_pair_out_of_step_is_in_step()
     ensures { (x : RequesterRecord) (y : ResponderRecord) → OutOfStep x y → InStep x y → ⊥ }
 {}

@@ -1,5 +1,5 @@
-//! The model of an interlibrary loan has two sides in one world. Events happen to them, from a value, a list of events
-//! or a script.
+//! The model of an interlibrary loan has two sides of one transaction, or two desks of many. Events are performed one
+//! by one, as a list, or from a script.
 #![tactic(auto)]
 
 pub mod desk_laws;

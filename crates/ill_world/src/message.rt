@@ -24,7 +24,7 @@ impl Model for Message {
 }
 
 impl Message {
-    /// Returns the message with these bytes.
+    /// Returns the message with these bytes. They are the encoding of an APDU.
     pub fn new(bytes: Vec<u8>) -> Message
         requires encoded { (a : Apdu) × IsApdu a × (bytes.items ≡ encoding a) }
         ensures { (a : Apdu) → IsApdu a → bytes.items ≡ encoding a → result ≡ a }

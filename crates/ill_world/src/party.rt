@@ -1,4 +1,5 @@
-//! A party is one of the two sides, with its store and the messages that it has sent.
+//! A party is one of the two sides, with its store and the messages that it has sent. A call that performs an event
+//! returns the outcome. If memory runs out, the call changes nothing.
 
 ghost use Rattle.std.specs.Prelude.{◌≡◌, false, nat_le, option_map, IfOk};
 ghost use Rattle.ill_der.specs.ShortForm.{apdu_at};
@@ -136,8 +137,8 @@ impl Party {
         }
     }
 
-    /// Takes noise: bytes that the other side has not sent. An APDU of the transaction would be forged, and has no
-    /// effect.
+    /// Takes noise: bytes that the other side has not sent. They change nothing. Exactly one APDU of the transaction is
+    /// `Forged`, and one of another transaction is refused. Other bytes are `Garbled`.
     pub fn hear(&mut self, alloc: Global, bytes: &[u8]) -> Result<Outcome, OutOfMemory>
         ensures { GivesOutcome (model.hears self.old (apdu_at bytes.now), self.old)
             self.old result self.new }
@@ -159,7 +160,8 @@ impl Party {
         }
     }
 
-    /// Gives the desk bytes that are no APDU of this transaction, and returns its refusal.
+    /// Gives the desk bytes that are not exactly one APDU of this transaction. The outcome is `Refused` for exactly one
+    /// APDU of another transaction, and else `Garbled`.
     fn refuse(&mut self, alloc: Global, bytes: &[u8]) -> Result<Outcome, OutOfMemory>
         requires other { is_of (txn_of self.old.live) (apdu_at bytes.now) ≡ false }
         ensures { GivesOutcome (model.hears self.old (apdu_at bytes.now), self.old)

@@ -9,7 +9,7 @@ use ill_values::{Number, OutOfMemory};
 use std::alloc::Global;
 use std::marker::Model;
 
-/// A side may send at most one message for each number.
+/// A message has a number from 1 to 255, and a side sends at most one message under each number.
 const MESSAGES: usize = 255;
 
 /// A list has a place for each number, with the message that was sent under it.

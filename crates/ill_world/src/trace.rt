@@ -36,7 +36,7 @@ fn push_event(lines: &mut Vec<u8>, number: u32, word: &str) -> Result<(), OutOfM
     Ok(())
 }
 
-/// Appends the text of both sides.
+/// Appends the text of both sides, each after its role.
 fn push_sides(lines: &mut Vec<u8>, requester: Shown, responder: Shown) -> Result<(), OutOfMemory>
     ensures { OnOk result (lines.new.items ≡ lines.old.items ++ sides_text requester responder) }
 {

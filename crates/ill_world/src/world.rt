@@ -58,9 +58,9 @@ impl World {
     /// Performs an event, and returns its outcome. If memory runs out, nothing has changed.
     ///
     /// Only `Done`, `Saved`, `Sent`, `Restarted`, `Answered(Taken)` and `Faulted` change the world. `Faulted` changes
-    /// only the landed side. An event other than its restart keeps or raises the requester's due date. One `Deliver` of
-    /// the message that ended the request leads the requester to its outcome. One of a Returned leads the responder to
-    /// RETURNED, or the item is checked in.
+    /// only the landed side. An event other than the requester's restart keeps or raises the requester's due date. One
+    /// `Deliver` of the message that ended the request leads the requester to the states of this end. One `Deliver` of
+    /// a Returned leads the responder to RETURNED or CHECKED-IN.
     pub fn step(&mut self, alloc: Global, event: &Event) -> Result<Outcome, OutOfMemory>
         ensures gives { GivesOutcome (model.happens self.old event.now) self.old result self.new }
         ensures dates { KeepsDates self.old event.now self.new }
@@ -78,7 +78,7 @@ impl World {
     /// Performs a round. It saves the requester's side, and sends and delivers all its messages in order. Then it does
     /// so for the responder's side. If memory runs out, only a prefix of the events of the round has happened.
     ///
-    /// Then both sides are in step, if the responder had ended the request before, or had a number left.
+    /// If the responder had ended the request before, or had a number left, both sides are then in step.
     pub fn exchange(&mut self, alloc: Global) -> Result<(), OutOfMemory>
         ensures performs { Performs model.run_of (round_of self.old) self.old result self.new }
         ensures in_step { OnOk result (CanAnswer self.old.responder.live → AreInStep self.new) }
@@ -206,7 +206,8 @@ pub(crate) fn sends_and_delivers(
     Ok(events)
 }
 
-/// Performs an event of a party. The party `other` has sent the messages that may be delivered to it.
+/// Performs an event of `party`, and returns the outcome. The party `other` has sent the messages that may be delivered
+/// to `party`.
 fn perform(
     party: &mut Party,
     other: &Party,

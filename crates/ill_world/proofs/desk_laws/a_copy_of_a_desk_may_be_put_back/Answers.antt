@@ -1,5 +1,5 @@
 -- Proves the clauses `each` and `safe` of `a_copy_of_a_desk_may_be_put_back` (`src/desk_laws.rt`). In each transaction
--- the copy is one of two parties.
+-- a copy of a desk's record is a copy of a party's record.
 use Rattle.ill_world.specs.World.{party}
 use Rattle.ill_world.specs.Desks.{desks_run, project}
 use Rattle.ill_world.specs.Copies.{desk_puts_back}

@@ -1,5 +1,5 @@
--- Proves the clauses `first` and `after` of `desks_stand` (`src/desk_laws.rt`). Each event is one of a transaction, or
--- leaves its projection. It also keeps `DesksCount`.
+-- Proves the clauses `first` and `after` of `desks_stand` (`src/desk_laws.rt`). For each transaction an event is one of
+-- its events, or leaves the projection to it unchanged. Each event also keeps `DesksCount`.
 use Rattle.std.proofs.Common.{refl}
 use Rattle.ill_world.specs.World.{who_of}
 use Rattle.ill_world.specs.Desks.{plain}

@@ -11,7 +11,7 @@ pub returns-clause-each : goal.returns-clause-each
 returns-clause-each c = round_alike c.desk_events_are_events.ensures c.desks_reach_what_they_hold.ensures
     c.desks_stand.ensures.after
 
--- In `txn` the round is one of two parties, after which they are in step.
+-- In `txn` the round is a round of two parties. After it they are in step.
 pub returns-clause-in_step : goal.returns-clause-in_step
 returns-clause-in_step c =
     λ txn w stands can.

@@ -1,5 +1,5 @@
--- Proves the contract of `who_has_the_turn_can_act` (`src/laws.rt`). If two records are in step, one of both has the
--- turn.
+-- Proves the clauses of `who_has_the_turn_can_act` (`src/laws.rt`). If two records are in step, and the loan is not
+-- over, one of both has the turn.
 use Rattle.std.proofs.Common.{inl, inr}
 use Rattle.ill_world.proofs.Turns.{can_ask, can_lend}
 use Rattle.ill_world.proofs.laws.who_has_the_turn_can_act.Goals as goal

@@ -1,5 +1,5 @@
--- Proves the clauses `first` and `after` of `world_stands` (`src/laws.rt`). An event changes one party, and keeps its
--- invariant and the other party's evidence.
+-- Proves the clauses `first` and `after` of `world_stands` (`src/laws.rt`). An event changes one party, and keeps the
+-- invariant of this party. The sent messages that are the other party's evidence stay sent.
 use Rattle.ill_world.proofs.Standings.{requester_keeps, responder_keeps, world_first, world_after}
 use Rattle.ill_world.proofs.laws.world_stands.Goals as goal
 

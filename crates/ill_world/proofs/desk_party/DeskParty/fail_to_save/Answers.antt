@@ -1,5 +1,5 @@
 -- Proves the invariant and the contract of `DeskParty::fail_to_save` (`src/desk_party.rt`) after a failed save. The
--- record in the store is read again as the saved sides.
+-- record in the store is read again as the saved sides (`again`). A desk that has read them holds them (`sides`).
 use Rattle.std.proofs.Common.{rules, ◌≡◌, Ok, ap}
 use Rattle.ill_saved.specs.Holdings.{map_ok}
 use Rattle.ill_saved.specs.ManySides.{many_sides, sides_held, whole_of}

@@ -1,5 +1,5 @@
--- Proves the invariant and the contract of `DeskParty::take` (`src/desk_party.rt`), and the premise of `seen`. The
--- bytes of the message are exactly one APDU.
+-- Proves the invariant and the contract of `DeskParty::take` (`src/desk_party.rt`), and the premise of its call of
+-- `seen`. The bytes of the message are exactly one APDU (`takes`), and the desk keeps its role (`role`).
 use Rattle.std.proofs.Common.{rules, [], Ok, subst}
 use Rattle.ill_saved.specs.Desk.{DeskTakes}
 use Rattle.ill_saved.specs.ManySides.{many_sides}

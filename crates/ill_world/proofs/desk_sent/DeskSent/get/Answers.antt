@@ -19,7 +19,7 @@ returns-in-Some c =
     (sym (ap (sent_for c.args.txn.now) (sym c.self.view_is) ∙ sent_there c.args.txn.now entries
     ∙ ap (found_or nothing_sent) there))
 
--- The map has no entry for `txn`, and the model has no message there.
+-- The map has no entry for `txn`, and the model has no message of `txn`.
 pub returns-in-None : goal.returns-in-None
 returns-in-None c =
     let entries = c.self.inside.map.entries in

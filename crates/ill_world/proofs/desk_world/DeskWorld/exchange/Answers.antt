@@ -30,7 +30,8 @@ returns-clause-performs c =
     performs_both desks_happen first (desk_half_of Responder (desks_run w first)) w between c.pass_on-2.new.self
     c.pass_on-2.result c.in_ok-pass_on.ensures second
 
--- After a whole round both sides of each transaction are in step, if the responder could answer before.
+-- After a whole round both sides of each transaction are in step, if the responder could answer before. `step` is the
+-- law for `old`.
 pub returns-clause-in_step : goal.returns-clause-in_step
 returns-clause-in_step c =
     let old = c.args.self.now in

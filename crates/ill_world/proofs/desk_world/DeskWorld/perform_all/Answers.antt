@@ -13,14 +13,15 @@ pub loop-event-init : goal.loop-event-init
 unfolding run_by
 loop-event-init c = refl
 
--- The step leads to the desks after one event more.
+-- The step leads to the desks after one event more. `here` says this of the model: the event leads there from the desks
+-- after the events so far.
 pub loop-event-preserved : goal.loop-event-preserved
 loop-event-preserved c =
     let here = ap (λ w. desks_happen w c.event-item.result) (sym c.loop-event.invariant) ∙ c.in_ok-step.ensures.gives in
     sym (run_taken desks_happen c.args.self.now c.step.new.self c.args.events.now c.loop-event.event-index c.event-item.result
     c.in_ok-step.field-0 (omega (arith, c.loop-event-test.true)) c.event-item.is here)
 
--- If memory runs out in a step, the events before it have happened.
+-- If memory runs out in a step, the events before this step have happened.
 pub returns-in_err-step : goal.returns-in_err-step
 returns-in_err-step c =
     let events = c.args.events.now in

@@ -1,5 +1,5 @@
 -- Proves the contract of `Party::is_forged` (`src/party.rt`) if the bytes begin with an APDU. They are exactly one APDU
--- if it has their length.
+-- if this APDU has the length of the bytes.
 use Rattle.std.proofs.Common.{rules}
 use Rattle.ill_record.specs.Side.{txn_of}
 use Rattle.ill_der.specs.ShortForm.{apdu_at}

@@ -1,5 +1,5 @@
 -- Proves the invariant and the contract of `Party::take` (`src/party.rt`). The bytes of the message are exactly one
--- APDU, and the side keeps its transaction.
+-- APDU (`takes`). The side keeps its role and its transaction (`idle`).
 use Rattle.std.proofs.Common.{rules}
 use Rattle.ill_world.proofs.Parties.{takes_one, taken_idle}
 use Rattle.ill_world.proofs.party.Party.take.Goals as goal

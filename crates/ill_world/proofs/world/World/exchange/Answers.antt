@@ -28,7 +28,7 @@ returns-clause-performs c =
     performs_both happens first (half_of Responder (run_of w first)) w between c.pass_on-2.new.self c.pass_on-2.result
     c.in_ok-pass_on.ensures second
 
--- After a whole round both sides are in step, if the responder could answer before.
+-- After a whole round both sides are in step, if the responder could answer before. `step` is the law for `old`.
 pub returns-clause-in_step : goal.returns-clause-in_step
 returns-clause-in_step c =
     let old = c.args.self.now in

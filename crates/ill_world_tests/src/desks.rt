@@ -1,4 +1,5 @@
-//! Performs events of two desks as values, one by one or as a list.
+//! Performs events of two desks as values, one by one or as a list. A function that returns `None` was given an unknown
+//! name, or has no memory.
 
 use crate::list::EventList;
 use crate::tries::{self, Tried};
@@ -38,18 +39,19 @@ impl Tried for DeskWorld {
         self.exchange(alloc)
     }
 
+    /// Prints a line for each transaction, with a part of both sides: state, due date, and counts of messages.
     fn print(&self, alloc: Global, page: &mut Page) -> Option<()> {
         print_both(alloc, page, self)
     }
 
-    /// Prints each side of both desks.
+    /// Prints all fields of each side that a desk holds. Of a side, `print` prints only a part of a line.
     fn print_more(&self, _alloc: Global, page: &mut Page) -> Option<()> {
         print_held(page, self.requester())?;
         print_held(page, self.responder())
     }
 }
 
-/// Returns the events that `name` names.
+/// Returns the events that `name` names, or `None` if it names none.
 fn desk_events(alloc: Global, name: &str) -> Option<Events> {
     let mut events = Events::new(alloc);
     match name {
@@ -111,7 +113,7 @@ fn kinds(events: &mut Events, alloc: Global) {
     push_restart(events, Role::Responder);
 }
 
-/// Adds noise for `who`, and two saves of `who` that fail. The record of the second lands.
+/// Adds noise for `who`, and two saves of `who` that fail. Only the record of the second lands.
 fn push_faults(events: &mut Events, alloc: Global, who: Role) {
     events.push(noise(alloc, who));
     for landed in [false, true] {
@@ -119,7 +121,7 @@ fn push_faults(events: &mut Events, alloc: Global, who: Role) {
     }
 }
 
-/// Adds a save, and a restart.
+/// Adds a save and a restart of the desk `who`.
 fn push_restart(events: &mut Events, who: Role) {
     events.push(Some(DeskEvent::Save(who)));
     events.push(Some(DeskEvent::Restart(who)));
@@ -130,7 +132,7 @@ fn id(alloc: Global, transaction: &[u8]) -> Option<TxnId> {
     TxnId::new(alloc, b"G1", transaction).ok()
 }
 
-/// Returns the wish for `item` in this transaction.
+/// Returns the event of the wish for `item` in this transaction.
 fn request(alloc: Global, transaction: &[u8], item: &[u8]) -> Option<DeskEvent> {
     let item = Item::new(alloc, item).ok()?;
     let request = Wish::Request { expiry: None, item };
@@ -149,29 +151,29 @@ fn delivered(alloc: Global, transaction: &[u8]) -> Option<DeskEvent> {
     Some(DeskEvent::Deliver(Role::Responder, id(alloc, transaction)?, one))
 }
 
-/// Returns the deed Ship, due on 15 March.
+/// Returns the event of the deed Ship in this transaction, due on 15 March.
 fn ship(alloc: Global, transaction: &[u8]) -> Option<DeskEvent> {
     let due = Day::new(2025, 3, 15).ok()?;
     deed(alloc, transaction, Deed::Ship { due })
 }
 
-/// Returns the deed Recall.
+/// Returns the event of the deed Recall in this transaction.
 fn recall(alloc: Global, transaction: &[u8]) -> Option<DeskEvent> {
     deed(alloc, transaction, Deed::Recall)
 }
 
-/// Returns the wish Cancel in the first transaction.
+/// Returns the event of the wish Cancel in the first transaction.
 fn cancel(alloc: Global) -> Option<DeskEvent> {
     Some(DeskEvent::Wish(id(alloc, FIRST)?, Wish::Cancel))
 }
 
-/// Returns the event of this deed on 1 March.
+/// Returns the event of this deed in this transaction, on 1 March.
 fn deed(alloc: Global, transaction: &[u8], deed: Deed) -> Option<DeskEvent> {
     let today = Day::new(2025, 3, 1).ok()?;
     Some(DeskEvent::Deed(id(alloc, transaction)?, deed, today))
 }
 
-/// Returns the event that a forged Cancel reaches a side.
+/// Returns the event that a forged Cancel reaches the desk `who`.
 fn noise(alloc: Global, who: Role) -> Option<DeskEvent> {
     let bytes = Bytes::new(Vec::from_slice(alloc, OTHER_CANCEL).ok()?);
     Some(DeskEvent::Noise(who, bytes))
@@ -194,8 +196,8 @@ fn first_desks(alloc: Global) -> Option<DeskWorld> {
     world.ok()
 }
 
-/// Performs events, and prints a line for each. The line has the number and outcome of the event, and both sides of the
-/// transaction that was named last.
+/// Performs events, and prints a line for each. The line has the number and the outcome of the event, and both sides of
+/// a transaction. This is the transaction that an event has named last, and at first `FIRST`.
 fn perform_steps(
     alloc: Global,
     page: &mut Page,
@@ -232,7 +234,7 @@ pub fn print_desk_exchange(alloc: Global, page: &mut Page, name: &str) -> Option
     tries::print_exchange::<DeskWorld>(alloc, page, events.all()?)
 }
 
-/// Prints each side in `sides`.
+/// Prints all fields of each side in `sides`.
 fn print_held(page: &mut Page, sides: &Sides) -> Option<()> {
     for place in 0..sides.len() {
         page.show_parts(sides.at(place)?);
@@ -240,7 +242,7 @@ fn print_held(page: &mut Page, sides: &Sides) -> Option<()> {
     Some(())
 }
 
-/// Prints both sides of both transactions.
+/// Prints a line for each transaction, with both its sides.
 fn print_both(alloc: Global, page: &mut Page, world: &DeskWorld) -> Option<()> {
     page.text("T1");
     print_sides(alloc, page, world, &id(alloc, FIRST)?)?;
@@ -259,7 +261,7 @@ fn named(event: &DeskEvent) -> Option<&TxnId> {
     }
 }
 
-/// Prints the state of both sides of a transaction.
+/// Prints the rest of a line: the state, the due date and the counts of messages of both sides of a transaction.
 fn print_sides(alloc: Global, page: &mut Page, world: &DeskWorld, txn: &TxnId) -> Option<()> {
     page.text(" requester ");
     print_side(alloc, page, world, Role::Requester, txn)?;
@@ -269,7 +271,7 @@ fn print_sides(alloc: Global, page: &mut Page, world: &DeskWorld, txn: &TxnId) -
     Some(())
 }
 
-/// Prints the state of one side, or that of an idle side if the desk has none.
+/// Prints the state, the due date and the counts of messages of one side. If the desk does not hold it, it is idle.
 fn print_side(
     alloc: Global,
     page: &mut Page,
@@ -291,7 +293,7 @@ fn print_side(
     Some(())
 }
 
-/// Returns the side of a transaction at the desk of `who`, if there is one.
+/// Returns the side of a transaction at the desk of `who`, or `None` if the desk does not hold it.
 fn held<'a>(world: &'a DeskWorld, who: Role, txn: &TxnId) -> Option<&'a Side> {
     match who {
         Role::Requester => world.requester().get(txn),

@@ -1,4 +1,4 @@
-//! Makes the lists of events of two sides.
+//! Makes the lists of events of two sides. A function returns `None` if a value is invalid, or if there is no memory.
 
 use crate::list::EventList;
 use ill_core::{Deed, Wish};
@@ -19,7 +19,7 @@ const CUT: &[u8] = b"\x66\x10\x80\x01\x01\xA1\x08\x81\x02G1\x82\x02T2\x82\x01";
 /// The events of two sides.
 type Events = EventList<Event>;
 
-/// Returns the events that `name` names.
+/// Returns the events that `name` names, or `None` if it names none.
 pub fn events(alloc: Global, name: &str) -> Option<Events> {
     let mut events = Events::new(alloc);
     match name {
@@ -69,7 +69,7 @@ fn declined(events: &mut Events, alloc: Global) {
     push_delivered(events, Role::Responder, 2);
 }
 
-/// Adds 256 promises to supply, one more than there are numbers.
+/// Adds a request, and 256 promises to supply it, one more than there are numbers.
 fn promised(events: &mut Events, alloc: Global) {
     push_requested(events, alloc);
     for _ in 0..256 {
@@ -91,7 +91,7 @@ fn refused(events: &mut Events, alloc: Global) {
     events.push(Some(Event::Restart(Role::Responder)));
 }
 
-/// Adds a Renew and an Overdue that cross, before either is saved.
+/// Adds a loan that is received, with a Renew and an Overdue that cross. Neither is saved yet.
 fn renewing(events: &mut Events, alloc: Global) {
     push_requested(events, alloc);
     events.push(ship());
@@ -116,7 +116,7 @@ fn kinds(events: &mut Events, alloc: Global) {
     push_restart(events, Role::Responder);
 }
 
-/// Adds events that change nothing. The message with the number `unsaved` must not be saved yet.
+/// Adds events at the side `who` that change nothing. Its message with the number `unsaved` must not be saved yet.
 fn push_unchanging(events: &mut Events, alloc: Global, who: Role, unsaved: u8) {
     events.push(sent(who, unsaved));
     events.push(delivered(who, 3));
@@ -126,14 +126,14 @@ fn push_unchanging(events: &mut Events, alloc: Global, who: Role, unsaved: u8) {
     events.push(delivered(who, 1));
 }
 
-/// Adds two saves of `who` that fail. The record of the second lands.
+/// Adds two saves of `who` that fail. Only the record of the second lands.
 fn push_faults(events: &mut Events, who: Role) {
     for landed in [false, true] {
         events.push(Some(save_fault(who, landed)));
     }
 }
 
-/// Adds a save, and a restart.
+/// Adds a save and a restart of the side `who`.
 fn push_restart(events: &mut Events, who: Role) {
     events.push(Some(Event::Save(who)));
     events.push(Some(Event::Restart(who)));
@@ -145,31 +145,31 @@ fn push_requested(events: &mut Events, alloc: Global) {
     push_delivered(events, Role::Requester, 1);
 }
 
-/// Adds the save of a side, the sending of a message, and its delivery.
+/// Adds the save of the side `who`, the sending of its message `number`, and the delivery of this message.
 fn push_delivered(events: &mut Events, who: Role, number: u8) {
     push_sent(events, who, number);
     events.push(delivered(who.other(), number));
 }
 
-/// Adds the save of a side, and the sending of a message.
+/// Adds the save of the side `who`, and the sending of its message `number`.
 fn push_sent(events: &mut Events, who: Role, number: u8) {
     events.push(Some(Event::Save(who)));
     events.push(sent(who, number));
 }
 
-/// Returns the wish Request.
+/// Returns the event of the wish Request.
 fn request(alloc: Global) -> Option<Event> {
     let item = Item::new(alloc, b"Maps").ok()?;
     Some(Event::Wish(Wish::Request { expiry: None, item }))
 }
 
-/// Returns the deed Ship, due on 15 March.
+/// Returns the event of the deed Ship on 1 March, due on 15 March.
 fn ship() -> Option<Event> {
     let due = Day::new(2025, 3, 15).ok()?;
     deed(Deed::Ship { due })
 }
 
-/// Returns the deed Overdue on 16 March, the day after the due date.
+/// Returns the event of the deed Overdue on 16 March, the day after the due date.
 fn overdue() -> Option<Event> {
     Some(Event::Deed(Deed::Overdue, Day::new(2025, 3, 16).ok()?))
 }

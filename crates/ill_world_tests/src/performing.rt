@@ -16,7 +16,7 @@ const AT_AN_END: usize = 6;
 /// In a script of at most this many bytes each growth is refused once. A longer script gets ample memory.
 const REFUSED: usize = 1_000;
 
-/// This line tells that a script gave a wrong trace when a growth was refused.
+/// This line tells that a script gave a wrong trace or answer when a growth was refused.
 const ANOTHER: &[u8] = b"ANOTHER TRACE WITHOUT MEMORY\n";
 
 /// The simulation that performs a script.
@@ -64,7 +64,8 @@ pub fn txn(alloc: Global) -> Option<TxnId> {
     TxnId::new(alloc, b"G1", b"T1").ok()
 }
 
-/// Performs a script with ample memory. A short one is then performed with each growth refused once.
+/// Performs a script with ample memory, and returns the result. A short script is then performed with each growth
+/// refused once. For each wrong result of these the line `ANOTHER` is added to the trace that is returned.
 pub fn perform(alloc: Global, script: Script<'_>, streams: Streams) -> Option<ScriptResult> {
     let (mut ample, _) = perform_once(alloc, script, streams, None)?;
     if script.bytes.len() > REFUSED {
@@ -83,8 +84,8 @@ pub fn perform(alloc: Global, script: Script<'_>, streams: Streams) -> Option<Sc
     None
 }
 
-/// Performs a script from its beginning. It is between marks if `most` bounds the bytes that it writes. Also returns
-/// true if a growth was refused.
+/// Performs a script from its beginning. If `most` is there, the call is between marks, and writes at most this many
+/// bytes. Returns the result, and true if a growth was refused.
 fn perform_once(
     alloc: Global,
     script: Script<'_>,
@@ -122,7 +123,8 @@ pub fn print_script(alloc: Global, page: &mut Page, script: Script<'_>, end: End
     Some(())
 }
 
-/// Performs a script, and prints its trace and answer, without the end of the line.
+/// Performs a script whose reader ends as `end` says. Prints its trace and answer, without the end of the line. Returns
+/// the result.
 pub fn print_trace(
     alloc: Global,
     page: &mut Page,

@@ -5,7 +5,7 @@ use crate::streams::{End, Streams};
 use ill_test_kit::Page;
 use std::alloc::Global;
 
-/// The answers for each place in turn. An answer is printed if it differs from the one before it.
+/// The answers for each place in turn. An answer is printed only if it differs from the answer before it.
 #[derive(Drop)]
 struct Answers {
     /// The allocator of all pages.
@@ -26,7 +26,8 @@ impl Answers {
         }
     }
 
-    /// Adds the answer at the next place, with the count of performed events if `events` has it.
+    /// Adds the answer at `place`, with the count of performed events if `events` has it. Prints it on `page` if it
+    /// differs from the answer before it.
     fn push(&mut self, page: &mut Page, place: usize, told: &ScriptResult, events: Option<usize>) {
         let mut text = Page::new(self.alloc);
         print_answer(&mut text, &told.answer);
@@ -48,13 +49,15 @@ impl Answers {
     }
 }
 
-/// Makes the reader fail before each byte of the script in turn, and at its end. Then makes it be interrupted there.
+/// Makes the reader fail before each byte of the script in turn, and at the end of the script. Then makes the reader be
+/// interrupted at each of these places. Prints the answers.
 pub fn print_readers(alloc: Global, page: &mut Page, script: Script<'_>) -> Option<()> {
     print_prefixes(alloc, page, script, End::Fails, "it fails, ")?;
     print_prefixes(alloc, page, script, End::Interrupts, "it is interrupted, ")
 }
 
-/// Performs each prefix of a script, after which the reader ends as `end` says.
+/// Performs each prefix of a script, after which the reader ends as `end` says. Prints the answers, each after `label`.
+/// Each trace must be whole lines, and a prefix of the trace of the whole script.
 fn print_prefixes(
     alloc: Global,
     page: &mut Page,
@@ -78,15 +81,16 @@ fn print_prefixes(
     Some(())
 }
 
-/// Makes the writer take each count of bytes of the trace in turn. After them it fails, is interrupted, or takes no
-/// bytes.
+/// Makes the writer take each count of bytes of the trace in turn. After these bytes the writer fails, is interrupted,
+/// or takes no bytes. Prints the answers.
 pub fn print_writers(alloc: Global, page: &mut Page, script: Script<'_>) -> Option<()> {
     print_rooms(alloc, page, script, End::Fails, "it fails, ")?;
     print_rooms(alloc, page, script, End::Interrupts, "it is interrupted, ")?;
     print_rooms(alloc, page, script, End::Stops, "it takes no bytes, ")
 }
 
-/// Performs a script with a writer that ends as `end` says, after each count of bytes in turn.
+/// Performs a script with a writer that ends as `end` says, after each count of bytes in turn. Prints the answers, each
+/// after `label`. The writer must have taken this many bytes of the whole trace.
 fn print_rooms(
     alloc: Global,
     page: &mut Page,

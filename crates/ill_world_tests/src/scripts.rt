@@ -19,7 +19,8 @@ fn repeated(line: &str) -> Option<(u32, &str)> {
     Some((times, rest))
 }
 
-/// Adds a repetition of a line. The first has the number 1 in `time`.
+/// Adds a repetition of a line, and its LF. A line that ends with `[]` gets no LF. The first repetition has the number
+/// 1 in `time`.
 fn push_once(script: &mut Vec<u8>, line: &str, time: u32) -> Option<()> {
     if let Some(line) = line.strip_suffix("[]") {
         return push_text(script, line, time);
@@ -28,7 +29,7 @@ fn push_once(script: &mut Vec<u8>, line: &str, time: u32) -> Option<()> {
     script.push(b'\n').ok()
 }
 
-/// Adds `text`, with each bracket replaced by its meaning.
+/// Adds `text`, with each bracket replaced by its meaning (`push_inside`).
 fn push_text(script: &mut Vec<u8>, text: &str, time: u32) -> Option<()> {
     let (plain, more) = text.split_once('[').unwrap_or((text, ""));
     script.extend_from_slice(plain.as_bytes()).ok()?;
@@ -43,7 +44,7 @@ fn push_text(script: &mut Vec<u8>, text: &str, time: u32) -> Option<()> {
     Some(())
 }
 
-/// Adds the meaning of a bracket: the number of the repetition, an octet, or a repeated text.
+/// Adds the meaning of a bracket: the number of the repetition (`n`), a repeated text (`ab*3`), or an octet (`0A`).
 fn push_inside(script: &mut Vec<u8>, inside: &str, time: u32) -> Option<()> {
     if inside == "n" {
         let time = time.to_string(*script.allocator()).ok()?;

@@ -66,7 +66,7 @@ impl Session {
         }
     }
 
-    /// Prints a line and its answers.
+    /// Prints a line and its answers. Returns `None` if the line is no case, or if memory runs out.
     fn take(&mut self, page: &mut Page, line: &str) -> Option<()> {
         page.line(line);
         let mut answers = Page::new(self.alloc);
@@ -75,7 +75,7 @@ impl Session {
         understood
     }
 
-    /// Performs a line, and prints its answers.
+    /// Performs a line by the block that it is in, and prints its answers. A line of a script only joins the script.
     fn answer(&mut self, answers: &mut Page, line: &str) -> Option<()> {
         if line == "end" {
             return self.end(answers);
@@ -118,7 +118,7 @@ impl Session {
     }
 }
 
-/// Returns the block that begins with `word`.
+/// Returns the block that begins with `word`, or `None` if no block begins with it.
 fn block_of(alloc: Global, word: &str) -> Option<Block> {
     let (simulation, word) = match word.strip_prefix("desk-") {
         Some(word) => (Simulation::Desks, word),
@@ -130,7 +130,7 @@ fn block_of(alloc: Global, word: &str) -> Option<Block> {
     }
 }
 
-/// Returns the call that `word` names.
+/// Returns the call that `word` names, or `None` if it names none.
 fn call_of(word: &str) -> Option<Call> {
     match word {
         "script" => Some(Call::Script),
@@ -151,7 +151,7 @@ fn print_called(alloc: Global, page: &mut Page, call: Call, script: Script<'_>) 
     }
 }
 
-/// Performs a line as a script of its own.
+/// Performs a line as a script of its own, and prints its trace and answer.
 fn print_alone(alloc: Global, page: &mut Page, simulation: Simulation, line: &str) -> Option<()> {
     let mut bytes = Vec::new(alloc);
     push_line(&mut bytes, line)?;

@@ -1,4 +1,4 @@
-//! Makes streams that fail once, or end.
+//! Makes streams that fail once, are interrupted once, or end.
 
 use ill_test_kit::{Failure, TestReader, TestWriter};
 use std::alloc::Global;
@@ -19,7 +19,7 @@ pub enum End {
 }
 
 impl End {
-    /// Returns the failure of the stream.
+    /// Returns the one failure of a stream with this end.
     fn failure(self) -> Failure {
         let kind = match self {
             End::Stops => None,
@@ -35,14 +35,14 @@ impl End {
 pub enum Streams {
     /// The reader ends as this says, and the writer takes all bytes.
     Reader(End),
-    /// As before, but the streams move one byte at a time.
+    /// The reader ends as this says, and the writer takes all bytes. Both move one byte at a time.
     Slow(End),
     /// The reader gives all bytes. The writer takes a count of bytes, and then ends as this says.
     Writer(usize, End),
 }
 
 impl Streams {
-    /// Returns a reader that gives `bytes`, and then ends. After a failure it gives other bytes.
+    /// Returns a reader that gives `bytes`, and then ends as `self` says. After a failure it gives `AFTER_FAILURE`.
     pub fn reader(self, alloc: Global, bytes: &[u8]) -> Option<TestReader> {
         let end = match self {
             Streams::Reader(end) | Streams::Slow(end) => end,
@@ -60,7 +60,7 @@ impl Streams {
         Some(reader)
     }
 
-    /// Returns a writer that has memory for `most` bytes.
+    /// Returns a writer that takes bytes as `self` says. It has memory for `most` bytes.
     pub fn writer(self, alloc: Global, most: usize) -> Option<TestWriter> {
         let mut writer = TestWriter::new(alloc);
         writer.taken = Vec::with_capacity(alloc, most).ok()?;

@@ -17,19 +17,19 @@ pub trait Tried: Drop {
     /// The outcome of an event.
     type Outcome: Copy;
 
-    /// Returns the world after `events`.
+    /// Returns the world after `events`, from the first world on. Two sides are of `txn`.
     fn after(alloc: Global, txn: &TxnId, events: &[Self::Event]) -> Result<Self, OutOfMemory>;
 
-    /// Performs an event.
+    /// Performs an event, and returns its outcome.
     fn happen(&mut self, alloc: Global, event: &Self::Event) -> Result<Self::Outcome, OutOfMemory>;
 
     /// Performs a round.
     fn perform_round(&mut self, alloc: Global) -> Result<(), OutOfMemory>;
 
-    /// Prints the state of both sides.
+    /// Prints the part of the world that a test shows: both sides, with states, due dates and counts of messages.
     fn print(&self, alloc: Global, page: &mut Page) -> Option<()>;
 
-    /// Prints the parts of the world that `print` leaves out.
+    /// Prints all fields of the sides of the world. By these a test finds a change that `print` does not show.
     fn print_more(&self, alloc: Global, page: &mut Page) -> Option<()>;
 }
 
@@ -92,9 +92,9 @@ pub fn print_exchange<W: Tried>(alloc: Global, page: &mut Page, events: &[W::Eve
 /// The world after a round.
 #[derive(Drop)]
 struct AfterRound {
-    /// The printed state of both sides.
+    /// The part that `print` prints.
     shown: Page,
-    /// The printed state of the whole world.
+    /// The parts that `print` and `print_more` print.
     all: Page,
     /// True if a growth of the round was refused, and a further round was performed.
     is_refused: bool,
@@ -119,7 +119,7 @@ fn exchange<W: Tried>(alloc: Global, world: &mut W) -> Option<AfterRound> {
     })
 }
 
-/// Returns a page of the whole world.
+/// Returns a page with all that `print` and `print_more` print of the world.
 fn all_of<W: Tried>(alloc: Global, world: &W) -> Option<Page> {
     let mut page = Page::new(alloc);
     world.print(alloc, &mut page)?;

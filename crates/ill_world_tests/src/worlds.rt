@@ -1,4 +1,5 @@
-//! Performs events of two sides as values, one by one or as a list, and prints the world after them.
+//! Performs events of two sides as values, one by one or as a list, and prints the world after them. A function that
+//! returns `None` was given an unknown name, or has no memory.
 
 use crate::events::events;
 use crate::list::EventList;
@@ -30,11 +31,12 @@ impl Tried for World {
         self.exchange(alloc)
     }
 
+    /// Prints a part of both sides, with their issued messages, and the request that the responder has taken.
     fn print(&self, alloc: Global, page: &mut Page) -> Option<()> {
         print_world(alloc, page, self)
     }
 
-    /// Prints each field of the world, with the landed records and the sent messages.
+    /// Prints all fields of the world, also the landed records and the sent messages, of which `print` prints nothing.
     fn print_more(&self, _alloc: Global, page: &mut Page) -> Option<()> {
         page.show_parts(self);
         Some(())
@@ -102,7 +104,7 @@ fn takes_no_memory(outcome: Outcome) -> bool {
     )
 }
 
-/// Performs an event as a quiet call.
+/// Performs an event as a quiet call, which takes no memory, and returns its outcome.
 fn again(alloc: Global, world: &mut World, event: &Event) -> Result<Outcome, OutOfMemory> {
     marks::begin_quiet(alloc);
     let answer = world.step(alloc, event);
@@ -173,7 +175,7 @@ fn print_world(alloc: Global, page: &mut Page, world: &World) -> Option<()> {
     Some(())
 }
 
-/// Returns the parts of the requester.
+/// Returns the parts of the requester that are printed.
 fn seen_requester(world: &World) -> Seen<'_> {
     let side = world.requester();
     Seen {
@@ -185,7 +187,7 @@ fn seen_requester(world: &World) -> Seen<'_> {
     }
 }
 
-/// Returns the parts of the responder.
+/// Returns the parts of the responder that are printed.
 fn seen_responder(world: &World) -> Seen<'_> {
     let side = world.responder();
     Seen {
@@ -197,7 +199,8 @@ fn seen_responder(world: &World) -> Seen<'_> {
     }
 }
 
-/// Prints the state of a side, and the messages that it has issued.
+/// Prints a line with the role, the state, the due date and the counts of messages of a side. Then prints a line for
+/// each message that the side has issued.
 fn print_side(alloc: Global, page: &mut Page, side: &Seen<'_>) -> Option<()> {
     page.text(side.name);
     page.text(" ");
@@ -219,7 +222,7 @@ fn print_side(alloc: Global, page: &mut Page, side: &Seen<'_>) -> Option<()> {
     Some(())
 }
 
-/// Prints the bytes of a message.
+/// Prints the bytes of a message as hexadecimal digits.
 fn print_message(alloc: Global, page: &mut Page, apdu: &Apdu) -> Option<()> {
     page.text(" ");
     page.hex(&encode(alloc, apdu).ok()?);

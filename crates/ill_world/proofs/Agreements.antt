@@ -112,7 +112,8 @@ shipped_is_later y txn requester_sent responder_stands shipped e =
     let both : true ≡ false = sym shipped ∙ no in
     search rules
 
--- If the responder is in CANCELLED, the requester is neither in NOT-SUPPLIED nor in SHIPPED or later.
+-- If the responder is in CANCELLED, the requester is neither in NOT-SUPPLIED nor in SHIPPED or later. Each of these
+-- states would put the responder in another one.
 no_other_end : (txn : Qualifiers) (x : RequesterRecord) (y : ResponderRecord) (responder_sent requester_sent : List (Option Apdu))
     → RequesterInvariant txn x responder_sent → ResponderInvariant txn y requester_sent → AreIssued responder_sent y.issued
     → y.state ≡ states.Cancelled → is_among (states.NotSupplied ∷ later) x.state ≡ false
@@ -136,7 +137,8 @@ no_other_end txn x y responder_sent requester_sent requester_stands responder_st
 body_of : (a b : Apdu) → ◌≡◌ {A = Option Apdu} (Some a) (Some b) → a.body ≡ b.body
 body_of a b e = let same : a ≡ b = search rules in ap (λ (x : Apdu). x.body) same
 
--- If the responder has issued a Cancel-Reply yes to c, Cancel c is open at the requester.
+-- If the responder has issued a Cancel-Reply yes to c, Cancel c is open at the requester. The requester has issued it,
+-- and has had no other end of the request.
 pub cancel_is_open : (txn : Qualifiers) (x : RequesterRecord) (y : ResponderRecord)
     (responder_sent requester_sent : List (Option Apdu))
     → RequesterInvariant txn x responder_sent → ResponderInvariant txn y requester_sent → AreIssued responder_sent y.issued

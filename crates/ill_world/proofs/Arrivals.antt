@@ -152,7 +152,8 @@ tells_end (types.IllAnswer answer) is = is
 tells_end types.Expired is = tt
 tells_end body is = search rules
 
--- If the requester takes a Shipped that the responder has issued, it gets to SHIPPED or later.
+-- If the requester takes a Shipped that the responder has issued, it gets to SHIPPED or later. Before, it is in none of
+-- IDLE, CANCELLED and NOT-SUPPLIED.
 shipped_arrives : TransitionsSettle
     → (txn : Qualifiers) (x : RequesterRecord) (y : ResponderRecord) (responder_sent requester_sent : List (Option Apdu)) (n : ℕ)
     (a : Apdu) (due : Date)
@@ -173,7 +174,8 @@ shipped_arrives rows txn x y responder_sent requester_sent n a due requester_sta
     (λ e. not_unsupplied y.state (not_supplied_faces txn x y responder_sent requester_sent requester_stands responder_stands
     issued e) shipped))
 
--- If the requester takes an end without the item that the responder has issued, it gets to NOT-SUPPLIED.
+-- If the requester takes an end without the item that the responder has issued, it gets to NOT-SUPPLIED. Before, it is
+-- in none of IDLE, CANCELLED, SHIPPED and later.
 end_arrives : TransitionsSettle
     → (txn : Qualifiers) (x : RequesterRecord) (y : ResponderRecord) (responder_sent requester_sent : List (Option Apdu)) (n : ℕ)
     (a : Apdu)
@@ -202,7 +204,8 @@ both_of : (a b : Bool) → (a && b) ≡ true → (a ≡ true) × (b ≡ true)
 both_of true b is = (refl, is)
 both_of false b is = search rules
 
--- If the requester takes a Cancel-Reply yes that the responder has issued, it gets to CANCELLED.
+-- If the requester takes a Cancel-Reply yes that the responder has issued, it gets to CANCELLED. Before, the answered
+-- Cancel is open (`cancel_is_open`).
 yes_arrives : TransitionsSettle
     → (txn : Qualifiers) (x : RequesterRecord) (y : ResponderRecord) (responder_sent requester_sent : List (Option Apdu))
     (n c : ℕ) (a : Apdu)
@@ -311,7 +314,8 @@ shipped_before txn x y responder_sent requester_sent n a requester_stands respon
     shipped_by txn x y responder_sent requester_sent x.due requester_stands responder_stands issued refl
     (requester_stands.rules.parts.due ∙ returned_is_later x.state returned)
 
--- If the responder takes a Returned that the requester has issued, it gets to RETURNED or CHECKED-IN.
+-- If the responder takes a Returned that the requester has issued, it gets to RETURNED or CHECKED-IN. Before, it is in
+-- SHIPPED or later (`shipped_before`).
 returned_arrives : TransitionsSettle
     → (txn : Qualifiers) (x : RequesterRecord) (y : ResponderRecord) (responder_sent requester_sent : List (Option Apdu)) (n : ℕ)
     (a : Apdu)

@@ -133,7 +133,8 @@ not_both txn another txns none is = go (is_same_txn another txn) refl
     go true same = absurd (true≢false (sym (subst (λ t. is_one_of t txns ≡ true) (same_is another txn same) is) ∙ none))
     go false same = refl
 
--- If no transaction is twice in `these`, and each is one of `those`, `these` is not longer than `those`.
+-- If no transaction is twice in `these`, and each is one of `those`, `these` is not longer than `those`. The proof
+-- takes the first member of `these` out of both.
 no_more : (these those : List Qualifiers) → AreApart these → AreAmong these those → length these ≤ length those
 no_more [] those apart among = omega arith
 no_more (txn ∷ these) those apart among =
@@ -486,7 +487,8 @@ unheld_is_not_sent w txn n stands none = go (sent_message (sent_for txn w.respon
     go None e = ap (λ o. (desk_receives w.requester o).0) e
     go (Some a) e = absurd (none_sent w stands txn n a e none)
 
--- If the requester has sent in a transaction, the responder's desk holds it, or has room for it.
+-- If the requester has sent a message in `txn`, the responder's desk holds `txn`, or has room for it. Otherwise the
+-- responder's desk has 1,000 transactions, and the requester's desk has all these and `txn`.
 responder_room : (w : DeskParties) → DesksInvariant w → (txn : Qualifiers) (n : ℕ) (a : Apdu)
     → sent_message (sent_for txn w.requester.sent) n ≡ Some a → found_by txn_held txn w.responder.live.held ≡ None
     → nat_lt (length w.responder.live.held) 1000 ≡ false → ⊥

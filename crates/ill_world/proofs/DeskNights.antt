@@ -33,6 +33,7 @@ use Rattle.ill_world.proofs.DeskRounds.{shown, sides_alike, held_apart}
 
 -- ---- the sides that `wants` selects
 
+-- A side is selected if `wants` is true of it.
 module _ (wants : Side → Bool) where
   -- If no side is of `txn`, no selected side is.
   none_wanted : (txn : Qualifiers) (all : List Side) → is_one_of txn (map txn_of all) ≡ false
@@ -110,6 +111,8 @@ module _ (wants : Side → Bool) where
 abbrev passes_of : Role → Side → List Event
 passes_of role side = sends_and_delivers role 1 (length (issued_of side))
 
+-- At two desks that satisfy `DesksInvariant`, `Projects` and `ReachesSide` hold of each event, which keeps
+-- `DesksInvariant`.
 module _ (projects : EachProjects) (reaches : EachReaches) (after : EachStands) (txn : Qualifiers) where
   -- In `txn` the half of a night of two desks is the half of a night of two parties. If `wants` holds of the side of
   -- `txn`, all its messages are passed on. Else the half is a save.
@@ -120,24 +123,31 @@ module _ (projects : EachProjects) (reaches : EachReaches) (after : EachStands) 
   half_if_alike wants w role stands =
       saved_alike ∙ go (wants side) ∙ ap (λ (p : Party). run_of v (half_if (wants p.live) role v)) (sym (shown txn w role))
     where
+      -- Returns the projection to `txn` before the half.
       v : Parties
       v = project txn w
 
+      -- Returns the live contents of the desk `role`.
       live : DeskContents
       live = (party w role).live
 
+      -- Returns the idle side of `txn` at this desk.
       idle : Side
       idle = idle_side live.role txn
 
+      -- Returns the side of `txn` at this desk, or `idle`.
       side : Side
       side = (held_for txn live).side
 
+      -- Returns all sides that this desk holds.
       all : List Side
       all = (sides_held live).sides
 
+      -- Returns the desks after the save.
       saved : DeskParties
       saved = (desks_happen w (desk_events.Save role)).1
 
+      -- No two of the held sides are of one transaction.
       apart : AreApart (map txn_of all)
       apart = held_apart projects reaches after txn w role stands
 

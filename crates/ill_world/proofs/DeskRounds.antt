@@ -133,6 +133,8 @@ begins_in_room : (has_room : Bool) (found : Option DeskEntry) → Reaches false 
 begins_in_room has_room (Some held) reaches = reaches
 begins_in_room has_room None reaches = search rules
 
+-- At two desks that satisfy `DesksInvariant`, `Projects` and `ReachesSide` hold of each event, which keeps
+-- `DesksInvariant`.
 module _ (projects : EachProjects) (reaches : EachReaches) (after : EachStands) (txn : Qualifiers) where
   -- The projection to `txn` after an event of two desks is the world after the event of two parties.
   abbrev HappensAlike : DeskParties → DeskEvent → Type 0
@@ -159,15 +161,19 @@ module _ (projects : EachProjects) (reaches : EachReaches) (after : EachStands) 
   send_alike w role n stands = alike w event (same_self txn) stands
       (λ full. begins_in_room has_room found (reached DeskFull full)) stays
     where
+      -- Returns the Send at the desk `role`.
       event : DeskEvent
       event = desk_events.Send role txn n
 
+      -- Returns the projection to `txn` before the Send.
       v : Parties
       v = project txn w
 
+      -- Returns true if the desk holds fewer than 1,000 sides.
       has_room : Bool
       has_room = nat_lt (length (party w role).live.held) 1000
 
+      -- Returns the entry of `txn`, if the desk holds one.
       found : Option DeskEntry
       found = found_by txn_held txn (party w role).live.held
 
@@ -193,9 +199,11 @@ module _ (projects : EachProjects) (reaches : EachReaches) (after : EachStands) 
       (subst (Reaches (is_ill_request a.body) has_room found) missed
       (reaches w (desk_events.Deliver role txn n) stands a sent)))
     where
+      -- Returns true if the desk `role` holds fewer than 1,000 sides.
       has_room : Bool
       has_room = nat_lt (length (party w role).live.held) 1000
 
+      -- Returns the entry of `txn`, if the desk `role` holds one.
       found : Option DeskEntry
       found = found_by txn_held txn (party w role).live.held
 
@@ -216,9 +224,11 @@ module _ (projects : EachProjects) (reaches : EachReaches) (after : EachStands) 
   deliver_alike : (w : DeskParties) (role : Role) (n : ℕ) → DesksInvariant w → HappensAlike w (desk_events.Deliver role txn n)
   deliver_alike w role n stands = alike w event (same_self txn) stands (λ full. finds_room reaches w role txn n stands full) stays
     where
+      -- Returns the delivery at the desk `role`.
       event : DeskEvent
       event = desk_events.Deliver role txn n
 
+      -- Returns the projection to `txn` before the delivery.
       v : Parties
       v = project txn w
 
@@ -300,9 +310,11 @@ module _ (projects : EachProjects) (reaches : EachReaches) (after : EachStands) 
       ap (project txn) (passes_both w role side more)
       ∙ go (is_same_txn txn (txn_of side)) refl (sides_alike next role idle nothing more apart.1 next_stands)
     where
+      -- Returns the desks after the messages of `side` were passed on.
       next : DeskParties
       next = desks_run w (passes_side role side)
 
+      -- These desks satisfy `DesksInvariant`.
       next_stands : DesksInvariant next
       next_stands = desks_stand_on after w (passes_side role side) stands
 
@@ -347,12 +359,15 @@ module _ (projects : EachProjects) (reaches : EachReaches) (after : EachStands) 
       ∙ ap (λ (p : Party). run_of (project txn w) (events.Save role ∷ sends_and_delivers role 1 (length (issued_of p.live))))
       (sym (shown txn w role))
     where
+      -- Returns the live contents of the desk `role`.
       live : DeskContents
       live = (party w role).live
 
+      -- Returns the idle side of `txn` at this desk.
       idle : Side
       idle = idle_side live.role txn
 
+      -- Returns the desks after the save.
       saved : DeskParties
       saved = (desks_happen w (desk_events.Save role)).1
 

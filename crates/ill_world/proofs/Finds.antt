@@ -99,7 +99,8 @@ was_last says txn apdus n numbered is =
     let number = message_number txn apdus found.0 found.1 numbered found.2 in
     (found.1, subst (λ k. message apdus k ≡ Some found.1) (sym number.1 ∙ said.1) found.2, said.0, said.1)
 
--- If the numbers of a list begin after `number`, the last number found from `number` on is not below it.
+-- If the numbers of a list begin at `first`, after `number`, the last number found is not below `number`. `number` is
+-- the value found before the list.
 last_from_there : (says : Body → Bool) (txn : Qualifiers) (first number : ℕ) (apdus : List Apdu) (n : ℕ)
     → are_numbered txn first apdus ≡ true → number < first
     → last_or (Some number) (filter_map (number_if says) apdus) ≡ Some n → number ≤ n
@@ -114,7 +115,8 @@ last_from_there says txn first number apdus n numbered below last = go (last_fro
         let said = said_it (says a.body) a.number n is in
         omega (arith, below, there.1, said.1)
 
--- The last number found is not below the number of an APDU of which `says` holds.
+-- The last number found is not below the number of an APDU of which `says` holds. The list is numbered from `first` on,
+-- and `o` is the value found before it.
 last_not_below : (says : Body → Bool) (txn : Qualifiers) (first : ℕ) (o : Option ℕ) (apdus : List Apdu) (i : ℕ) (a : Apdu) (n : ℕ)
     → are_numbered txn first apdus ≡ true → slice_get apdus i ≡ Some a
     → says a.body ≡ true → last_or o (filter_map (number_if says) apdus) ≡ Some n → a.number ≤ n
@@ -151,7 +153,7 @@ last_some : {X : Type 0} (o : Option X) (xs : List X) (x : X) → (last : X) × 
 last_some o [] x = (x, refl)
 last_some o (y ∷ xs) x = last_some (Some x) xs y
 
--- If `says` holds of an APDU of the list, a last number is found.
+-- If `says` holds of an APDU of the list, a last number is found. `o` is the value found before the list.
 pub has_last : (says : Body → Bool) (o : Option ℕ) (apdus : List Apdu)
     → list_any (λ (a : Apdu). says a.body) apdus ≡ true
     → (n : ℕ) × (last_or o (filter_map (number_if says) apdus) ≡ Some n)

@@ -138,6 +138,7 @@ nothing_passes w [] is none = ap
     (λ (l : List Apdu). (run_of w (Save who.Requester ∷ sends_and_delivers who.Requester 1 (length l))).responder.live) is
 nothing_passes w (a ∷ apdus) is none = search rules
 
+-- Each event keeps the invariant of `txn` (`after`).
 module _ (txn : Qualifiers) (after : (w : Parties) (event : Event) → Invariant txn w → Invariant txn (happens w event).1) where
   -- If the loan is open for the requester, the responder sends its messages after the requester's half.
   responder_wants : (w : Parties) → Invariant txn w → is_over w.requester.live ≡ false
@@ -148,6 +149,7 @@ module _ (txn : Qualifiers) (after : (w : Parties) (event : Event) → Invariant
       between : Parties
       between = run_of w (half_of who.Requester w)
 
+      -- This world satisfies the invariant.
       stands_between : Invariant txn between
       stands_between = run_stands txn after w (half_of who.Requester w) stands
 

@@ -161,6 +161,7 @@ plain_reopens first second plain order dates = search rules
 
 -- ---- the responder, while it takes all messages of the requester
 
+-- The facts of the tables hold (`rows`).
 module _ (rows : TransitionsHear) where
   -- A responder that takes APDUs keeps all messages that it has issued.
   responder_grows : (y : ResponderRecord) (apdus : List Apdu) → IsPrefix y.issued (taking lends y apdus).issued
@@ -217,6 +218,8 @@ module _ (rows : TransitionsHear) where
 
   -- ---- both records
 
+  -- Requester `x` and responder `y` are the records before a round. `responder_sent` and `requester_sent` are the
+  -- messages sent before it. After it the requester has sent `requester_sent_after`.
   module _ (txn : Qualifiers) (x : RequesterRecord) (y : ResponderRecord)
       (responder_sent requester_sent requester_sent_after : List (Option Apdu)) where
     -- Returns the responder after it takes all messages of the requester.

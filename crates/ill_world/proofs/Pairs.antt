@@ -670,7 +670,8 @@ module _ (txn : Qualifiers) (x : RequesterRecord) (y : ResponderRecord) (respond
       (hear.requester found.0 found.1 found.2 (cancel_reply_is_plain found.1.body n found.3)))
       (and_from _ _ is (itself n (last_cancel x) last))
 
-  -- A requester in CANCEL-PENDING does not face an undecided responder.
+  -- A requester in CANCEL-PENDING does not face an undecided responder. This one has taken and answered the last
+  -- Cancel, which `cancel_answered` excludes.
   not_open : is_among (states.CancelPending ∷ []) x.state ≡ true → is_among records.undecided y.state ≡ true → ⊥
   not_open is is_open =
       let own = has_last is_cancel None x.issued (implied _ _ borrower.rules.issued.cancel (cancel_pending_alone x.state is).5) in
@@ -688,7 +689,8 @@ module _ (txn : Qualifiers) (x : RequesterRecord) (y : ResponderRecord) (respond
       cancel_left y.state lender.rules.parts.role (sym idle_alike ∙ no.0) (sym cancelled_alike ∙ no.1)
       (sym unsupplied_alike ∙ no.2) (sym later_alike ∙ no.3) (false_from_ne_true _ (not_open is))
 
-  -- The last Cancel of a responder in CANCEL-PENDING is open at the requester.
+  -- The last Cancel of a responder in CANCEL-PENDING is open at the requester. Otherwise the requester would claim its
+  -- refusal, but the responder has not answered it yet.
   cancel_is_waiting : (c : ℕ) → is_among (states.CancelPending ∷ []) y.state ≡ true → y.last_cancel ≡ Some c
       → requester.is_open x c ≡ true
   cancel_is_waiting c is last =
@@ -763,7 +765,8 @@ module _ (txn : Qualifiers) (x : RequesterRecord) (y : ResponderRecord) (respond
 
   -- ---- RENEW/PENDING and RENEW/OVERDUE
 
-  -- If the requester awaits the answer to Renew n, the responder has not granted it.
+  -- If the requester awaits the answer to Renew n, the responder has not granted it. The date of this grant would be
+  -- after the due date, and `has_heard` would not hold of it.
   not_granted : (n : ℕ) (due granted : Date) (i : ℕ) (a : Apdu) → 0 < n → is_awaiting_answer x n ≡ true → x.due ≡ Some due
       → message y.issued i ≡ Some a → a.body ≡ types.RenewAnswer n (Some granted) → ⊥
   not_granted n due granted i a some waits is at body =
@@ -793,7 +796,8 @@ module _ (txn : Qualifiers) (x : RequesterRecord) (y : ResponderRecord) (respond
   message_some apdus zero a at = search rules
   message_some apdus (suc n) a at = omega arith
 
-  -- A requester in RENEW/PENDING or RENEW/OVERDUE does not face a responder in SHIPPED or OVERDUE.
+  -- A requester in RENEW/PENDING or RENEW/OVERDUE does not face a responder in SHIPPED or OVERDUE. This one has taken
+  -- and answered the last Renew, which `renew_answered` excludes.
   not_settled : is_among (states.RenewPending ∷ states.RenewOverdue ∷ []) x.state ≡ true
       → is_among (states.Shipped ∷ states.Overdue ∷ []) y.state ≡ true → ⊥
   not_settled is settled =
@@ -816,7 +820,8 @@ module _ (txn : Qualifiers) (x : RequesterRecord) (y : ResponderRecord) (respond
       renew_left y.state (sym later_alike ∙ no.0) (sym recalled_alike ∙ no.2) (sym returned_alike ∙ no.3)
       (false_from_ne_true _ (not_settled is))
 
-  -- If the responder is in RENEW/PENDING or RENEW/OVERDUE, the requester awaits the answer to its last Renew.
+  -- If the responder is in RENEW/PENDING or RENEW/OVERDUE, the requester awaits the answer to its last Renew. Otherwise
+  -- it would reflect an answer, but the responder has given none yet.
   renew_is_waiting : (n : ℕ) → is_among (states.RenewPending ∷ states.RenewOverdue ∷ []) y.state ≡ true → y.last_renew ≡ Some n
       → is_awaiting_answer x n ≡ true
   renew_is_waiting n is last =
@@ -851,7 +856,8 @@ module _ (txn : Qualifiers) (x : RequesterRecord) (y : ResponderRecord) (respond
 
   -- ---- due dates
 
-  -- If the requester is in neither RECALL nor RETURNED, no Renew-Answer grants a date after its due date.
+  -- If the requester is in neither RECALL nor RETURNED, no Renew-Answer grants a date after its due date. The requester
+  -- reflects this answer, so that a message attests it: the answer itself.
   answer_not_after : (c : ℕ) (due granted : Date) (j : ℕ) (b : Apdu) → x.due ≡ Some due
       → is_among (states.Recall ∷ states.Returned ∷ []) x.state ≡ false → message y.issued j ≡ Some b
       → b.body ≡ types.RenewAnswer c (Some granted) → is_before due granted ≡ false
@@ -969,7 +975,9 @@ module _ (txn : Qualifiers) (x : RequesterRecord) (y : ResponderRecord) (respond
 
   -- ---- CONDITIONAL
 
-  -- A requester in PENDING does not face a responder in CONDITIONAL.
+  -- A requester in PENDING does not face a responder in CONDITIONAL. The last message of the responder names
+  -- conditions, and by `has_heard` the requester has accepted them. But by `has_heard` the responder does not wait for
+  -- this yes.
   not_accepted : is_among (states.Conditional ∷ []) y.state ≡ true → is_among (states.Pending ∷ []) x.state ≡ true → ⊥
   not_accepted is pending =
       let at = last_names y.issued (implied _ _ lender.rules.issued.conditions is) in

@@ -110,7 +110,8 @@ unfolding takes_all
 has_passed_one_more who.Requester w new n a apdus has = record { live = has.live; taken = has.taken }
 has_passed_one_more who.Responder w new n a apdus has = record { live = has.live; taken = has.taken }
 
--- If a party may send `prefix ++ rest`, `sends_and_delivers` passes `rest` from the end of `prefix` on.
+-- If a party may send `prefix ++ rest`, `sends_and_delivers` passes `rest` from number n on. The first message of
+-- `rest` has this number.
 pass_all : (of : Role) (w : Parties) (n : ℕ) (prefix rest : List Apdu) → n ≡ length prefix + 1
     → MaySend (party w of) (prefix ++ rest) → HasPassed of w (run_of w (sends_and_delivers of n (length rest))) rest
 unfolding sends_and_delivers run_by takes_all

@@ -32,6 +32,7 @@ use Rattle.ill_world.proofs.Shelves.{BothLack, lack_elsewhere, group_in_order}
 
 -- ---- events that have their home at a group
 
+-- The desks are those of `group`.
 module _ (group : List ℕ) where
   -- Each of the events, given with `group`, has its home at `group`.
   abbrev pub AllAt : List DeskEvent → Type 0

@@ -1,4 +1,5 @@
-//! The laws of two desks of many transactions are the contracts of functions that do nothing.
+//! The laws of two desks of many transactions are the contracts of functions that do nothing. A law calls the laws on
+//! which its proof relies.
 
 ghost use Rattle.std.specs.Prelude.{◌≡◌, ◌++◌, ℕ, Bool, List, [], ◌∷◌, Option, Some, None, Result, Err};
 ghost use Rattle.ill_values.specs.TxnId.{Qualifiers};
@@ -46,7 +47,8 @@ pub fn desks_show_what_they_hold()
         × ProjectsTo w.responder txn (project txn w).responder }
 {}
 
-/// If two desks satisfy `DesksInvariant`, an event is one event of a transaction, or leaves the projection unchanged.
+/// If two desks satisfy `DesksInvariant`, an event is one event of each transaction, or leaves the projection to the
+/// transaction unchanged.
 pub fn desk_events_are_events()
     ensures { (txn : Qualifiers) (w : DeskParties) (event : DeskEvent) → DesksInvariant w →
         Projects txn w event }
@@ -68,7 +70,7 @@ pub fn desks_stand()
     ill_core::laws::responder_is_quiet();
 }
 
-/// The projection of two desks after any events is the world after the events of this transaction.
+/// The projection of two desks to a transaction, after any events, is the world after the events of this transaction.
 pub fn desk_runs_are_runs()
     ensures { (events : List DeskEvent) → IsRunOfEach events }
 {

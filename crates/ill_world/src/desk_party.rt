@@ -28,6 +28,7 @@ pub struct DeskParty {
     sent: DeskSent,
 }
 
+/// Contracts see a desk party as a desk of the model. Its next save works, and its landed sides can be read.
 impl Model for DeskParty {
     ghost Value = { desks.DeskParty };
 

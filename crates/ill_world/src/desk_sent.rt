@@ -21,6 +21,7 @@ pub struct DeskSent {
     map: IndexMap<TxnId, Sent>,
 }
 
+/// Contracts see the map as the list of its entries, in their order.
 impl Model for DeskSent {
     ghost Value = { List Sending };
 

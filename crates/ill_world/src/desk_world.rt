@@ -31,6 +31,7 @@ pub struct DeskWorld {
     responder: DeskParty,
 }
 
+/// Contracts see a world of desks as the two desks of the model, which satisfy `DesksInvariant`.
 impl Model for DeskWorld {
     ghost Value = { model.DeskParties };
 
@@ -75,7 +76,7 @@ impl DeskWorld {
     /// Then it does so for the responder's desk. If memory runs out, only a prefix of the events of the round has
     /// happened.
     ///
-    /// If the responder had ended the request before, or had a number left, both sides of the transaction are in step.
+    /// Both sides of a transaction are then in step, if its responder had ended the request or had numbers left.
     pub fn exchange(&mut self, alloc: Global) -> Result<(), OutOfMemory>
         ensures performs { Performs model.desks_run (desk_round_of self.old) self.old result self.new }
         ensures in_step { OnOk result ((txn : Qualifiers) →

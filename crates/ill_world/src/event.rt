@@ -71,8 +71,8 @@ impl Event {
     }
 }
 
-/// An event may happen to one of two desks of many transactions. An event of one transaction names it. An event of a
-/// whole desk happens in each transaction.
+/// An event may happen to one of two desks of many transactions. An event of one transaction names it. A save, a failed
+/// save and a restart of a desk happen in each transaction. Noise happens in none.
 #[derive(Debug, PartialEq, Eq, Drop)]
 pub enum DeskEvent {
     /// The requester's library has this wish, in this transaction.

@@ -1,4 +1,5 @@
-//! The laws of every world are the contracts of functions that do nothing.
+//! The laws of every world are the contracts of functions that do nothing. A law calls the laws on which its proof
+//! relies.
 
 ghost use Rattle.std.specs.Prelude.{◌≡◌, ◌↔◌, ◌⊎◌, ◌++◌, ◌∷◌, ◌<◌, ℕ, Bool, List, [], length, IsOk, Option, Some, Result, Ok, Err, true, false};
 ghost use Rattle.std.specs.declared.alloc.AllocError.{AllocError};

@@ -26,6 +26,7 @@ pub struct Party {
     sent: Sent,
 }
 
+/// Contracts see a party as one of the model. Its next save works, and its landed side can be read.
 impl Model for Party {
     ghost Value = { model.Party };
 

@@ -18,6 +18,7 @@ pub struct Sent {
     places: Vec<Option<Message>>,
 }
 
+/// Contracts see the list as it is, with 255 places. Each message is seen as its APDU.
 impl Model for Sent {
     ghost Value = { List (Option Apdu) };
 

@@ -1,4 +1,5 @@
-//! The laws of two shelves are the contracts of functions that do nothing. A shelf is a folder of desks of one library.
+//! The laws of two shelves are the contracts of functions that do nothing. A law calls the laws on which its proof
+//! relies. A shelf is a folder of desks of one library.
 
 ghost use Rattle.std.specs.Prelude.{◌≡◌, ◌++◌, ℕ, List, [], ◌∷◌, None};
 ghost use Rattle.ill_values.specs.TxnId.{Qualifiers};

@@ -32,6 +32,7 @@ pub struct World {
     responder: Party,
 }
 
+/// Contracts see a world as the two parties of the model, which satisfy `Invariant` of some transaction.
 impl Model for World {
     ghost Value = { model.Parties };
 

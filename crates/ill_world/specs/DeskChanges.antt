@@ -44,8 +44,8 @@ ReachesAt may_begin p txn outcome =
     Reaches may_begin (nat_lt (length p.live.held) 1000) (found_by txn_held txn p.live.held) outcome
 
 -- `ReachesAt` holds of an event that names a transaction, at its desk. Only a Request, and an ILL-Request that was
--- sent, may begin a new side. The delivery of a message that was not sent reaches no side. An event of a whole desk has
--- a plain outcome.
+-- sent, may begin a new side. Nothing is said of the delivery of a message that was not sent. An event of a whole desk
+-- has a plain outcome.
 abbrev pub ReachesSide : DeskParties → DeskEvent → Type 0
 ReachesSide w (Wish txn wish) =
     ReachesAt (begins (actions.Wish wish)) w.requester txn (desks_happen w (Wish txn wish)).0

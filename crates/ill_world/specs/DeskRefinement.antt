@@ -1,4 +1,4 @@
--- The model of two desks sees a desk by its memory, its store and its sent messages. These definitions relate both.
+-- The code has a desk in memory, its store and its sent messages. These definitions relate it to a desk of the model.
 use Rattle.std.specs.Prelude.{◌≡◌, true, List, map, Option, Some, None, Result, Ok, Err}
 use Rattle.std.specs.Map.{set_value}
 use Rattle.ill_values.specs.TxnId.{Qualifiers}

@@ -1,5 +1,5 @@
--- Safety holds in every world of every run: no side acts on a claim that the other's record contradicts. It is this
--- profile's own.
+-- Safety holds in every world of every run. The responder's record bears out the end, the Shipped and the due date of
+-- the requester's record. Safety is this profile's own.
 use Rattle.std.specs.Prelude.{◌≡◌, ℕ, true, List, Some, take}
 use Rattle.ill_values.specs.Day.{Date}
 use Rattle.ill_values.specs.declared.apdu.Apdu.{Apdu}

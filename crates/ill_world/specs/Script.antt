@@ -13,7 +13,7 @@ use Rattle.ill_words.specs.Words.{◌>>=◌, named, who_named, landed_named, day
 unfoldable pub words_of : List ℕ → List (List ℕ)
 words_of line = filter (λ word. not (length word == 0)) (slice_split (λ byte. byte == 0x20) line)
 
--- Returns the event of the words after `responder`: a day, and a deed.
+-- Returns the event of the words after `responder`: a day, and a deed. No due day is counted from another day.
 abbrev pub deed_event : List (List ℕ) → Option Event
 deed_event [] = None
 deed_event (today ∷ words) = do
@@ -21,11 +21,11 @@ deed_event (today ∷ words) = do
   deed ← deed_of None words
   Some (Deed deed day)
 
--- Returns the event of a verb and the side `who`, without further words.
+-- Returns the event of a verb and the side `who`, without further words, if they say one.
 abbrev pub bare_event : List ℕ → Role → Option Event
 bare_event verb who = named ((codes "save", Save who) ∷ (codes "restart", Restart who) ∷ []) verb
 
--- Returns the event of a verb, the side `who` and one more word.
+-- Returns the event of a verb, the side `who` and one more word, if they say one.
 abbrev pub event_with : List ℕ → List ℕ → Role → Option Event
 event_with verb word who =
     if bytes_eq verb (codes "save-fault") then option_map (SaveFault who) (landed_named word)
@@ -34,7 +34,7 @@ event_with verb word who =
     else if bytes_eq verb (codes "noise") then option_map (Noise who) (bytes_of word)
     else None
 
--- Returns the event of a verb and the words after it. The first of these names a side.
+-- Returns the event of a verb and the words after it, if they say one. The first of these words names a side.
 abbrev pub side_event : List ℕ → List (List ℕ) → Option Event
 side_event verb (side ∷ []) = who_named side >>= bare_event verb
 side_event verb (side ∷ word ∷ []) = who_named side >>= event_with verb word

@@ -47,8 +47,8 @@ pub fn desks_show_what_they_hold()
         × ProjectsTo w.responder txn (project txn w).responder }
 {}
 
-/// If two desks satisfy `DesksInvariant`, an event is one event of each transaction, or leaves the projection to the
-/// transaction unchanged.
+/// If two desks satisfy `DesksInvariant`, an event is for each transaction one of its events, or leaves the projection
+/// unchanged.
 pub fn desk_events_are_events()
     ensures { (txn : Qualifiers) (w : DeskParties) (event : DeskEvent) → DesksInvariant w →
         Projects txn w event }

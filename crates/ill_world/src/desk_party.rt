@@ -105,6 +105,7 @@ impl DeskParty {
         match self.desk.save(alloc) {
             Err(DeskFault::Store(StoreFault::Failed)) => Ok(DeskOutcome::Plain(Outcome::Faulted)),
             Err(DeskFault::OutOfMemory) => {
+                // The event has not happened, so that the next call of the store must work again.
                 self.desk.set_next(NextCall::Works);
                 Err(OutOfMemory)
             }

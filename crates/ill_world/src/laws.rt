@@ -421,8 +421,8 @@ pub fn a_copy_with_all_that_was_sent_may_be_put_back()
     was_granted();
 }
 
-/// An older copy, which lacks a sent message, may not be put back. A run leads to a world in which the sides contradict
-/// each other after it.
+/// An older copy, which lacks a sent message, may not be put back. A run leads to a world that is not safe after such a
+/// copy was put back.
 #[tactic(auto, using(crate::proofs::Copies::older_is_unsafe))]
 pub fn no_older_copy_may_be_put_back()
     ensures { Safe older_copy_back → ⊥ }

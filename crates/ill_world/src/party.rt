@@ -102,6 +102,7 @@ impl Party {
         match self.desk.save(alloc) {
             Err(DeskFault::Store(StoreFault::Failed)) => Ok(Outcome::Faulted),
             Err(DeskFault::OutOfMemory) => {
+                // The event has not happened, so that the next call of the store must work again.
                 self.desk.set_next(NextCall::Works);
                 Err(OutOfMemory)
             }

@@ -22,6 +22,7 @@ const OTHER_CANCEL: &[u8] = b"\x66\x10\x80\x01\x01\xA1\x08\x81\x02G1\x82\x02T2\x
 /// The events of two desks.
 type Events = EventList<DeskEvent>;
 
+/// The transaction of two sides (`_txn`) is not used. Each event names its own.
 impl Tried for DeskWorld {
     type Event = DeskEvent;
 

@@ -45,6 +45,7 @@ pub struct Session {
     block: Block,
 }
 
+/// A line that begins with `INDENT` is an old answer, and is dropped. A line that is no case is told on the page.
 impl Lines for Session {
     fn perform(&mut self, page: &mut Page, line: &str) {
         if !line.starts_with(INDENT) && self.take(page, line).is_none() {

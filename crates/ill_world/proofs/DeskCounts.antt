@@ -218,7 +218,7 @@ module _ (May : Qualifiers → Type 0) (p : DeskParty) (of : Qualifiers) where
   reach_leads seen puts fails idle false may has_room room None e =
       subst (LeadsTo May p) (sym (fails faults.NoSuchTransaction)) (stays refl refl)
 
--- `May` holds of each transaction that an event may begin: that of a wish, or of a delivered message.
+-- `May` holds of each transaction that an event may begin: the transaction of a wish, or of a delivered message.
 abbrev pub Permits : (Qualifiers → Type 0) → List Sending → DeskEvent → Type 0
 Permits May partner_sent (desk_events.Wish of wish) = May of
 Permits May partner_sent (desk_events.Deliver role of n) =

@@ -28,7 +28,7 @@ sent_first : (txn : Qualifiers) (e : Qualifiers × List (Option Apdu)) (found : 
 sent_first txn e found there true further = refl
 sent_first txn e found there false further = further
 
--- The messages sent in `txn` are those of its entry, or none if it has no entry.
+-- The messages sent in `txn` are the messages of its entry, or none if it has no entry.
 pub sent_there : (txn : Qualifiers) (entries : Entries)
     → sent_for txn (sendings_of entries) ≡ found_or nothing_sent (lookup (is_same_txn txn) entries)
 sent_there txn [] = refl

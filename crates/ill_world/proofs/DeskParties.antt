@@ -1,4 +1,4 @@
--- The answers of a desk of many transactions are those of a desk of the model.
+-- A desk of many transactions gives the answers that a desk of the model gives.
 use Rattle.std.proofs.Common.{rules, length, ◌≡◌, Some, List, [], ℕ, Result, Ok, Err, refl, sym, ap, subst, ◌∙◌}
 use Rattle.ill_values.specs.declared.apdu.Apdu.{Apdu}
 use Rattle.ill_der.specs.declared.fault.DerFault.{DerFault}

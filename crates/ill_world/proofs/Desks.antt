@@ -320,7 +320,7 @@ unchanged false expected old new (Plain outcome) seen changes same =
 unchanged own expected old new NoSuchTransaction seen changes same = seen
 unchanged own expected old new DeskFull seen changes same = seen
 
--- If each outcome of two parties allows its change, so does each outcome of two desks.
+-- If `MayChange` holds of each event of two parties, `DeskMayChange` holds of each event of two desks.
 pub desk_changes : EachProjects
     → ((w : Parties) (event : Event) → MayChange OnlyLandedChanges (happens w event).0 w (happens w event).1)
     → (txn : Qualifiers) (w : DeskParties) (event : DeskEvent) → DesksInvariant w

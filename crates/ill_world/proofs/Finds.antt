@@ -26,7 +26,7 @@ last_from : {X : Type 0} (f : Apdu → Option X) (o : Option X) (apdus : List Ap
 last_from f o [] x is = inl is
 last_from {X = X} f o (a ∷ apdus) x is = go (f a) refl (λ p. last_from f p apdus x) is
   where
-    -- If `f` finds nothing in `a`, the last value is that of the rest. Otherwise `y` stands before the rest.
+    -- If `f` finds nothing in `a`, the last value is the last of the rest. Otherwise `y` stands before the rest.
     go : (found : Option X) → f a ≡ found
         → ((p : Option X) → last_or p (filter_map f apdus) ≡ Some x → (p ≡ Some x) ⊎ Finds f apdus x)
         → last_or o (cons_option found (filter_map f apdus)) ≡ Some x
@@ -106,7 +106,7 @@ last_from_there : (says : Body → Bool) (txn : Qualifiers) (first number : ℕ)
     → last_or (Some number) (filter_map (number_if says) apdus) ≡ Some n → number ≤ n
 last_from_there says txn first number apdus n numbered below last = go (last_from (number_if says) (Some number) apdus n last)
   where
-    -- The last number is `number` itself, or that of a later APDU.
+    -- The last number is `number` itself, or the number of a later APDU.
     go : (◌≡◌ {A = Option ℕ} (Some number) (Some n)) ⊎ Finds (number_if says) apdus n → number ≤ n
     go (inl e) = let is_n : number ≡ n = search rules in omega (arith, is_n)
     go (inr (zero, a, at, is)) = search rules
@@ -135,7 +135,7 @@ last_not_below says txn first o (b ∷ apdus) zero a n numbered at is last =
 last_not_below says txn first o (b ∷ apdus) (suc i) a n numbered at is last =
     go (number_if says b) (λ p. last_not_below says txn (first + 1) p apdus i a n (and_parts _ _ numbered).1 at is) last
   where
-    -- The number found in `b`, or none, stands before those of the rest.
+    -- The number found in `b`, or none, stands before the numbers of the rest.
     go : (found : Option ℕ) → ((p : Option ℕ) → last_or p (filter_map (number_if says) apdus) ≡ Some n → a.number ≤ n)
         → last_or o (cons_option found (filter_map (number_if says) apdus)) ≡ Some n → a.number ≤ n
     go None rest last = rest o last

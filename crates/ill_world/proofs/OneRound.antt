@@ -195,7 +195,7 @@ module _ (rows : TransitionsHear) where
   not_undecided states.NotSupplied is undecided = search rules
   not_undecided s is undecided = search rules
 
-  -- If a state is that of the end by an ILL-Answer unfilled (first premise), it is NOT-SUPPLIED.
+  -- If an ILL-Answer unfilled has ended the request in state `s` (first premise), `s` is NOT-SUPPLIED.
   ends_there : (s : State) → (true && is_among (states.NotSupplied ∷ []) s
       || (false && is_among (states.Cancelled ∷ []) s || false && is_among later s)) ≡ true
       → is_among (states.NotSupplied ∷ []) s ≡ true

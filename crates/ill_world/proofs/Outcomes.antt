@@ -65,7 +65,7 @@ deed_line y deed today = search rules
 number_seen : (apdus : List Apdu) → is_seen (next_number apdus) ≡ true
 number_seen apdus = search rules
 
--- If the row and the number give only refusals that can be an outcome, so does the wish.
+-- If the row and the number give only refusals that can be an outcome, the wish gives only such refusals.
 wish_done : (x : RequesterRecord) (line : Result requester_actions.Transition Refusal) (number : Result ℕ Refusal)
     → is_seen line ≡ true
     → is_seen number ≡ true → is_seen (requester_actions.acts_by x line number) ≡ true
@@ -73,7 +73,7 @@ wish_done x (Err refusal) number first second = first
 wish_done x (Ok line) (Err refusal) first second = second
 wish_done x (Ok line) (Ok number) first second = refl
 
--- If the row and the number give only refusals that can be an outcome, so does the deed.
+-- If the row and the number give only refusals that can be an outcome, the deed gives only such refusals.
 deed_done : (y : ResponderRecord) (line : Result responder_actions.Transition Refusal) (number : Result ℕ Refusal)
     → is_seen line ≡ true
     → is_seen number ≡ true → is_seen (responder_actions.acts_by y line number) ≡ true

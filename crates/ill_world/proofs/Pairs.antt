@@ -888,8 +888,8 @@ module _ (txn : Qualifiers) (x : RequesterRecord) (y : ResponderRecord) (respond
   last_not_after due granted i j a b is out_there at_i is_a at_j is_b not_earlier =
       go (grant_kind a.body due is_a) (grant_kind b.body granted is_b)
     where
-      -- Either date is that of a Shipped or of a Renew-Answer yes. There is one Shipped at most, and later grants have
-      -- later dates.
+      -- A Shipped or a Renew-Answer yes grants either date. There is one Shipped at most, and later grants have later
+      -- dates.
       go : (a.body ≡ types.Shipped due) ⊎ ((c : ℕ) × (a.body ≡ types.RenewAnswer c (Some due)))
           → (b.body ≡ types.Shipped granted) ⊎ ((c : ℕ) × (b.body ≡ types.RenewAnswer c (Some granted)))
           → is_before due granted ≡ false
@@ -1021,7 +1021,7 @@ module _ (txn : Qualifiers) (x : RequesterRecord) (y : ResponderRecord) (respond
     conditions = conditions_here;
   }
 
-  -- The state of the requester faces that of the responder.
+  -- The state of the requester faces the state of the responder.
   face : is_among (faced_in x.state) y.state ≡ true
   face = fits_face x.state y.state states_fit
 

@@ -1,4 +1,4 @@
--- The answers of a desk of one side are those of a party.
+-- A desk of one side gives the answers that a party of the model gives.
 use Rattle.std.proofs.Common.{rules, ◌≡◌, List, [], ℕ, Result, Ok, Err, ap, sym, subst}
 use Rattle.ill_values.specs.declared.apdu.Apdu.{Apdu}
 use Rattle.ill_der.specs.declared.fault.DerFault.{DerFault}

@@ -180,7 +180,7 @@ round_passes w few places few_more places_more =
 -- ---- the events of a half, as a list that grows
 
 -- A loop appends the Send and the Deliver of message n to `before`. Of the list `all`, `before` lacked the events of
--- `size` messages. The longer list lacks those of the `left` later messages.
+-- `size` messages. The longer list lacks the events of the `left` later messages.
 pub passes_grow : (of partner : Role) (n number size left : ℕ) (before sent delivered all : List Event)
     → partner ≡ other of → number ≡ n → size ≡ suc left → sent ≡ before ++ events.Send of number ∷ []
     → delivered ≡ sent ++ events.Deliver partner number ∷ [] → before ++ sends_and_delivers of n size ≡ all
@@ -213,7 +213,7 @@ module _ {W E O M : Type 0} (happening : W → E → O × W) where
   performs_prefix events first old new (Ok done) failed prefix is = search rules
   performs_prefix events first old new (Err memory) failed prefix is = (first, prefix, is)
 
-  -- If `first` has led to a world, and `second` was performed from there, `first ++ second` was performed.
+  -- If `first` has led to the world `between`, and `second` was performed from it, `first ++ second` was performed.
   pub performs_both : (first second : List E) (old between new : W) (result : Result (Unit {0}) M)
       → between ≡ run_by happening old first → Performs (run_by happening) second between result new
       → Performs (run_by happening) (first ++ second) old result new

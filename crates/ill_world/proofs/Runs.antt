@@ -9,14 +9,14 @@ use Rattle.ill_world.specs.Invariant.{Invariant}
 
 -- `happening` gives the outcome of an event, and the world after it.
 module _ {W E O : Type 0} (happening : W → E → O × W) where
-  -- The first event leads from `w` to `new`. Then the run of all events from `w` is that of the others from `new`.
+  -- The first event leads from `w` to `new`. Then the run of all events from `w` is the run of the others from `new`.
   run_next : (w new : W) (events : List E) (event : E) (outcome : O) → happening w event ≡ (outcome, new)
       → run_by happening w (event ∷ events) ≡ run_by happening new events
   unfolding run_by
   run_next w new events event outcome happened = ap (λ (after : O × W). run_by happening after.1 events) happened
 
-  -- Event i leads from `w` to `new`. Then the run of event i and the later events from `w` is that of the later ones
-  -- from `new`.
+  -- Event i leads from `w` to `new`. Then the run of event i and the later ones from `w` is the run of the latter from
+  -- `new`.
   pub run_on : (w new : W) (events : List E) (i : ℕ) (event : E) (outcome : O) → i < length events → event ≡ get_or events i event
       → happening w event ≡ (outcome, new)
       → run_by happening w (drop i events) ≡ run_by happening new (drop (i + 1) events)

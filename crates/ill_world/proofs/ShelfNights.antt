@@ -32,7 +32,7 @@ use Rattle.ill_world.proofs.Shelves.{BothLack, lack_elsewhere, group_in_order}
 
 -- ---- events that have their home at a group
 
--- The desks are those of `group`.
+-- These lemmas are about the two desks of `group`.
 module _ (group : List ℕ) where
   -- Each of the events, given with `group`, has its home at `group`.
   abbrev pub AllAt : List DeskEvent → Type 0
@@ -82,7 +82,7 @@ module _ (group : List ℕ) where
       both_at (passes_side role side) (flat_map (passes_side role) more)
       (txn_at (txn_of side) (sends_and_delivers role 1 (length (issued_of side))) of.0) (passes_at role more of.1)
 
-  -- If all sides are of the group, so are those of which `wants` holds.
+  -- If all sides are of the group, the sides of which `wants` holds are of the group.
   wanted_of : (wants : Side → Bool) (all : List Side) → AllOf all → AllOf (filter wants all)
   wanted_of wants [] of = tt
   wanted_of wants (side ∷ more) of = go (wants side) (wanted_of wants more of.1)

@@ -16,8 +16,8 @@ IsOfNoPrefix {E = E} result_of events result =
     (prefix more : List E) → events ≡ prefix ++ more → result ≡ result_of prefix → ⊥
 
 -- The result of a simulation of `text` is wrong. The simulation has left the bytes `left` of the text in the reader,
--- and has written the bytes `written`. `script` gives the reading of a whole text, and `script_read` that of a text at
--- whose end the reader failed.
+-- and has written the bytes `written`. `script` gives the reading of a whole text, and `script_read` if the reader
+-- failed at the end of the text.
 pub data Misreports {E : Type 0} (trace_of : List E → List ℕ) (script script_read : List ℕ → Said E) (text left written : List ℕ)
     : Result ℕ SimFault → Type 0 where
   -- The result is a count of events. But bytes are left, a line is bad, or the count or the trace is another.
@@ -28,7 +28,8 @@ pub data Misreports {E : Type 0} (trace_of : List E → List ℕ) (script script
       Misreports trace_of script script_read text left written (Ok count)
   miswrites : (count : ℕ) → (written ≡ trace_of (script text).events → ⊥) →
       Misreports trace_of script script_read text left written (Ok count)
-  -- The result names a bad line. But the first bad line is another, or the trace is not that of the events before it.
+  -- The result names a bad line. But the first bad line is another, or `written` is not the trace of the events before
+  -- it.
   misnames : (line : ℕ) → ((script text).bad ≡ Some line → ⊥) →
       Misreports trace_of script script_read text left written (Err (Script line))
   miswrites_before : (line : ℕ) → (written ≡ trace_of (script text).events → ⊥) →

@@ -24,7 +24,7 @@ pub record ProjectsTo (p : DeskParty) (txn : Qualifiers) (shown : Party) : Type 
   pub landed : (side : Side) → side_with txn p.landed.sides ≡ Some side → shown.landed ≡ side
   pub sent : (sending : Sending) → found_by txn_sent txn p.sent ≡ Some sending → shown.sent ≡ sending.sent
 
--- The outcome is that of an event in one transaction: neither NoSuchTransaction nor DeskFull.
+-- The outcome is an outcome of the two-party model: neither NoSuchTransaction nor DeskFull.
 abbrev pub IsPlain : DeskOutcome → Type 0
 IsPlain (Plain outcome) = Unit {0}
 IsPlain other = ⊥

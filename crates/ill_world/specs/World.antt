@@ -1,5 +1,5 @@
--- The two-party model has two sides, the landed record of each, and the messages that each has sent. It knows no bytes
--- but those of noise, and no stores. It is this profile's own.
+-- The two-party model has two sides, the landed record of each, and the messages that each has sent. The model knows no
+-- bytes but the bytes of noise, and no stores. It is this profile's own.
 use Rattle.std.specs.Prelude.{ℕ, zero, suc, Bool, true, false, nat_le, List, [], ◌∷◌, length, replicate, slice_get, Option, Some}
 use Rattle.std.specs.Prelude.{None, Result, Ok, Err, if◌then◌else◌}
 use Rattle.std.specs.List.{slice_set}

@@ -280,9 +280,9 @@ pub fn one_desk_night_is_enough()
     laws::one_night_is_enough();
 }
 
-/// In a script of two desks a line other than `use` leaves the transaction in use unchanged. Its event is that of a
-/// script of two sides. An event of one transaction names the one in use, and no other. Before the first `use` there is
-/// no event.
+/// In a script of two desks a line other than `use` leaves the transaction in use unchanged. The line has the event
+/// that it has in a script of two sides. An event of one transaction names the one in use, and no other. Before the
+/// first `use` there is no event.
 #[tactic(auto, using(crate::proofs::BadDesks::none_elsewhere))]
 pub fn events_are_in_the_transaction_in_use()
     ensures stays { (in_use : Option Qualifiers) (line : ScriptLine Event) →

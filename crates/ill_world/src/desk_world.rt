@@ -73,7 +73,7 @@ impl DeskWorld {
     }
 
     /// Performs a round. It saves the requester's desk, and sends and delivers all messages of its sides, in order.
-    /// Then it does so for the responder's desk. If memory runs out, only a prefix of the events of the round has
+    /// Then it does all this for the responder's desk. If memory runs out, only a prefix of the events of the round has
     /// happened.
     ///
     /// Both sides of a transaction are then in step, if its responder had ended the request or had numbers left.

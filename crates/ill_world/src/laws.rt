@@ -183,7 +183,7 @@ pub fn one_round_is_enough()
 }
 
 /// A round without the last message of a side does not always bring both sides in step. For either side a run leads to
-/// a world in which it does not. A whole round brings both sides in step there.
+/// a world in which such a round leaves the sides out of step. A whole round brings both sides of this world in step.
 #[tactic(auto, using(crate::proofs::BadRounds::cut_leaves_apart, crate::proofs::BadRounds::whole_brings_in_step))]
 pub fn no_round_may_be_cut_short()
     ensures cut { (who : Role) →
@@ -193,7 +193,8 @@ pub fn no_round_may_be_cut_short()
 {}
 
 /// A round that leaves out the first message of a side does not always bring both sides in step. For either side a run
-/// leads to a world in which it does not, though a later message arrives. A whole round brings both sides in step there.
+/// leads to a world in which such a round leaves the sides out of step. A later message arrives in it. A whole round
+/// brings both sides of this world in step.
 #[tactic(auto, using(crate::proofs::BadRounds::late_leaves_apart, crate::proofs::BadRounds::whole_brings_both_in_step))]
 pub fn no_round_may_begin_late()
     ensures late { (who : Role) →

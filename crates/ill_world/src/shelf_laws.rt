@@ -86,8 +86,8 @@ pub fn no_transaction_has_two_homes()
     shelf_runs_are_desk_runs();
 }
 
-/// All events of a night of the desks of a group have their home there. The night brings both sides of each transaction
-/// of the group in step, or to rest. It does so if the responder can answer a Conditional-Reply no.
+/// All events of a night of the desks of a group have their home at this group. The night brings both sides of each
+/// transaction of the group in step, or to rest. For this the responder must be able to answer a Conditional-Reply no.
 pub fn a_night_of_a_group_is_enough()
     ensures home { (group : List ℕ) (events : List ShelfEvent) →
         let night = desk_night_of (shelves_run first_shelves events group) in

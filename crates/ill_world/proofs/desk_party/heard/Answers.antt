@@ -1,4 +1,4 @@
--- Proves the contract of `heard` (`src/desk_party.rt`). The outcome of noise is that of the decoded APDU, by
+-- Proves the contract of `heard` (`src/desk_party.rt`). The decoded APDU and its size decide the outcome of noise, by
 -- `heard_as`.
 use Rattle.std.proofs.Common.{rules}
 use Rattle.ill_der.specs.ShortForm.{apdu_at}

@@ -9,7 +9,7 @@ use Rattle.ill_world.proofs.desk_world.run_desks.Goals as goal
 pub loop-event-init : goal.loop-event-init
 loop-event-init c = ap (λ w. desks_run w c.args.events.now) c.in_ok-world.ensures
 
--- After a step the events that are left lead to the same desks.
+-- After a step the events that are left lead to the desks to which all events lead.
 pub loop-event-preserved : goal.loop-event-preserved
 loop-event-preserved c =
     let on = run_on desks_happen c.loop-event.world c.step.new.self c.args.events.now c.loop-event.event-index c.event-item.result

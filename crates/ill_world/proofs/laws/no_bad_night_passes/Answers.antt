@@ -1,5 +1,5 @@
 -- Proves the clauses of `no_bad_night_passes` (`src/laws.rt`). Each case of a wrong answer, or of records not at rest,
--- contradicts a definition. The lemmas are those of `BadSendings` and `BadNights`.
+-- contradicts a definition, by `BadSendings` and `BadNights`.
 use Rattle.std.proofs.Common.{refl}
 use Rattle.ill_words.specs.Sending.{is_over, wants_sending}
 use Rattle.ill_world.specs.Night.{asks}

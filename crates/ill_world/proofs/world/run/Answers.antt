@@ -9,7 +9,7 @@ use Rattle.ill_world.proofs.world.run.Goals as goal
 pub loop-event-init : goal.loop-event-init
 loop-event-init c = ap (λ w. run_of w c.args.events.now) c.in_ok-world.ensures
 
--- After a step the events that are left lead to the same world.
+-- After a step the events that are left lead to the world to which all events lead.
 pub loop-event-preserved : goal.loop-event-preserved
 loop-event-preserved c =
     let on = run_on happens c.loop-event.world c.step.new.self c.args.events.now c.loop-event.event-index c.event-item.result

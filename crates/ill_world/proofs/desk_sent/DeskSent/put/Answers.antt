@@ -1,5 +1,5 @@
--- Proves the clause `put` of `DeskSent::put` (`src/desk_sent.rt`), if `txn` has an entry and if it has none. The
--- changed or added entry is that of the model, by `DeskMaps`.
+-- Proves the clause `put` of `DeskSent::put` (`src/desk_sent.rt`), if `txn` has an entry and if it has none. The entry
+-- that is changed or added agrees with the model, by `DeskMaps`.
 use Rattle.std.proofs.Common.{◌≡◌, OnOk, option_map, refl, ap, sym, ◌∙◌, subst}
 use Rattle.std.specs.Map.{lookup}
 use Rattle.ill_core.specs.Issued.{is_same_txn}

@@ -19,7 +19,7 @@ returns-in_err-pass_on-clause-performs c =
     performs_prefix desks_happen (first ++ second) done.0 w c.pass_on.new.self c.from_residual.result c.from_residual.ensures.0
     (prefix_further done.0 first second done.1) done.2
 
--- The first half has happened. The second one, or a prefix of it, goes on from there.
+-- The first half has happened. The second half, or a prefix of it, goes on from the desks after the first.
 pub returns-clause-performs : goal.returns-clause-performs
 returns-clause-performs c =
     let w = c.args.self.now in

@@ -1,6 +1,7 @@
 //! Tests two sides in one world. The input has scripts. Below each script, after two spaces, the program prints the
 //! trace that `ill_world` writes of it. Old traces in the input are dropped. The file `stdin` has the scripts with the
-//! traces that they must give. Its head defines how scripts are written. The file `stdout` has the same bytes.
+//! traces that they must give. The head of `stdin` defines how scripts are written. The file `stdout` has the bytes of
+//! `stdin`.
 //!
 //! To try a script alone, in seconds, put its lines into a file. An example is
 //! `sed -n '/^script a Shipped that comes again$/,/^$/p' stdin > file`.

@@ -84,8 +84,8 @@ pub fn perform(alloc: Global, script: Script<'_>, streams: Streams) -> Option<Sc
     None
 }
 
-/// Performs a script from its beginning. If `most` is there, the call is between marks, and writes at most this many
-/// bytes. Returns the result, and true if a growth was refused.
+/// Performs a script from its beginning. If `most` is a count, the call is between marks, and its writer has memory for
+/// this many bytes. Returns the result, and true if a growth was refused.
 fn perform_once(
     alloc: Global,
     script: Script<'_>,

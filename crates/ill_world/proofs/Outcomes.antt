@@ -1,5 +1,5 @@
--- No event has the refusal WrongRole or OutOfMemory as its outcome. The other refusals can be an outcome
--- (`can_refuse`).
+-- In a world that satisfies the invariant, no event has the refusal WrongRole or OutOfMemory as its outcome. The other
+-- refusals can be an outcome (`can_refuse`).
 use Rattle.std.proofs.Common.{rules, ◌≡◌, ℕ, zero, suc, Bool, true, false, cond, not, List, [], ◌∷◌, Option, Some, None, Result}
 use Rattle.std.proofs.Common.{Ok, Err, refl, subst}
 use Rattle.std.specs.List.{list_all}

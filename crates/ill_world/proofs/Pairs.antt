@@ -670,8 +670,8 @@ module _ (txn : Qualifiers) (x : RequesterRecord) (y : ResponderRecord) (respond
       (hear.requester found.0 found.1 found.2 (cancel_reply_is_plain found.1.body n found.3)))
       (and_from _ _ is (itself n (last_cancel x) last))
 
-  -- A requester in CANCEL-PENDING does not face an undecided responder. This one has taken and answered the last
-  -- Cancel, which `cancel_answered` excludes.
+  -- A requester in CANCEL-PENDING does not face an undecided responder. Such a responder has taken and answered the
+  -- last Cancel, which `cancel_answered` excludes.
   not_open : is_among (states.CancelPending ∷ []) x.state ≡ true → is_among records.undecided y.state ≡ true → ⊥
   not_open is is_open =
       let own = has_last is_cancel None x.issued (implied _ _ borrower.rules.issued.cancel (cancel_pending_alone x.state is).5) in
@@ -796,8 +796,8 @@ module _ (txn : Qualifiers) (x : RequesterRecord) (y : ResponderRecord) (respond
   message_some apdus zero a at = search rules
   message_some apdus (suc n) a at = omega arith
 
-  -- A requester in RENEW/PENDING or RENEW/OVERDUE does not face a responder in SHIPPED or OVERDUE. This one has taken
-  -- and answered the last Renew, which `renew_answered` excludes.
+  -- A requester in RENEW/PENDING or RENEW/OVERDUE does not face a responder in SHIPPED or OVERDUE. Such a responder has
+  -- taken and answered the last Renew, which `renew_answered` excludes.
   not_settled : is_among (states.RenewPending ∷ states.RenewOverdue ∷ []) x.state ≡ true
       → is_among (states.Shipped ∷ states.Overdue ∷ []) y.state ≡ true → ⊥
   not_settled is settled =
@@ -821,7 +821,7 @@ module _ (txn : Qualifiers) (x : RequesterRecord) (y : ResponderRecord) (respond
       (false_from_ne_true _ (not_settled is))
 
   -- If the responder is in RENEW/PENDING or RENEW/OVERDUE, the requester awaits the answer to its last Renew. Otherwise
-  -- it would reflect an answer, but the responder has given none yet.
+  -- the requester would reflect an answer, but the responder has given none yet.
   renew_is_waiting : (n : ℕ) → is_among (states.RenewPending ∷ states.RenewOverdue ∷ []) y.state ≡ true → y.last_renew ≡ Some n
       → is_awaiting_answer x n ≡ true
   renew_is_waiting n is last =

@@ -116,7 +116,7 @@ none_with_first false n rest count none more = more (omega (arith, none))
 abbrev ends_in : List Apdu → ℕ
 ends_in apdus = count_by (λ a. is_end a.body) apdus
 
--- The count of ends of a list is 1 or 0 for its first APDU, plus the count in the rest.
+-- A list's count of ends is 1 or 0 for its first APDU, plus the count in the rest.
 count_first : (a : Apdu) (apdus : List Apdu) → ends_in (a ∷ apdus) ≡ (cond (is_end a.body) 1 0) + ends_in apdus
 count_first a apdus = sum_by-cons (λ (x : Apdu). cond (is_end x.body) 1 0) a apdus
 

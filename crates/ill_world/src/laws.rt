@@ -192,9 +192,9 @@ pub fn no_round_may_be_cut_short()
         AreInStep (run_of (last_unheard who) (round_of (last_unheard who))) }
 {}
 
-/// A round that leaves out the first message of a side does not always bring both sides in step, though a later one
-/// arrives. For either side a run leads to a world in which such a round leaves the sides out of step. A whole round
-/// brings both sides of this world in step.
+/// A round without the first message of a side does not always bring both sides in step. Later messages do arrive. For
+/// either side a run leads to a world in which such a round leaves the sides out of step. A whole round brings both
+/// sides of this world in step.
 #[tactic(auto, using(crate::proofs::BadRounds::late_leaves_apart, crate::proofs::BadRounds::whole_brings_both_in_step))]
 pub fn no_round_may_begin_late()
     ensures late { (who : Role) →

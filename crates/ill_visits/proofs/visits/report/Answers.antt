@@ -36,6 +36,8 @@ returns g c =
     let result = c.after_writing.ensures ∙ ap (λ answer. after_writing c.end_page.result answer)
     (c.graver-answer.ensures ∙ ap (λ further. graver answer further) c.warn_of_names.ensures
     ∙ ap (λ answer. graver answer (names_answer are_texts)) told.3) in
-    let found = subst (AreFoundAt (map (λ (path : Bor (List ℕ)). path.now) c.args.paths.now)) (sym told.1)
-        c.in_ok-found.ensures in
+    let asked = map (λ (path : Bor (List ℕ)). path.now) c.args.paths.now in
+    let opened = subst (λ files. AreFoundAt asked (map (λ file. string_bytes file) files)) (sym c.deref.ensures.value)
+    c.in_ok-found.ensures in
+    let found = subst (AreFoundAt asked) (sym told.1) opened in
     inr (parts, are_texts, c.end_page.result, found, fault, written, result)

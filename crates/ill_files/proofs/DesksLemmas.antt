@@ -19,7 +19,8 @@ named : (role : Role) (name : List ℕ) → IsDeskName role name → IsNamedOnSh
 named Requester name is = inr (inl is)
 named Responder name is = inr (inr is)
 
--- If all texts of `items` are names of desks, that of `item` is one of the names on a shelf. `item` is at `place`.
+-- If all texts of `items` are names of desks of `role`, the text of `item` is a name on a shelf. `item` is the item at
+-- `place`.
 pub named_at : {A : Type 0} (role : Role) (text : A → List ℕ) (items : List A) (place : ℕ) (item : A)
     → AreDeskNames role (map text items) → place < length items → item ≡ get_or items place item → IsNamedOnShelf (text item)
 named_at role text items place item are within at =

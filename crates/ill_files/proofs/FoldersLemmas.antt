@@ -10,7 +10,7 @@ use Rattle.std.specs.List.{Any}
 use Rattle.std.specs.Str.Pattern.{CutsSuffixes, FindsCharSuffix}
 use Rattle.ill_files.specs.Folders.{AreFoundAt, GetsFiles, IsEntryOf, IsFoundAt, IsWithoutSlashes}
 
--- If `P` leads to `Q`, what holds of a result that is done holds as `Q`, too.
+-- If `P` leads to `Q`, and `P` holds if `result` is Ok, then `Q` holds if `result` is Ok.
 pub on_ok : {A E P Q : Type 0} (result : Result A E) → (P → Q) → OnOk result P → OnOk result Q
 on_ok (Ok done) leads is = leads is
 on_ok (Err fault) leads is = is
@@ -19,12 +19,13 @@ on_ok (Err fault) leads is = is
 pub gets_none : (P : List ℕ → Type 0) (files : List (List ℕ)) → GetsFiles P files files
 gets_none P files = ([], sym (append-nil files), All-nil P)
 
--- If `file` satisfies `P`, and `new` is `old` and then `file`, `new` has got files that satisfy `P`.
+-- If `file` satisfies `P`, and `new` is `old` and then `file`, `new` has got one more file, which satisfies `P`.
 pub gets_one : (P : List ℕ → Type 0) (old new : List (List ℕ)) (file : List ℕ) → new ≡ old ++ file ∷ [] → P file
     → GetsFiles P old new
 gets_one P old new file is passes = (file ∷ [], is, All-push P [] file (All-nil P) passes)
 
--- If `new` is `old`, or `old` and then `x`, whose text satisfies `P`, the texts of `new` have got files that satisfy `P`.
+-- If `new` is `old`, or `old` and then `x`, whose text satisfies `P`, the texts of `new` have got files that satisfy
+-- `P`.
 pub gets_entry : {A : Type 0} (P : List ℕ → Type 0) (text : A → List ℕ) (old new : List A) (x : A)
     → (new ≡ old) ⊎ (new ≡ old ++ x ∷ []) → P (text x) → GetsFiles P (map text old) (map text new)
 gets_entry P text old new x (inl same) passes =
@@ -32,7 +33,7 @@ gets_entry P text old new x (inl same) passes =
 gets_entry P text old new x (inr more) passes =
     gets_one P (map text old) (map text new) (text x) (ap (map text) more ∙ map-append text old (x ∷ [])) passes
 
--- If `middle` has got files that satisfy `P`, and then `new` has, `new` has got such files since `old`.
+-- If `middle` has got files that satisfy `P` since `old`, and `new` since `middle`, then `new` has since `old`.
 pub gets_more : (P : List ℕ → Type 0) (old middle new : List (List ℕ)) → GetsFiles P old middle → GetsFiles P middle new
     → GetsFiles P old new
 gets_more P old middle new first then = (
@@ -41,7 +42,7 @@ gets_more P old middle new first then = (
   All-append P first.0 then.0 first.2 then.2,
 )
 
--- If each file that satisfies `P` satisfies `Q`, files that satisfy `P` satisfy `Q`.
+-- If each file that satisfies `P` satisfies `Q`, the files that `new` has got since `old` satisfy `Q` too.
 pub gets_weaker : (P Q : List ℕ → Type 0) (old new : List (List ℕ)) → ((file : List ℕ) → P file → Q file)
     → GetsFiles P old new → GetsFiles Q old new
 gets_weaker P Q old new leads gets = (gets.0, gets.1, λ k d within. leads _ (gets.2 k d within))
@@ -57,7 +58,8 @@ asked_at text items place default within = (
   refl,
 )
 
--- If the files of `old` are found at `paths`, and `new` has got files found at one of these, so are the files of `new`.
+-- Let the files of `old` be found at `paths`, and those that `new` has got at `path`, one of `paths`. Then all files of
+-- `new` are found at `paths`.
 pub found_more : (paths old new : List (List ℕ)) (path : List ℕ) → Any (λ other. other ≡ path) paths
     → AreFoundAt paths old → GetsFiles (IsFoundAt path) old new → AreFoundAt paths new
 found_more paths old new path is_asked are gets =
@@ -70,8 +72,8 @@ found_more paths old new path is_asked are gets =
       subst (λ other. IsFoundAt other _) (sym is_asked.4) (gets.2 k d within),
     )))
 
--- If slashes are cut off the end of `path`, one after another, and leave `folder`, `folder` is `path` without slashes at
--- its end.
+-- If slashes are cut off the end of `path`, one after another, and leave `folder`, `folder` is `path` without slashes
+-- at its end.
 pub cut_slashes : (path : List ℕ) (cuts : List ℕ) (folder : List ℕ) → CutsSuffixes (FindsCharSuffix 47) path cuts folder
     → IsWithoutSlashes path folder
 cut_slashes path [] folder is = (0, sym is ∙ sym (append-nil folder))

@@ -39,7 +39,7 @@ own_desk role one other is_one is_other same =
     sym (round_trip ESCAPED one refl (qualifier_bytes one is_one)) ∙ ap percent_decode encoded
     ∙ round_trip ESCAPED other refl (qualifier_bytes other is_other)
 
--- Without its ending, the name of a desk has as many bytes as the encoding of its group.
+-- Without its ending, a full stop and the role, the name of a desk has as many bytes as `stem`.
 size_of_stem : (role : Role) (stem : List ℕ)
     → length (stem ++ (codes "." ++ role_name role)) - length (role_name role) - 1 ≡ length stem
 size_of_stem Requester stem = omega (arith, length-append stem (codes ".requester"))
@@ -53,7 +53,7 @@ group_in_name role group is =
     ap (λ (size : ℕ). percent_decode (take size (stem ++ ending))) (size_of_stem role stem)
     ∙ ap percent_decode (take-append_seam stem ending) ∙ round_trip ESCAPED group refl (qualifier_bytes group is)
 
--- If `name` is that of a desk, the group in it is a qualifier, and `name` is that of the group's desk.
+-- If `name` is that of a desk, `group_in` finds a qualifier in it, and `name` is that of this group's desk.
 desk_of_group_in : (role : Role) (name : List ℕ) → IsDeskName role name
     → IsQualifier (group_in role name) × name ≡ desk_name role (group_in role name)
 desk_of_group_in role name (group, is, named) =

@@ -21,11 +21,13 @@ after_writing (Err fault) answer = Err fault
 abbrev pub GoesWell : {A : Type 0} → (Result A ToolFault → Type 0) → Result Bool ToolFault → Type 0
 GoesWell {A} Answers result = (answer : Result A ToolFault) × Answers answer × (result ≡ all_well answer)
 
--- A file could not be opened or locked, and nothing was written.
+-- The command fails since a file could not be opened or locked, or memory ran out. The output is unchanged: `before`
+-- and `after` are equal.
 abbrev pub FailsToOpen : {A : Type 0} → Option (List ℕ) → Option (List ℕ) → Result A ToolFault → Type 0
 FailsToOpen before after result = IsErrAnd result IsOpenFault × (after ≡ before)
 
--- Returns that all is well if each name in the folders is a text. Else it returns the fault of a folder.
+-- Returns true if the argument is true: each name in the folders is UTF-8. Else it returns the fault of a folder that
+-- cannot be read.
 abbrev pub names_answer : Bool → Result Bool ToolFault
 names_answer true = Ok true
 names_answer false = Err (Desk (Store Failed))

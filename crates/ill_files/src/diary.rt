@@ -55,8 +55,8 @@ impl<F: Write + OpenFile> Write for DiaryFile<F> {
     }
 }
 
-/// Opens the diary beside the file of `desk` for the messages that come. Their lines begin with `begin`. If that is empty,
-/// the file is not opened.
+/// Opens the diary beside the file of `desk` for the messages that come. Their lines begin with `begin`. If that is
+/// empty, the file is not opened.
 pub fn open_came_diary<T: Files, E: Write>(
     rt: &T,
     alloc: Global,
@@ -74,11 +74,12 @@ pub fn open_came_diary<T: Files, E: Write>(
 pub struct RunDiary<F> {
     /// The diary of the messages that come.
     pub came: CameDiary<DiaryFile<F>>,
-    /// The text with which a line of a deed of the run begins. It is empty if none may be entered.
+    /// The text with which the line of an action of the run itself begins. It is empty if no such line may be entered.
     pub begin: Vec<u8>,
 }
 
-/// Opens the diary beside the file of `desk` for a run, as `open_came_diary` does.
+/// Opens the diary beside the file of `desk` for a run. Its lines begin with `begin`. If that is empty, the file is not
+/// opened. Without a file, the text for further lines is empty.
 pub fn open_run_diary<T: Files, E: Write>(
     rt: &T,
     alloc: Global,
@@ -150,7 +151,8 @@ pub fn open_entry<T: Files, E: Write>(
     Entry::new(line, file)
 }
 
-/// Returns `text`. If there was no memory for it, it writes a line to the errors, and returns an empty text.
+/// Returns `text`, which is for the diary of `desk`. If there was no memory for it, this writes a line to the errors,
+/// and returns an empty text.
 fn text_or_warn<E: Write>(
     alloc: Global,
     desk: &str,
@@ -166,7 +168,7 @@ fn text_or_warn<E: Write>(
     }
 }
 
-/// Opens the diary beside the file of `desk`, if `text` is to be entered in it.
+/// Opens the diary beside the file of `desk`. If `text` is empty, there is nothing to enter, and the diary has no file.
 fn open_for<T: Files, E: Write>(
     rt: &T,
     alloc: Global,
@@ -210,8 +212,8 @@ pub fn warn_of_diary<E: Write>(alloc: Global, desk: &str, has_failed: bool, erro
     }
 }
 
-/// Returns the bytes of the diary beside the file of `desk`. There are none without a file. If it cannot be read, a line to
-/// the errors says so, and there are none either.
+/// Returns the bytes of the diary beside the file of `desk`. There are none without a file. If it cannot be read, a
+/// line to the errors says so, and there are none either.
 pub fn diary_bytes<T: Files, E: Write>(
     rt: &T,
     alloc: Global,

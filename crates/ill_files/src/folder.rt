@@ -67,7 +67,7 @@ fn without_slashes(path: &str) -> &str
     path.trim_end_matches('/')
 }
 
-/// Returns the names in the folder at `path` that may be those of desks, in their order.
+/// Returns the names in the folder at `path` that may be those of desks, sorted. Fails if no folder is there.
 fn names_at<T: Files>(rt: &T, alloc: Global, path: &str) -> io::Result<Vec<Vec<u8>>> {
     if !fs::metadata(rt, path)?.is_dir() {
         return Err(ErrorKind::NotADirectory.into());
@@ -92,7 +92,7 @@ fn may_be_desk(name: &[u8]) -> bool {
             .any(|ending| name.ends_with(ending.as_bytes()))
 }
 
-/// Returns true if `name` is that of a desk on a shelf.
+/// Returns true if `name` is that of a shelf's own desk, or of the desk of a group. A name that is no UTF-8 is neither.
 fn is_on_shelf(alloc: Global, name: &[u8]) -> Result<bool, OutOfMemory> {
     match str::from_utf8(name) {
         Ok(name) => is_named_on_shelf(alloc, name),
@@ -116,7 +116,8 @@ fn push_names<T: Files>(
     Ok(())
 }
 
-/// Appends to `found` the desk `name` of `folder`, or the text for a name that is none.
+/// Appends the path of the desk `name` in `folder` to the files of `found`. If `name` is no UTF-8, it appends the path
+/// with escapes to the unnamed instead.
 fn push_name<T: Files>(
     rt: &T,
     found: &mut Found,
@@ -148,7 +149,8 @@ fn push_file<T: Files>(rt: &T, files: &mut Vec<String>, path: String) -> Result<
     Ok(())
 }
 
-/// Writes a line to `errors` for each of the names `unnamed`. Returns the fault of a folder if there are any.
+/// Writes a line to `errors` for each of the names `unnamed`. Returns true if there are none, else the fault of a
+/// folder that cannot be read.
 pub fn warn_of_names<E: Write>(
     alloc: Global,
     unnamed: &[String],

@@ -24,7 +24,7 @@ pub enum Home {
     Nothing,
 }
 
-/// Returns the home of the group of `desk`.
+/// Returns the home of the group whose desk has the path `desk`. A retired group has the mark, also if a desk is there.
 pub fn home_at<T: Files>(rt: &T, alloc: Global, desk: &str) -> io::Result<Home> {
     if is_retired(rt, alloc, desk)? {
         return Ok(Home::Retired);
@@ -39,7 +39,8 @@ pub fn home_at<T: Files>(rt: &T, alloc: Global, desk: &str) -> io::Result<Home> 
     }
 }
 
-/// Returns true if a file that may outlive `desk` lies beside it, so that its group was begun before.
+/// Returns true if a file or folder that may outlive the desk lies beside its path `desk`. Its group was then begun
+/// before.
 fn is_lost<T: Files>(rt: &T, alloc: Global, desk: &str) -> io::Result<bool> {
     for ending in [CAME, NOTES, MAIL] {
         let path = format!(in alloc; "{desk}{ending}")?;
@@ -50,7 +51,7 @@ fn is_lost<T: Files>(rt: &T, alloc: Global, desk: &str) -> io::Result<bool> {
     Ok(false)
 }
 
-/// Returns the refusal of a group whose desk is lost: it has no record.
+/// Fails with `NoRecord` if the desk at the path `desk` is lost (`Home::Lost`).
 pub fn refuse_lost<T: Files>(rt: &T, alloc: Global, desk: &str) -> Result<(), ToolFault>
     ensures { IfErr result IsOpenFault }
 {

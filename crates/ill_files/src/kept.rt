@@ -52,7 +52,9 @@ impl Kept {
 #[derive(Drop)]
 pub struct KeptFile<F> {
     file: F,
+    /// The number of bytes that were cut off at the end of the file when it was opened.
     torn: usize,
+    /// Set if a write or a flush has failed.
     has_failed: bool,
 }
 
@@ -82,8 +84,9 @@ impl<F: Write + OpenFile> Write for KeptFile<F> {
     }
 }
 
-/// Opens the file `kept` beside the file of `desk`, and makes it if it does not exist. It cuts off the part of a message
-/// or of a line that a crash has left at the end. Other bytes that are no message are a failure, and are not cut off.
+/// Opens the file `kept` beside the file of `desk`, and makes it if it does not exist. It cuts off the part of a
+/// message or of a line that a crash has left at the end. Other bytes that are no message are a failure, and are not
+/// cut off.
 pub fn open_kept<T: Files>(
     rt: &T,
     alloc: Global,
@@ -141,8 +144,8 @@ fn load<T: Files>(rt: &T, alloc: Global, path: &str) -> Result<Option<Vec<u8>>, 
 }
 
 /// Makes the file at `path`, with the group and the permissions of the file `desk`. It gets the owner of that file too,
-/// if the system allows that. If the group cannot be set, only the owner may read or write the new file. So it is too
-/// if the desk is not saved yet.
+/// if the system allows that. If the group cannot be set, only the user who made the new file may read or write it. The
+/// same holds if the file `desk` does not exist yet.
 fn make<T: Files>(rt: &T, path: &str, desk: &str) -> io::Result<()> {
     let other = metadata_of(rt, desk)?;
     let mut options = OpenOptions::new();

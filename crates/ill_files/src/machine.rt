@@ -35,7 +35,8 @@ impl<T, W, E: Write> Machine<'_, T, W, E> {
         warn_of_fault(self.alloc, path, fault, &mut self.errors);
     }
 
-    /// Returns `answer`. If it is a fault of a file or folder, a line of `path` and `text` goes to the errors.
+    /// Returns `answer`. If it is the fault `Desk`, of a desk or its store, a line of `path` and `text` goes to the
+    /// errors.
     pub fn report_fault_at<X: Drop>(
         &mut self,
         answer: Result<X, ToolFault>,

@@ -37,7 +37,7 @@ pub const MAIL: &str = ".mail";
 /// The ending of the name of the file that marks a retired group, after the name of its desk.
 pub const RETIRED: &str = ".retired";
 
-/// Returns the bytes of the names in `folder`.
+/// Returns the names in `folder`, each as its bytes. They are not sorted.
 pub fn raw_names<T: Files>(rt: &T, alloc: Global, folder: &str) -> io::Result<Vec<Vec<u8>>> {
     let folder = format!(in alloc; "{folder}/")?;
     let reader = BufReader::with_capacity(alloc, NAMES, rt.open_dir(folder.as_str())?)?;
@@ -64,7 +64,7 @@ fn has_ending(path: &str, endings: &[&str]) -> bool
         .any(|ending| path.as_bytes().ends_with(ending.as_bytes()))
 }
 
-/// Returns the folder of the file at `path`.
+/// Returns the folder of the file at `path`. It is `.` if the path names no folder.
 pub fn folder_of(path: &str) -> &str {
     match Path::new(path).parent() {
         Some(folder) if !folder.as_str().is_empty() => folder.as_str(),
@@ -72,7 +72,7 @@ pub fn folder_of(path: &str) -> &str {
     }
 }
 
-/// Returns the path of the file `name` in `folder`, if the name is UTF-8. No path has another name.
+/// Returns the path of the file `name` in `folder`. Returns `None` if the name is no UTF-8, since a path is a text.
 pub fn path_of(alloc: Global, folder: &str, name: &[u8]) -> io::Result<Option<String>> {
     match str::from_utf8(name) {
         Ok(name) => Ok(Some(joined(alloc, folder, name)?)),
@@ -92,12 +92,12 @@ pub fn joined(alloc: Global, folder: &str, name: &str) -> Result<String, OutOfMe
     Ok(path)
 }
 
-/// Returns true if two paths led to one file or folder.
+/// Returns true if `one` and `other` are the metadata of one file or folder.
 pub fn is_same(one: &Metadata, other: &Metadata) -> bool {
     (one.dev(), one.ino()) == (other.dev(), other.ino())
 }
 
-/// Returns true if there is a file or folder at `path`.
+/// Returns true if there is a file, a folder or a link at `path`.
 pub fn is_there<T: Files>(rt: &T, path: &str) -> io::Result<bool> {
     match fs::symlink_metadata(rt, path) {
         Ok(_) => Ok(true),

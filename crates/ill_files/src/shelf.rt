@@ -59,7 +59,8 @@ pub struct Shelf<'a> {
 }
 
 impl<'a> Shelf<'a> {
-    /// Opens the shelf in `folder`.
+    /// Returns the shelf in `folder`, with the role of its own desk. Fails if `folder` is empty, or the own desk cannot
+    /// be loaded.
     pub fn open<T: Files>(rt: &T, alloc: Global, folder: &'a str) -> Result<Shelf<'a>, ToolFault>
         ensures folder { IfOk result (λ shelf. shelf.folder.now ≡ folder.now) }
         ensures faults { IfErr result IsOpenFault }
@@ -218,7 +219,7 @@ pub(crate) fn is_desk_name(alloc: Global, role: Role, name: &str) -> Result<bool
     Ok(own.as_str() == name)
 }
 
-/// Returns the group in `name`, which may be the name of a desk of `role`.
+/// Returns the group in `name`, if it is the name of a desk of `role`. From another name it returns any bytes.
 fn group_in(alloc: Global, role: Role, name: &str) -> Result<Vec<u8>, OutOfMemory>
     ensures { IfOk result (λ group. group.items ≡ group_in role name.now) }
 {
@@ -229,8 +230,9 @@ fn group_in(alloc: Global, role: Role, name: &str) -> Result<Vec<u8>, OutOfMemor
     Ok(group)
 }
 
-/// Returns true if the desk in `file` of a shelf may take `message`: it is one of the desk's group. The shelf's own desk
-/// may take any message that begins no loan there.
+/// Returns true if the desk of `role` in `file` of a shelf may take `message`. A group's desk takes the messages of its
+/// group. The shelf's own desk takes any message, but a responder's takes no ILL-Request, which would begin a loan
+/// there.
 pub fn is_for_desk(
     alloc: Global,
     file: &str,
@@ -245,7 +247,7 @@ pub fn is_for_desk(
     Ok(desk_name(alloc, role, message.group())?.as_str() == name)
 }
 
-/// Returns true if the group of the desk in `file` is retired.
+/// Returns true if the group of the desk in `file` is retired: its mark lies beside that path.
 pub fn is_retired<T: Files>(rt: &T, alloc: Global, file: &str) -> io::Result<bool> {
     let mark = retired_path(alloc, file)?;
     is_there(rt, mark.as_str())
@@ -256,7 +258,7 @@ pub fn retired_path(alloc: Global, file: &str) -> Result<String, OutOfMemory> {
     Ok(format!(in alloc; "{file}{RETIRED}")?)
 }
 
-/// Returns the refusal of a retired group: no desk has its loans.
+/// Fails with `NoSuchTransaction` if the group of the desk in `file` is retired: no desk has its loans.
 pub fn refuse_retired<T: Files>(rt: &T, alloc: Global, file: &str) -> Result<(), ToolFault>
     ensures { IfErr result IsOpenFault }
 {

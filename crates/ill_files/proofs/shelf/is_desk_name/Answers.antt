@@ -13,7 +13,8 @@ returns-then-not-is_qualifier c =
     (ap (λ (group : List ℕ). is_ok (qualifier_check group)) (sym c.deref.ensures.value) ∙ sym c.is_qualifier.ensures
     ∙ c.if-not-is_qualifier.true)
 
--- Proves the contract of `is_desk_name` if the group in the name is a qualifier. By `desk_decided` the name decides.
+-- Proves the contract of `is_desk_name` if the group in the name is a qualifier. By `desk_decided` the result is true
+-- exactly if the name of that group's desk is `name`.
 pub returns : goal.returns
 returns c =
     desk_decided c.args.role c.args.name.now _ _ c.in_ok-group.ensures

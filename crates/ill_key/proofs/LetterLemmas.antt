@@ -11,7 +11,7 @@ use Rattle.ill_seal.specs.Letter.{sealed, opened}
 use Rattle.ill_text.specs.declared.fault.ToolFault.TheVariants.{NotSealed}
 use Rattle.ill_key.specs.Letter.{LeavesSealed, OpensLetter, own_sender, other_sender}
 
--- If each letter opens for its sender (first premise), a desk of `role` opens those that `other` has sealed.
+-- If each letter opens for its sender (first premise), a desk of `role` opens letters of `other`, the other role.
 pub of_other : ((key text : List ℕ) (sender : Sender) → opened key sender (sealed key sender text) ≡ Ok text)
     → (key text : List ℕ) (role other : Role) → own_sender other ≡ other_sender role
     → opened key (other_sender role) (sealed key (own_sender other) text) ≡ Ok text
@@ -35,7 +35,7 @@ by_seal opens key bytes text sender is =
     let all : bytes ≡ sealed key sender text = is.0 ∙ append-nil (sealed key sender text) in
     subst (λ (letter : List ℕ). opened key sender letter ≡ Ok text) (sym all) (opens key text sender)
 
--- If `bytes` has at most 1,048,613 bytes, and is `longer`, then `longer` cannot have more.
+-- If `bytes` has at most 1,048,613 bytes, and is `longer` with nothing after it, `longer` cannot have more.
 not_longer : (bytes longer : List ℕ) → length bytes ≤ 1048613 → bytes ≡ longer ++ [] → 1048613 < length longer → ⊥
 not_longer bytes longer few is many =
     let same : bytes ≡ longer = is ∙ append-nil longer in

@@ -22,16 +22,16 @@ IsBadKey other = ⊥
 abbrev pub IsKeyFault : ToolFault → Type 0
 IsKeyFault fault = IsBadKey fault ⊎ IsOpenFault fault
 
--- No key could be used, and nothing was written.
+-- The command fails since no key could be used, or a file could not be opened. Nothing was written.
 abbrev pub FailsAtKey : Option (List ℕ) → Option (List ℕ) → Result Bool ToolFault → Type 0
 FailsAtKey before after result = IsErrAnd result IsKeyFault × (after ≡ before)
 
--- The file of a key was made, and `done` was written. Or it could not be made.
+-- The file of a key was made, and then `done` was written. Or the file could not be made, and nothing was written.
 abbrev pub MakesKey : Option (List ℕ) → Option (List ℕ) → Result Bool ToolFault → Type 0
 MakesKey before after result =
     FailsAtKey before after result ⊎ GoesWell (WritesText before after (codes "done\n")) result
 
--- The text of a key was written, in a line. Or there was no key.
+-- The text of a key was written, in a line. Or no key could be read, and nothing was written.
 abbrev pub ShowsKey : Option (List ℕ) → Option (List ℕ) → Result Bool ToolFault → Type 0
 ShowsKey before after result =
     FailsAtKey before after result
@@ -47,21 +47,23 @@ key_fault texts.OutOfMemory = OutOfMemory
 abbrev pub IsKeyText : (left rest : Option (List ℕ)) → (key : List ℕ) → Type 0
 IsKeyText left rest key = (text : List ℕ) × IsWhole 1024 left rest text × (key_in text ≡ Ok key)
 
--- The input is too long for the text of a key, or could not be read. Or all of it is no such text.
+-- The input is too long for the text of a key, or could not be read, or memory ran out. Or all of the input is no text
+-- of a key.
 abbrev pub IsNoKeyText : (left rest : Option (List ℕ)) → ToolFault → Type 0
 IsNoKeyText left rest fault =
     StopsWhole 1024 (Key Digits) left rest fault
     ⊎ ((fault ≡ OutOfMemory)
     ⊎ ((text : List ℕ) × (bad : KeyFault) × IsWhole 1024 left rest text × (key_in text ≡ Err bad) × (fault ≡ key_fault bad)))
 
--- The input is the text of a key, and its file was made. Or it is no such text, and nothing was written.
+-- The input is the text of a key, and `MakesKey` holds: its file was made, or could not be made. Or the input is no
+-- text of a key, and nothing was written.
 abbrev pub ReadsKey : Option (List ℕ) → Option (List ℕ) → Option (List ℕ) → Option (List ℕ) → Result Bool ToolFault → Type 0
 ReadsKey left rest before after result =
     (IsErrAnd result (IsNoKeyText left rest) × (after ≡ before))
     ⊎ ((key : List ℕ) × IsKeyText left rest key × MakesKey before after result)
 
 -- The command `key` has this result for a deed. The input goes from `left` to `rest`, and the output from `before` to
--- `after`.
+-- `after`. Only the deed `Read` reads the input.
 abbrev pub RunsKey : KeyDeed → Option (List ℕ) → Option (List ℕ) → Option (List ℕ) → Option (List ℕ) → Result Bool ToolFault →
     Type 0
 RunsKey deeds.Make left rest before after result = (rest ≡ left) × MakesKey before after result

@@ -24,7 +24,8 @@ other_sender roles.Responder = Requester
 abbrev pub OpensLetter : (key : List ℕ) → Sender → (left rest : Option (List ℕ)) → (text : List ℕ) → Type 0
 OpensLetter key sender left rest text = Consumes left rest (sealed key sender text) × IsAtEnd rest
 
--- The input is longer than a letter, or could not be read. Or all of it is no letter that `sender` has sealed with `key`.
+-- The input is longer than any letter, or could not be read, or memory ran out. Or all of it is no letter that `sender`
+-- has sealed with `key`. `fault` is the fault for this.
 abbrev pub LeavesSealed : (key : List ℕ) → Sender → (left rest : Option (List ℕ)) → ToolFault → Type 0
 LeavesSealed key sender left rest fault =
     StopsWhole 1048613 NotSealed left rest fault

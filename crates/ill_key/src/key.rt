@@ -1,5 +1,5 @@
-//! The command `key`: it makes the file of a key, shows the key in one, or makes one of the text that another library has
-//! sent.
+//! The command `key`. It makes the file of a new key, or shows the key in a file. It also makes a file of the text that
+//! another library has sent.
 
 ghost use Rattle.std.specs.Prelude.{◌≡◌, IfOk, IfErr};
 ghost use Rattle.ill_key.specs.KeyCommand.{IsNoKeyText, IsKeyText, MakesKey, ReadsKey, RunsKey, ShowsKey, key_fault};
@@ -24,14 +24,15 @@ pub enum KeyDeed {
     Make,
     /// Show a key.
     Show,
-    /// Read a key that another library has made.
+    /// Read the text of a key from the input, and make the file of this key. Another library has made the key.
     Read,
 }
 
 /// The most bytes of the text of a key on an input.
 const TEXT_LIMIT: usize = 1_024;
 
-/// `ill key`: makes, shows or reads the key in `file`.
+/// `ill key`: does `deed`. It makes a new key in `file`, shows the key there, or makes `file` of the text on `reader`.
+/// Returns true, or the fault.
 pub fn key<T: Files, R: Read, W: Write, E: Write>(
     machine: &mut Machine<'_, T, W, E>,
     file: &str,
@@ -48,7 +49,7 @@ pub fn key<T: Files, R: Read, W: Write, E: Write>(
     }
 }
 
-/// Makes a new key in `file`.
+/// Makes a new key in `file`, and then writes `done`.
 fn make<T: Files, W: Write, E: Write>(
     machine: &mut Machine<'_, T, W, E>,
     file: &str,
@@ -84,7 +85,7 @@ fn show<T: Files, W: Write, E: Write>(
     all_well(write_whole(&mut machine.writer, &text))
 }
 
-/// Makes the file of the key whose text is on the input, at `file`.
+/// Makes the file of the key whose text is on the input, at `file`, and then writes `done`.
 fn read<T: Files, R: Read, W: Write, E: Write>(
     machine: &mut Machine<'_, T, W, E>,
     file: &str,
@@ -97,7 +98,7 @@ fn read<T: Files, R: Read, W: Write, E: Write>(
     keep(machine, file, &key)
 }
 
-/// Returns the key whose text is all of the input.
+/// Returns the key whose text is all of the input. Fails if the input is no text of a key, or cannot be read.
 fn key_on<R: Read>(alloc: Global, reader: &mut R) -> Result<Key, ToolFault>
     ensures key { IfOk result (λ key. IsKeyText (R.remaining reader.old) (R.remaining reader.new) key) }
     ensures fault { IfErr result (IsNoKeyText (R.remaining reader.old) (R.remaining reader.new)) }

@@ -20,13 +20,14 @@ const SIZE: usize = 32;
 /// The permissions of a key file: its owner reads and writes it.
 const OWNER: u32 = 0o600;
 
-/// The permissions of all others.
+/// The permissions of all users but the owner. A key file has none of them.
 const OTHERS: u32 = 0o077;
 
 /// The device of the system's randomness.
 const RANDOMNESS: &str = "/dev/urandom";
 
-/// Reads the key in the file at `path`.
+/// Reads the key in the file at `path`. Fails if no regular file of 32 bytes is there, others than its owner may use
+/// it, or it cannot be read.
 pub fn read_key<T: Files>(rt: &T, path: &str) -> Result<Key, ToolFault>
     ensures { IfErr result IsKeyFault }
 {
@@ -39,7 +40,8 @@ pub fn read_key<T: Files>(rt: &T, path: &str) -> Result<Key, ToolFault>
     Ok(Key::new(bytes))
 }
 
-/// Returns what was found of the file of a key, or the fault of the key.
+/// Returns `found`, the answer of a call on the file of a key. An error becomes a fault: out of memory, missing or
+/// unreadable.
 fn found_at<A: Drop>(found: io::Result<A>) -> Result<A, ToolFault>
     ensures { IfErr result IsKeyFault }
 {
@@ -51,7 +53,7 @@ fn found_at<A: Drop>(found: io::Result<A>) -> Result<A, ToolFault>
     }
 }
 
-/// Refuses what no key file has: another kind or size, or permissions for others.
+/// Fails if `found` is the metadata of no key file: it has another kind or size, or permissions for others.
 fn refuse_unfit(found: &Metadata) -> Result<(), ToolFault>
     ensures { IfErr result IsKeyFault }
 {
@@ -71,7 +73,7 @@ fn bytes_of<F: Read>(file: &mut F) -> io::Result<[u8; 32]> {
     Ok(bytes)
 }
 
-/// Returns a new key of the system's randomness.
+/// Returns a new key of the system's randomness. Fails if this cannot be read, or is no device.
 pub fn new_key<T: Files>(rt: &T) -> Result<Key, ToolFault>
     ensures { IfErr result IsKeyFault }
 {
@@ -82,7 +84,8 @@ pub fn new_key<T: Files>(rt: &T) -> Result<Key, ToolFault>
     Ok(Key::new(bytes_of(&mut device)?))
 }
 
-/// Makes the file of `key` at `path`, and makes it durable. It replaces no file. If it fails, it removes what it made.
+/// Makes the file of `key` at `path`, and makes it durable. Fails with `Exists` if a file is there. If it fails later,
+/// it removes the file that it made.
 pub fn make_key_file<T: Files>(rt: &T, path: &str, key: &Key) -> Result<(), ToolFault>
     ensures { IfErr result IsKeyFault }
 {

@@ -10,7 +10,8 @@ ghost use Rattle.ill_text.specs.declared.fault.ToolFault.TheVariants.{NotSealed}
 
 use ill_seal::laws::{no_letter_is_turned_round, what_opens_was_sealed};
 
-/// A desk opens each letter that a desk of the other role has sealed with its key. No key opens one of its own role.
+/// A desk opens each letter that a desk of the other role has sealed with its key. With no key it opens a letter of its
+/// own role.
 pub fn desks_open_letters_of_the_other_role()
     ensures other { (key text : List ℕ) (role other : Role) → own_sender other ≡ other_sender role →
         opened key (other_sender role) (sealed key (own_sender other) text) ≡ Ok text }
@@ -21,8 +22,8 @@ pub fn desks_open_letters_of_the_other_role()
     no_letter_is_turned_round();
 }
 
-/// If messages are taken from an input, all of it is one letter with just these. If it is `not-sealed`, it is no letter,
-/// or is longer than any.
+/// If messages are taken from an input, all of it is one letter with exactly these messages. If an input of at most
+/// 1,048,613 bytes is refused as `not-sealed`, it is no letter that opens.
 pub fn an_input_is_one_letter()
     ensures opens { (key bytes text : List ℕ) (sender : Sender) → OpensLetter key sender (Some bytes) (Some []) text →
         opened key sender bytes ≡ Ok text }

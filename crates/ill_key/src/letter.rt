@@ -16,8 +16,8 @@ use std::io::{Read, Write};
 /// The most bytes of a letter: 1,048,576 of messages, and 37 around them.
 pub const LETTER_LIMIT: usize = 1_048_613;
 
-/// Opens the letter on the input, and returns its messages. All of the input must be one letter that `sender` has sealed
-/// with `key` (else `NotSealed`).
+/// Opens the letter on the input `reader`, and returns the bytes of its messages. All of the input must be one letter
+/// that `sender` has sealed with `key` (else `NotSealed`).
 pub fn open_letter<R: Read>(
     alloc: Global,
     key: &Key,
@@ -35,7 +35,7 @@ pub fn open_letter<R: Read>(
     }
 }
 
-/// Writes the letter in which `sender` has sealed `text` with `key`.
+/// Seals the messages `text` as a letter of `sender` with `key`, and writes it to `writer`.
 pub fn write_letter<W: Write>(
     alloc: Global,
     key: &Key,

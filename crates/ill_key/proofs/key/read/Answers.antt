@@ -2,6 +2,6 @@
 use Rattle.std.proofs.Common.{inr}
 use Rattle.ill_key.proofs.key.read.Goals as goal
 
--- Proves that the input is the text of the key whose file is made.
+-- Proves the contract of `read` if a key was read. The input is its text, and `keep` made its file or failed.
 pub returns : goal.returns
 returns g c = inr (c.in_ok-key.key, c.in_ok-key.ensures.key, c.keep.ensures)

@@ -5,21 +5,21 @@ use Rattle.ill_store.specs.Store.{FileStoreState, StoreState}
 use Rattle.ill_saved.specs.Desk.{AreAllReleased, DeskOf}
 use Rattle.ill_saved.specs.ManySides.{DeskContents, many_sides, no_sides}
 
--- The place of a desk: the path of its file, and the states of the stores there.
+-- The place of a desk: the path of its file, and the function `state` from a store to its state.
 pub record PlaceOf (S : Type 0) : Type 0 where
   pub path : List ℕ
   pub state : S → StoreState
 
--- Returns the place with this path, whose stores have these states.
+-- Returns the place at `path`, where `state` gives the state of a store.
 abbrev pub place_of : {S : Type 0} → (S → StoreState) → List ℕ → PlaceOf S
 place_of state path = record { path = path; state = state }
 
--- The place of a shelf: the path of its folder, and the states of the stores in the files of its desks.
+-- The place of a shelf: the path of its folder, and the function `state` from a desk's store to its state.
 pub record ShelfOf (S : Type 0) : Type 0 where
   pub folder : List ℕ
   pub state : S → StoreState
 
--- Returns the shelf in this folder, whose desks have stores with these states.
+-- Returns the place of the shelf in `folder`, where `state` gives the state of the store of a desk.
 abbrev pub shelf_of : {S : Type 0} → (S → StoreState) → List ℕ → ShelfOf S
 shelf_of state folder = record { folder = folder; state = state }
 
@@ -45,8 +45,8 @@ IsAt place store = (place.state store).path ≡ Some place.path
 abbrev pub HasLandedAs : (landed : Option (List ℕ)) → (live : DeskContents) → Type 0
 HasLandedAs landed live = (bytes : List ℕ) × (landed ≡ Some bytes) × (many_sides.read bytes ≡ Ok live)
 
--- The desk was loaded from the place: its store is there, and an honest store has the record of its sides. All their messages
--- may be sent.
+-- The desk was loaded from the place: its store is there, and an honest store has the record of its sides. All their
+-- messages may be sent.
 pub record StartsAt {S : Type 0} (place : PlaceOf S) (desk : DeskOf DeskContents S) : Type 0 where
   pub path : IsAt place desk.store
   pub landed : (place.state desk.store).is_honest ≡ true → HasLandedAs (place.state desk.store).landed desk.live

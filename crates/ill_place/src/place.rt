@@ -13,8 +13,8 @@ use ill_text::fault::ToolFault;
 use ill_values::OutOfMemory;
 use std::alloc::Global;
 
-/// The files in which desks are kept. Nothing is known of them but this. So a command over any files of desks can show the
-/// desk of one path alone: the one that it has opened there.
+/// The files in which desks are kept. Nothing is known of them but the contracts of `store` and `lock`. So a command
+/// over any such files can show only the desk that it has opened at a path.
 pub trait DeskFiles {
     /// The store of the record in a file.
     type DeskStore: Store + Drop;
@@ -79,7 +79,7 @@ pub struct ShelfPlace<'a, D> {
     pub folder: &'a str,
 }
 
-/// A desk at its place, and the lock of its file. Its end lets the desk go first, and then the lock.
+/// A desk at its place, and the lock of its file. A drop drops the desk first, and then the lock.
 pub struct LockedAt<D: DeskFiles> {
     /// The desk.
     pub desk: Desk<D::DeskStore>,
@@ -129,8 +129,8 @@ impl<D: DeskFiles> DeskPlace<'_, D> {
         Ok(LockedAt { desk, lock })
     }
 
-    /// Loads the desk under `lock`, the lock of its file. If it has no record and there is a `role`, it begins a desk
-    /// of that role. Nothing of that desk is saved yet.
+    /// Loads the desk under `lock`, the lock of its file. If the file has no record and there is a `role`, it begins a
+    /// desk of that role. Nothing of it is saved yet. Without a `role` it fails with `NoRecord`.
     pub fn open_or_begin(
         &self,
         alloc: Global,
@@ -145,7 +145,7 @@ impl<D: DeskFiles> DeskPlace<'_, D> {
     }
 }
 
-/// Loads the desk whose record `store` has.
+/// Loads the desk whose record `store` has. Fails if there is no record.
 #[tactic(auto, using(crate::proofs::PlaceLemmas::started))]
 fn start<S: Store + Drop>(alloc: Global, store: S) -> Result<Desk<S>, ToolFault>
     ensures starts { (path : List ℕ) → IsAt (place_of S.state path) store
@@ -158,7 +158,8 @@ fn start<S: Store + Drop>(alloc: Global, store: S) -> Result<Desk<S>, ToolFault>
     }
 }
 
-/// Loads the desk whose record `store` has. If it has none and there is a `role`, it begins a desk of that role.
+/// Loads the desk whose record `store` has. If there is no record, it begins a desk of `role`, or fails without a
+/// `role`.
 #[tactic(auto, using(crate::proofs::PlaceLemmas::started))]
 fn start_or_begin<S: Store + Drop>(
     alloc: Global,
@@ -176,7 +177,7 @@ fn start_or_begin<S: Store + Drop>(
     }
 }
 
-/// Begins a desk of `role` over `store`, which has no record. Without a role there is no desk.
+/// Begins a desk of `role` over `store`, which has no record. Without a `role` it fails with `NoRecord`.
 #[tactic(auto, using(crate::proofs::PlaceLemmas::begun))]
 fn begin<S: Store + Drop>(alloc: Global, store: S, role: Option<Role>) -> Result<Desk<S>, ToolFault>
     ensures begins { (path : List ℕ) → IsAt (place_of S.state path) store
@@ -192,8 +193,8 @@ fn begin<S: Store + Drop>(alloc: Global, store: S, role: Option<Role>) -> Result
     }
 }
 
-/// A desk of another path or with other sides than its record was not loaded from a place, nor was one that has a message
-/// which may not be sent.
+/// A desk of another path or with other sides than its record was not loaded from a place, nor was one that has a
+/// message which may not be sent.
 #[tactic(auto, using(crate::proofs::PlaceLemmas::none_elsewhere))]
 pub fn no_other_desk_starts_at_a_place<S: Store>()
     ensures { (path : List ℕ) (desk : DeskOf DeskContents S) →

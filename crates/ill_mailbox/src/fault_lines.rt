@@ -23,7 +23,8 @@ const NOT_SENT: &str = " is not written, so nothing more is sent";
 /// The text after a path at which there should be a folder.
 pub(crate) const NO_FOLDER: &str = " is no folder";
 
-/// Returns `sent`. If a mail could not be put into its folder, a line with its path goes to the errors.
+/// Returns `sent`, the answer of a sending into `out`. If a mail could not be put there, a line with the path of the
+/// mail goes to the errors.
 pub fn report_fault_of_mail<A: Drop, T: Files, W: Write, E: Write>(
     machine: &mut Machine<'_, T, W, E>,
     sent: Result<A, ToolFault>,

@@ -7,13 +7,13 @@ use std::os::unix::fs::{DirBuilderExt, PermissionsExt};
 use std::rt::Files;
 use std::{fs, io};
 
-/// Makes the folder at `path`, which only the owner of the file `original` may enter, if it does not exist. A folder that
-/// others may enter is a fault.
+/// Makes the folder at `path`, which only the owner of the file `original` may enter, if it does not exist. A folder
+/// that others may enter is a fault.
 pub fn open_own_folder<T: Files>(rt: &T, path: &str, original: &str) -> io::Result<()> {
     make_own_folder(rt, path, Owner::of(&fs::symlink_metadata(rt, original)?))
 }
 
-/// Makes a folder that only its owner may enter, if it does not exist. A folder that others may enter is a fault.
+/// Makes the folder at `path` for `owner` alone, if it does not exist. A folder that others may enter is a fault.
 pub(crate) fn make_own_folder<T: Files>(rt: &T, path: &str, owner: Owner) -> io::Result<()> {
     make_folder(rt, path, owner)?;
     let found = fs::symlink_metadata(rt, path)?;
@@ -24,7 +24,8 @@ pub(crate) fn make_own_folder<T: Files>(rt: &T, path: &str, owner: Owner) -> io:
     }
 }
 
-/// Makes a folder for its owner alone, if it does not exist. A link to a folder is a fault.
+/// Makes the folder at `path` for `owner` alone, if it does not exist. Anything else there, as a link to a folder, is a
+/// fault. The permissions of a folder that exists are not looked at.
 pub(crate) fn make_folder<T: Files>(rt: &T, path: &str, owner: Owner) -> io::Result<()> {
     match fs::symlink_metadata(rt, path) {
         Ok(found) if found.is_dir() => Ok(()),
@@ -34,7 +35,7 @@ pub(crate) fn make_folder<T: Files>(rt: &T, path: &str, owner: Owner) -> io::Res
     }
 }
 
-/// Makes a folder for its owner alone. If something is at `path`, that is a fault.
+/// Makes a folder at `path` for `owner` alone. If something is at `path`, that is a fault.
 pub(crate) fn make_new_folder<T: Files>(rt: &T, path: &str, owner: Owner) -> io::Result<()> {
     DirBuilder::new().mode(0o700).create(rt, path)?;
     owner.take(rt, path);

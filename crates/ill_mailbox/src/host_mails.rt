@@ -1,4 +1,4 @@
-//! Mails in files of the host's, as a disk: the only place here that names the calls which settle and send a mail.
+//! Mails in files of the host's, as a disk. Only this file names the calls of the system that settle and send a mail.
 
 ghost use Rattle.ill_mailbox.specs.HostMails.{host_mails};
 
@@ -18,13 +18,13 @@ use std::{fs, io, mem};
 ///
 /// A new file is kept open from its making to its flush. So a flush is one of the file that was made.
 ///
-/// No contract says what a folder of the host's has, so this disk is not honest. docs/STORES.md says, call by call, what the
-/// host has to do.
+/// No contract says what a folder of the host's has, so this disk is not honest. docs/STORES.md says, call by call,
+/// what the host has to do.
 #[derive(Drop)]
 pub struct HostMails<'r, T: Files> {
     rt: &'r T,
     alloc: Global,
-    /// The owner of what is made, who alone may read it. Without one it is as the user makes it.
+    /// The owner of what is made, who alone may read it. Without an owner, what is made belongs to the user of the run.
     owner: Option<Owner>,
     /// Set if folders are flushed.
     is_flushing: bool,
@@ -80,7 +80,7 @@ impl<'r, T: Files> HostMails<'r, T> {
         Ok(())
     }
 
-    /// Flushes the file at `path`, which was made or is opened for it.
+    /// Flushes the file at `path`. If it was made there and is still open, it is not opened again.
     fn flush_at(&mut self, path: &str) -> io::Result<()> {
         match mem::replace(&mut self.made, None) {
             Some(made) if made.path.as_str() == path => flush(&made.file),
@@ -136,7 +136,7 @@ fn number_of(found: &Metadata) -> u128 {
     (u128::from(found.dev()) << 64) | u128::from(found.ino())
 }
 
-/// Each call is that of the system. `read` and `look_up` are those of a record in a file.
+/// Each call is one of the system. `read` and `look_up` are those of `HostDisk`, as for a record. `flush_names` fails.
 impl<'r, T: Files> Disk for HostMails<'r, T> {
     ghost state = { λ _. host_mails };
 

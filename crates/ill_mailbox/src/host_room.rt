@@ -20,8 +20,8 @@ pub const NOT_ASKED: &str = ".mail/asked cannot be read or written";
 
 /// The mails that a run has found in the folders of a desk. A mail that could not be claimed stays in its folder.
 ///
-/// No contract says what a folder of the host's has, so this room is not honest. docs/STORES.md says what each call does
-/// there.
+/// No contract says what a folder of the host's has, so this room is not honest. docs/STORES.md says what each call
+/// does there.
 #[derive(Drop)]
 pub struct HostRoom<'r, 'a, T: Files> {
     rt: &'r T,
@@ -46,7 +46,8 @@ enum Giving {
 }
 
 impl<'r, 'a, T: Files> HostRoom<'r, 'a, T> {
-    /// Returns the room of the mails `found` at `place`. If `is_telling` is set, it tells a person of mails.
+    /// Returns the room of the mails `found` at `place`. If `is_telling` is set, it writes a line about each mail that
+    /// wants a person.
     pub fn at(
         rt: &'r T,
         alloc: Global,
@@ -68,7 +69,7 @@ impl<'r, 'a, T: Files> HostRoom<'r, 'a, T> {
         }
     }
 
-    /// Gives a claimed mail back.
+    /// Gives a claimed mail back to the folder from which it came, as `giving` says.
     fn give(&mut self, claimed: ClaimedMail<'_>) -> io::Result<()> {
         match self.giving {
             Giving::Unflushed => return give_back(self.rt, self.alloc, claimed),
@@ -81,7 +82,7 @@ impl<'r, 'a, T: Files> HostRoom<'r, 'a, T> {
         give_back_durably(self.rt, self.alloc, claimed)
     }
 
-    /// Returns the mail of this number, and its file, if it was claimed.
+    /// Returns the mail with the number `mail`, and its file. Returns `None` if the mail could not be claimed.
     fn claimed(&self, mail: usize) -> Option<(&'a Mail, ClaimedMail<'a>)> {
         match (self.found.mails.get(mail), self.found.files.get(mail)) {
             (Some(mail), Some(Some(file))) => Some((
@@ -96,7 +97,7 @@ impl<'r, 'a, T: Files> HostRoom<'r, 'a, T> {
         }
     }
 
-    /// Puts a mail aside, under the digest of the bytes that were read of it.
+    /// Puts a mail aside under the digest of its bytes that were read. The reason `unfit` goes into a file beside it.
     fn set_aside(&self, mail: &Mail, claimed: ClaimedMail<'_>, unfit: Unfit) -> io::Result<()> {
         let digest = mail.digest(self.alloc)?;
         let mut why = Vec::new(self.alloc);
@@ -154,7 +155,7 @@ impl<'r, 'a, T: Files> Room for HostRoom<'r, 'a, T> {
     }
 }
 
-/// Removes the folders of runs that have no mail left.
+/// Removes the folders of runs that have no mail left. A folder with mails stays.
 pub fn remove_runs<T: Files>(rt: &T, found: &Mails) {
     for run in &found.runs {
         let _ = fs::remove_dir(rt, run.as_str());

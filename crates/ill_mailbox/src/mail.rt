@@ -48,12 +48,12 @@ const MOST: usize = APDU_LIMIT + LINE_END + 1;
 /// The mails of a run.
 #[derive(Drop)]
 pub struct Mails {
-    /// The mails that were read. Those without a message come first, and then the others in the order of their loans. The
-    /// mails of a loan have the order of their numbers.
+    /// The mails that were read. Those without a message come first, and then the others in the order of their loans.
+    /// The mails of a loan have the order of their numbers.
     pub mails: Vec<Mail>,
-    /// The path of the file of each, or none if it could not be claimed.
+    /// The path of the file of each mail, in the order of `mails`. A mail that could not be claimed has none.
     pub files: Vec<Option<String>>,
-    /// The number of further mails.
+    /// The number of further mails, which wait for the next run.
     pub waiting: usize,
     /// The folders of the runs that have claimed mails. The folder of this run is the last.
     pub runs: Vec<String>,
@@ -66,7 +66,7 @@ pub struct Mails {
 pub struct Opening<'k> {
     /// The key, which the other library holds too.
     pub key: &'k Key,
-    /// The other library.
+    /// The other library, which has sealed them.
     pub sender: Sender,
 }
 
@@ -92,9 +92,9 @@ impl Mails {
         Ok(())
     }
 
-    /// Adds the messages of the letter in `file`, whose first bytes are `bytes`. Each is a mail of its own, with the name of
-    /// the letter. If `opening` opens no letter there, it is a mail without bytes. The record of a desk, which came by
-    /// mistake, is a mail as it is without a key.
+    /// Adds the messages of the letter in `file`, whose first bytes are `bytes`. Each message is a mail of its own,
+    /// with the `name` of the letter. If `opening` opens no letter there, the file is one mail without bytes. The
+    /// record of a desk, which came by mistake, is one mail with its first bytes.
     fn add_letter(
         &mut self,
         opening: Opening<'_>,
@@ -124,7 +124,8 @@ impl Mails {
         }
     }
 
-    /// Adds `messages`, those of one letter. A letter without any is a mail without a message.
+    /// Adds `messages`, which are those of `letter`, each as a mail. A letter without messages is one mail with empty
+    /// bytes.
     fn add_messages(
         &mut self,
         name: &[u8],
@@ -142,7 +143,7 @@ impl Mails {
         Ok(())
     }
 
-    /// Adds a mail of a letter.
+    /// Adds a mail of `letter` with one message, `bytes`. It has no bytes if the letter was not opened.
     fn add_part(
         &mut self,
         name: &[u8],
@@ -189,7 +190,8 @@ impl Mails {
         Ok(ordered)
     }
 
-    /// Adds a mail that cannot be read, or counts it if the run is full.
+    /// Adds the mail `name`, which cannot be claimed, without bytes and without a file. If the run is full, it counts
+    /// it as waiting.
     fn add_or_count(&mut self, name: Vec<u8>) -> io::Result<()> {
         if self.is_full() {
             self.waiting = self.waiting.saturating_add(1);
@@ -231,7 +233,7 @@ fn whole_mail(name: Vec<u8>, bytes: Option<Vec<u8>>) -> Mail {
     }
 }
 
-/// Returns the first bytes of the file at `path`, one more than a letter has.
+/// Returns the first bytes of the file at `path`, at most one more than the longest letter has.
 fn letter_bytes<T: Files>(rt: &T, alloc: Global, path: &str) -> io::Result<Vec<u8>> {
     let mut bytes = Vec::new(alloc);
     fs::open(rt, path)?
@@ -278,7 +280,7 @@ pub struct Incoming<'a, 'b, 'c> {
     pub key: Option<&'a Key>,
 }
 
-/// Makes the folder of a run.
+/// Makes the folder of a run, as `new_run` does, and returns its path. An error is the fault of a command.
 pub fn begin_run<T: Files>(rt: &T, alloc: Global, mail_box: &MailBox) -> Result<String, ToolFault>
     ensures { IfErr result IsOpenFault }
 {
@@ -299,8 +301,9 @@ pub fn claim_mails<T: Files>(
     Ok(all_mails(rt, alloc, mail_box, source, Some(run))?)
 }
 
-/// Reads the mails that a shelf has sorted from the folder of `place` to the desk there. A carrier that opened a mail
-/// before the claim may still write to it. If its message is then for another desk, its bytes are hidden.
+/// Reads the mails that a shelf has sorted from the folder of `place` to the desk there, a desk of `role`. A carrier
+/// that opened a mail before the claim may still write to it. If its message is then for another desk, the bytes of the
+/// mail are hidden.
 pub fn sorted_mails<T: Files>(
     rt: &T,
     alloc: Global,
@@ -333,7 +336,7 @@ fn hide_others(
     Ok(())
 }
 
-/// Returns true if the desk in `file` may take `mail`: it has no message, or one that is for this desk.
+/// Returns true if the desk of `role` in `file` may take `mail`. The mail has no message, or one for this desk.
 fn may_be_own(alloc: Global, file: &str, role: Role, mail: &Mail) -> Result<bool, OutOfMemory> {
     let Some(bytes) = &mail.bytes else {
         return Ok(true);
@@ -464,7 +467,7 @@ fn is_folder<T: Files>(rt: &T, path: &str) -> bool {
     }
 }
 
-/// Returns the number of a run, which is the name of its folder.
+/// Returns the number of a run, which is the name of its folder. Returns `None` if the name is no number.
 fn number_of(run: &[u8]) -> Option<u32> {
     str::from_utf8(run).ok()?.parse::<u32>().ok()
 }
@@ -487,7 +490,8 @@ fn add_again<T: Files>(
     }
 }
 
-/// Claims the mail `name` and adds it, if it is a mail, or counts it if the run is full.
+/// Claims the entry `name` of the folder and adds it, if it is a regular file. If the run is full, it counts it as
+/// waiting.
 fn add_mail<T: Files>(
     rt: &T,
     claiming: &Claiming<'_>,
@@ -509,7 +513,7 @@ fn add_mail<T: Files>(
     }
 }
 
-/// Claims the mail at `path`, and adds it. A mail that cannot be claimed is not read.
+/// Claims the mail at `path`, and adds it. A mail that cannot be claimed is added unread.
 fn add_claimed<T: Files>(
     rt: &T,
     path: &str,
@@ -554,7 +558,7 @@ fn claim<T: Files>(
     Ok(file)
 }
 
-/// Finds the regular file at `path`. Anything else is no mail, and neither is a file that was removed.
+/// Returns the metadata of the regular file at `path`. Returns `None` if anything else or nothing is there.
 fn lookup<T: Files>(rt: &T, path: &str) -> io::Result<Option<Metadata>> {
     match fs::symlink_metadata(rt, path) {
         Ok(found) if found.is_file() => Ok(Some(found)),
@@ -573,8 +577,8 @@ fn bytes_if_read(read: io::Result<Vec<u8>>) -> io::Result<Option<Vec<u8>>> {
     }
 }
 
-/// Gives back what was claimed and is no regular file. Only a lack of memory is a failure. After another one it remains
-/// among the claimed mails, for the next run.
+/// Gives back what was claimed into `file` and is no regular file. Only a lack of memory is a failure. If another call
+/// fails, `file` remains among the claimed mails, for the next run.
 fn give_back_other<T: Files>(
     rt: &T,
     alloc: Global,
@@ -593,8 +597,8 @@ fn give_back_other<T: Files>(
     }
 }
 
-/// Returns the first bytes of the file at `path`, whose size was `size`, without a line end after a message. If that is
-/// still its size, one call reads them.
+/// Returns the first bytes of the file at `path`, without a line end after a message. If the file still has the size
+/// `size`, one call reads them.
 fn first_bytes<T: Files>(rt: &T, alloc: Global, path: &str, size: u64) -> io::Result<Vec<u8>> {
     let mut file = fs::open(rt, path)?;
     let mut first = [0; MOST];

@@ -80,7 +80,8 @@ struct AsidePaths<'a> {
 }
 
 impl ClaimedMail<'_> {
-    /// Returns the mail with its paths and its file, if this is there. A name that is no UTF-8 is none of a claimed mail.
+    /// Returns the paths of the mail and its file. `aside` has the paths to which it may be put aside. Returns `None`
+    /// if the file is gone, or the name is no UTF-8.
     fn spot<T: Files>(
         self,
         alloc: Global,
@@ -104,7 +105,7 @@ impl ClaimedMail<'_> {
     }
 }
 
-/// Returns the answer of the host for that of a move.
+/// Returns `moved`, the answer of a move on the disk, with its fault as an error of the host.
 fn done(moved: Result<(), DiskFault>) -> io::Result<()> {
     match moved {
         Ok(()) => Ok(()),
@@ -138,7 +139,8 @@ impl MailBox {
         self.claimed.as_str()
     }
 
-    /// Returns true if `folder` leads to this folder or into it, or has files of a desk. No mail may be there.
+    /// Returns true if `folder` leads to the folder of this mail or into it, or is reserved (`is_reserved`). No mail
+    /// may come from there.
     pub fn is_at<T: Files>(&self, rt: &T, alloc: Global, folder: &str) -> io::Result<bool> {
         Ok(
             is_within(rt, alloc, folder, self.path.as_str())?
@@ -146,7 +148,7 @@ impl MailBox {
         )
     }
 
-    /// Makes the folder of a run among the claimed mails. If there is a folder at `path`, that is a fault.
+    /// Makes the folder of a run at `path`, among the claimed mails. If something is at `path`, that is a fault.
     pub fn make_run<T: Files>(&self, rt: &T, path: &str) -> io::Result<()> {
         make_new_folder(rt, path, self.owner)
     }
@@ -156,8 +158,8 @@ impl MailBox {
         asked_at(alloc, self.path.as_str())
     }
 
-    /// Puts `mail` aside under the name `digest`, with the line `why` in another file beside it. A file of its size beside it
-    /// has that line already, since equal mails have equal names and reasons.
+    /// Puts `mail` aside under the name `digest`, with the line `why` in another file beside it. A file of its size
+    /// beside it has that line already, since equal mails have equal names and reasons.
     pub fn put_aside<T: Files>(
         &self,
         rt: &T,
@@ -198,8 +200,8 @@ impl MailBox {
         flush_folders(rt, &[self.claimed(), path, folder_of(path)])
     }
 
-    /// Returns true once a month for each `name`: if it did so more than a month before the folder `run` was made, or
-    /// never. The file `told/NAME` has the time when it did.
+    /// Returns false if it returned true for `name` in the thirty days before the folder `run` was made. Else it makes
+    /// the file `told/NAME` anew, whose time says when, and returns true.
     pub fn is_to_tell<T: Files>(
         &self,
         rt: &T,
@@ -224,7 +226,8 @@ impl MailBox {
         }
     }
 
-    /// Keeps `asked`, the messages that ask. They replace the ones of the night before.
+    /// Keeps `asked`, the messages that ask, in a file. They replace the messages of the night before. If there are
+    /// none, the file is removed.
     pub fn keep_asked<T: Files>(&self, rt: &T, alloc: Global, asked: &[u8]) -> io::Result<()> {
         let path = self.asked(alloc)?;
         if asked.is_empty() {
@@ -275,14 +278,14 @@ const NOT_ASIDE: AsidePaths<'static> = AsidePaths {
 /// Gives `mail` back to the folder from which it was claimed. If another mail with its name has come there, it remains
 /// claimed, and the next run takes it first.
 ///
-/// That folder is not flushed. Other mails have left it for folders that may not be flushed either. So it is trusted that
-/// a system does not lose the second name alone.
+/// That folder is not flushed. Other mails have left it for folders that may not be flushed either. For a moment the
+/// mail has two names. It is trusted that a system does not lose the second name alone.
 pub fn give_back<T: Files>(rt: &T, alloc: Global, mail: ClaimedMail<'_>) -> io::Result<()> {
     give_back_on(&mut HostMails::unflushed(rt, alloc), alloc, mail)
 }
 
-/// Removes the claimed name of a mail whose file stands aside. A crash may have left both names, and a rename from one to
-/// the other does nothing.
+/// Removes the claimed name of the mail of `spot`, if its file stands aside too. A crash may have left both names, and
+/// then a rename from one to the other does nothing.
 fn end_if_aside<T: Files>(disk: &mut HostMails<'_, T>, spot: &Spot) -> io::Result<()> {
     match disk.find(spot.aside()) {
         Ok(Some(found)) if found.file == spot.file() => done(clear(disk, spot.claimed())),
@@ -291,7 +294,7 @@ fn end_if_aside<T: Files>(disk: &mut HostMails<'_, T>, spot: &Spot) -> io::Resul
     }
 }
 
-/// Gives a mail back on this disk.
+/// Gives `mail` back on `disk`, if its file is there. The disk decides if the folder is flushed.
 fn give_back_on<T: Files>(
     disk: &mut HostMails<'_, T>,
     alloc: Global,
@@ -303,8 +306,8 @@ fn give_back_on<T: Files>(
     }
 }
 
-/// Gives `mail` back as `give_back` does, and flushes the folder from which it was claimed before its claimed name goes.
-/// All mails that have left that folder are durable elsewhere.
+/// Gives `mail` back as `give_back` does, and flushes the folder from which it was claimed before its claimed name
+/// goes. All mails that have left that folder are durable elsewhere.
 pub fn give_back_durably<T: Files>(rt: &T, alloc: Global, mail: ClaimedMail<'_>) -> io::Result<()> {
     give_back_on(&mut HostMails::at(rt, alloc, None), alloc, mail)
 }

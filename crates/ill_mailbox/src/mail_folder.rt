@@ -34,7 +34,7 @@ impl<'r, 'a, R: Files> MailFolder<'r, 'a, R> {
         }
     }
 
-    /// Returns the path of a mail that could not be put there.
+    /// Returns the path of the mail that could not be put there, or `None` if no put has failed.
     pub fn failed(&self) -> Result<Option<String>, OutOfMemory> {
         let Some(name) = &self.failed else {
             return Ok(None);
@@ -44,9 +44,10 @@ impl<'r, 'a, R: Files> MailFolder<'r, 'a, R> {
         Ok(Some(format!(in self.alloc; "{folder}/{name}")?))
     }
 
-    /// Puts a message into a new file with the name `name`. So the mail `name` is there whole, or unchanged, even after a
-    /// loss of power. The new file is made under the name of its mail after a dot, so only a run that holds the desk of this
-    /// mail writes it. It follows no link. The new file is made at a path without a file, and the rename replaces a link.
+    /// Puts a message into a new file with the name `name`. So the mail `name` is there whole, or unchanged, even after
+    /// a loss of power. The new file is made under the name of its mail after a dot, so only a run that holds the desk
+    /// of this mail writes it. It follows no link. The new file is made at a path without a file, and the rename
+    /// replaces a link.
     fn write(&self, name: &[u8], bytes: &[u8]) -> Result<(), DiskFault> {
         let folder = self.path;
         let name = str::from_utf8(name).unwrap_or_default();

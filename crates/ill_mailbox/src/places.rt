@@ -43,7 +43,8 @@ struct Misplaced<'a> {
     text: &'static str,
 }
 
-/// Looks at the folder OUT of the desk in `file`. If it is no folder for mails, it writes a line to `errors`.
+/// Fails if OUT, the folder at `out`, is no folder or is reserved (`is_reserved`). A line to the errors says which.
+/// `file` is the file of the desk.
 pub fn look_at_out<T: Files, W: Write, E: Write>(
     machine: &mut Machine<'_, T, W, E>,
     file: &str,
@@ -59,7 +60,7 @@ pub fn look_at_out<T: Files, W: Write, E: Write>(
     Ok(())
 }
 
-/// Finds the folder at `path`.
+/// Fails if there is no folder at `path`.
 fn find_folder<T: Files>(rt: &T, path: &str) -> Result<(), ToolFault>
     ensures { IfErr result IsOpenFault }
 {
@@ -69,8 +70,8 @@ fn find_folder<T: Files>(rt: &T, path: &str) -> Result<(), ToolFault>
     }
 }
 
-/// Looks at the folders of `night`, and at the paths of its copy and its sign of life, before anything is done. If one is
-/// misplaced, it writes a line to `errors`.
+/// Looks at the folders of `night`, and at the paths of its copy and its sign of life, before anything is done. Fails
+/// if one of them is misplaced, with a line to the errors.
 pub fn look_at_places<T: Files, W: Write, E: Write>(
     machine: &mut Machine<'_, T, W, E>,
     places: &Places<'_>,

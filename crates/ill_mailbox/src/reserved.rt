@@ -24,7 +24,7 @@ pub fn is_within<T: Files>(rt: &T, alloc: Global, path: &str, folder: &str) -> i
     Ok(false)
 }
 
-/// Returns true if `folder` is the folder of the desk in `file`, a shelf, or within the mail of any desk. Files there
+/// Returns true if `folder` has the desk's file `file`, is a shelf, or is within the mail of any desk. Files there
 /// belong to desks, so no mail may be there.
 pub(crate) fn is_reserved<T: Files>(
     rt: &T,
@@ -39,8 +39,8 @@ pub(crate) fn is_reserved<T: Files>(
     )
 }
 
-/// Returns true if a part of the path of `folder`, without its links, is the name of the folder of a desk's mail. If the
-/// system does not tell that path, it returns false.
+/// Returns true if a part of the path of `folder`, with its links resolved, ends with `.mail`, as a desk's mail does.
+/// If the system does not tell that path, it returns false.
 fn is_within_mail<T: Files>(rt: &T, alloc: Global, folder: &str) -> io::Result<bool> {
     match rt.canonicalize(alloc, folder) {
         Ok(path) => Ok(path.as_str().split('/').any(|part| part.ends_with(MAIL))),

@@ -56,7 +56,7 @@ gone_is_done (Some (Aside unfit)) (inr aside) = absurd (true≢false (ap is_gone
 gone_is_done (Some (Left delay)) (inl same) = absurd (true≢false (ap is_gone same))
 gone_is_done (Some (Left delay)) (inr waits) = absurd (true≢false (ap is_gone waits))
 
--- ---- the mails of a letter
+-- ---- if the verdict for a file is `Done`, so is that of each mail in it; and what is gone has landed
 
 -- A mail without a verdict is not done.
 none_is_not_done : IsDone None → ⊥
@@ -79,7 +79,8 @@ worse_is_done (Aside unfit) (Left delay) done = absurd (left_is_not_done delay d
 worse_is_done (Aside unfit) (Aside other) done = done
 worse_is_done (Aside unfit) (Done outcome) done = done
 
--- A verdict is `first`, or the worse of `first` and `other` if `counts` is true. If it is `Done`, so is `first`.
+-- If `counts` is true, let the verdict be the worse of `first` and `other`, else `first`. If that is `Done`, so is
+-- `first`.
 worse_if_is_done : (counts : Bool) (first other : Verdict) → IsDone (Some (if counts then worse first other else first)) →
     IsDone (Some first)
 worse_if_is_done true first other done = worse_is_done first other done

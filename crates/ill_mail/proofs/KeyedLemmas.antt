@@ -1,4 +1,4 @@
--- Proves that a command may do with a key what it does without one.
+-- Proves that what a command does without regard to a key, it may do with a key and without.
 use Rattle.std.proofs.Common.{ℕ, Bool, List, Option, None, Some, Result, inr}
 use Rattle.ill_text.specs.declared.fault.ToolFault.{ToolFault}
 use Rattle.ill_mail.specs.Keyed.{WithKey}

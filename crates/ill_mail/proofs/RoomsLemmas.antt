@@ -73,7 +73,7 @@ signs_never Puts asked desk old after fault puts = record {
   wish = λ honest. record { copy = refl; sign = refl };
 }
 
--- ---- the commands
+-- ---- the commands `inbox` and `exchange`
 
 -- If the mails that arrived were taken (`TakesFound`), `TakesMails` holds in their form.
 pub found_taken : (arrived : Arrived) (old new : CommandState DeskContents) (result : Result Night ToolFault) →

@@ -11,13 +11,13 @@ use Rattle.ill_night.specs.Outbox.{Putting, RunsOutbox}
 use Rattle.ill_room.specs.Room.{RoomState}
 use Rattle.ill_mail.specs.Rooms.{OutState}
 
--- The mails of a room cannot be taken so: something was done in the room, and no run over them was saved.
+-- Mails are never taken in this way: something was done in their room, and no run over them was saved.
 pub data IsBadTaking (mails : List Mail) (desk : HeldAndLanded DeskContents) (old new : RoomState) : Type 0 where
   unsaved : ((verdicts : List Verdict) → EndedWell mails verdicts desk → ⊥) → (new ≡ old → ⊥) →
       IsBadTaking mails desk old new
 
--- The messages of a desk cannot leave so. A message left that the copy has not, a sign of life was given before all had
--- left, or what left is no outbox of the desk.
+-- Messages of a desk never leave in this way. A message left before a wanted copy had the desk's record. Or a sign of
+-- life was given before all had left. Or what left is no outbox of the desk.
 pub data IsBadSending {M : Type 0} (Puts : Putting M) (asked : List ℕ) (desk : DeskContents) (old new : OutState M)
     : Type 0 where
   uncopied : old.backup.is_honest ≡ true → new.backup.keeps_copy ≡ true →

@@ -45,8 +45,8 @@ taken_of taken = record {
   waiting = taken.found.waiting;
 }
 
--- A run over `mails` ended with this answer, and then the files of the mails were settled, or that failed. A
--- fault of the run is the result.
+-- A run over `mails`, beside which `waiting` further ones wait, ended with this answer. Then the files of the mails
+-- were settled, and the result is the night. Or that failed. A fault of the run is the result.
 abbrev pub SettlesRun : List Mail → ℕ → Result (List Verdict) ToolFault → Result Night ToolFault → Type 0
 SettlesRun mails waiting (Ok verdicts) result =
     (result ≡ Ok (record { verdicts = verdicts; mails = mails; waiting = waiting })) ⊎ IsErrAnd result IsFileFault
@@ -56,8 +56,8 @@ SettlesRun mails waiting (Err fault) result = result ≡ Err fault
 abbrev pub arrived_in : Form → List Mail → (waiting : ℕ) → Arrived
 arrived_in form mails waiting = record { form = form; mails = mails; waiting = waiting }
 
--- The mails of a folder were taken at a desk, told in the form `form`, and their files settled. Further mails may wait. Or a
--- file could not be opened, and the desk is unchanged.
+-- The mails of a folder were taken at a desk, told in the form `form`, and their files settled. Further mails may wait.
+-- Or a file could not be opened, and the desk is unchanged.
 abbrev pub TakesMails : Form → CommandState DeskContents → Result Night ToolFault → CommandState DeskContents → Type 0
 TakesMails form old result new =
     (FailsToOpen old.written new.written result × (new.desk ≡ old.desk))
@@ -65,7 +65,8 @@ TakesMails form old result new =
     × RunsInbox many_sides (arrived_in form mails waiting) old answer new
     × SettlesRun mails waiting answer result)
 
--- Returns the result of `inbox` after a run.
+-- Returns the result of `inbox` after a run. It is the fault `Left` if mails wait for the next run. Else it is true if
+-- no mail was put aside or in conflict.
 abbrev pub ending_of : Result Night ToolFault → Result Bool ToolFault
 ending_of (Ok night) = ending (tally_of night.verdicts) night.waiting
 ending_of (Err fault) = Err fault
@@ -100,7 +101,7 @@ abbrev pub SendsOn : List DeskEntry → Option (List ℕ) → Option (List ℕ) 
 SendsOn held before after result =
     FailsToOpen before after result ⊎ ((bytes : List ℕ) × StreamsOutbox bytes held before after result)
 
--- The messages of a desk were put into a folder if the Bool is true, else written to the output.
+-- The messages of a desk were put into a folder if the argument is true, else written to the output.
 abbrev pub SendsFrom : Bool → List DeskEntry → Option (List ℕ) → Option (List ℕ) → Result (Unit {0}) ToolFault → Type 0
 SendsFrom true = SendsTo
 SendsFrom false = SendsOn
@@ -117,15 +118,15 @@ abbrev pub PerformsDueDeeds : Form → Option (Date × Dates) → CommandState D
 PerformsDueDeeds form None old result new = (result ≡ Ok tt) × (new.written ≡ old.written) × (new.desk ≡ old.desk)
 PerformsDueDeeds form (Some (today, which)) old result new = RunsDates form which today old result new
 
--- The deeds of the day of `dates` at the desk `live` were entered in a diary, with this answer. Each line begins with `begin`.
--- Without a day nothing was entered.
+-- The deeds of the day of `dates` at the desk `live` were entered in a diary, with this answer. Each line begins with
+-- `begin`. Without a day nothing was entered.
 abbrev pub EntersDueDeeds : Option (Date × Dates) → (begin : List ℕ) → (live : DeskContents) → Result (Unit {0}) ToolFault →
     DiaryState → DiaryState → Type 0
 EntersDueDeeds None begin live result old new = new ≡ old
 EntersDueDeeds (Some (today, which)) begin live result old new =
     EntersDeeds result (lines_of_dates which today begin live) old new
 
--- Returns the result of a night. It is a fault if mails wait, false if a mail wants a person, else true.
+-- Returns the result of a night. It is the fault `Left` if mails wait, false if a mail wants a person, else true.
 abbrev pub night_ending : Role → Night → Result Bool ToolFault
 night_ending role night =
     if is_waiting (tally_of night.verdicts) night.waiting then Err Left
@@ -149,8 +150,8 @@ SendsAll form night live before after result =
     ⊎ ((sent : Result (Unit {0}) ToolFault) × SendsAsked form (night_asks live night) live.held before after sent
     × EndsAfterSending (night_ending live.role night) sent result)
 
--- The deeds of a night had an answer. If they were performed, `Sends` says the result of the night. Else it is their fault,
--- and nothing more was written.
+-- The deeds of a night had an answer. If they were performed, `Sends` holds, which says the result of the night. Else
+-- the result is the fault of the deeds, and nothing more was written.
 abbrev pub AfterDeeds : Result (Unit {0}) ToolFault → Option (List ℕ) → Option (List ℕ) → Type 0 → Result Bool ToolFault →
     Type 0
 AfterDeeds (Ok done) before after Sends result = Sends

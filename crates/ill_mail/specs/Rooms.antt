@@ -32,16 +32,17 @@ TakesFound arrived old result new =
     (answer : Result (List Verdict) ToolFault) × RunsInbox many_sides arrived old answer new
     × SettlesRun arrived.mails arrived.waiting answer result
 
--- A run over `mails` ended well with these verdicts, at a desk that is `desk` then. So it is saved. After that the messages
--- that ask were kept, and then the files of the mails settled. The mails of a letter share its file.
+-- A run over `mails` ended well with `verdicts`, and the desk after it, `desk`, is saved. Then the messages that ask
+-- were kept, and the files of the mails settled. The room went from `old` to `new`, and `answer` says if all was done.
+-- The mails of a letter share its file.
 pub record SettlesSaved {A : Type 0} (mails : List Mail) (verdicts : List Verdict) (desk : HeldAndLanded DeskContents)
     (old : RoomState) (answer : Result A ToolFault) (new : RoomState) : Type 0 where
   pub saved : EndedWell mails verdicts desk
   pub ends : Answers is_honest_room (EndsRun (asked_by desk.live (zip mails verdicts)) (file_verdicts (zip mails verdicts)))
       old answer new
 
--- The mails of a room were taken at a desk, which is `desk` then. After a fault nothing was done in the room, or the run
--- was saved, and its files settled as far as they could be.
+-- The mails of a room were taken at a desk, which is `desk` after that. After a fault nothing was done in the room, or
+-- the run was saved, and its files settled as far as they could be.
 abbrev pub TakesInRoom : List Mail → HeldAndLanded DeskContents → RoomState → Result (List Verdict) ToolFault → RoomState →
     Type 0
 TakesInRoom mails desk old (Ok verdicts) new = SettlesSaved {A = Unit {0}} mails verdicts desk old (Ok tt) new
@@ -84,8 +85,8 @@ rooms_state mail backup out rooms = record { mail = mail rooms.mail; leaving = o
 
 -- ---- the messages that leave
 
--- The messages of a desk that holds `desk` were put into the outlet, or some of them. They leave after the copy is made.
--- A sign of life is given after all have left. `asked` has the messages that ask.
+-- The messages of a desk that holds `desk` were put into the outlet, or some of them. They leave after the copy is
+-- made. A sign of life is given after all have left. `asked` has the messages that ask.
 pub record SendsInRooms {M : Type 0} (Puts : Putting M) (asked : List ℕ) (desk : DeskContents) (old new : OutState M)
     : Type 0 where
   pub sends : (new.out ≡ old.out)
@@ -94,7 +95,7 @@ pub record SendsInRooms {M : Type 0} (Puts : Putting M) (asked : List ℕ) (desk
   pub sign_last : old.backup.is_honest ≡ true → (new.backup.signs ≡ old.backup.signs)
       ⊎ ((count : ℕ) × RunsOutbox Puts asked desk.held old.out new.out (Ok count))
 
--- The messages of a desk that holds `desk` were put into an outlet. If that is done, all were. Else some were.
+-- The messages of a desk that holds `desk` were put into an outlet. If the answer is Ok, all were put. Else some were.
 abbrev pub PutsAsked : {M A : Type 0} → Putting M → List ℕ → DeskContents → Option M → Option M → Result A ToolFault →
     Type 0
 PutsAsked Puts asked desk before after (Ok done) = (count : ℕ) × RunsOutbox Puts asked desk.held before after (Ok count)
@@ -119,14 +120,16 @@ pub record IsSilent {M : Type 0} (old new : OutState M) : Type 0 where
   pub backup : new.backup ≡ old.backup
   pub out : new.out ≡ old.out
 
--- After the mails were taken, the messages of a desk were sent, which is `desk` then. If they could not be taken, none was.
+-- After the mails were taken, the messages of the desk, which is `desk` now, were sent, or nothing was. If the mails
+-- could not be taken, nothing was sent.
 abbrev pub SendsAfter : {M : Type 0} → Putting M → List Mail → Result (List Verdict) ToolFault → DeskContents →
     OutState M → OutState M → Type 0
 SendsAfter Puts mails (Ok verdicts) desk old new =
     IsSilent old new ⊎ SendsInRooms Puts (asked_by desk (zip mails verdicts)) desk old new
 SendsAfter Puts mails (Err fault) desk old new = IsSilent old new
 
--- A night over `mails` in its rooms. The desk is `desk` at the end.
+-- A night over `mails` led the rooms from `old` to `new`. The mails were taken, and then the messages sent. The desk is
+-- `desk` at the end.
 abbrev pub NightInRooms : {M : Type 0} → Putting M → List Mail → HeldAndLanded DeskContents → RoomsState M →
     RoomsState M → Type 0
 NightInRooms Puts mails desk old new =

@@ -91,7 +91,8 @@ impl<'r, 'a, T: Files> Backup for HostBackup<'r, 'a, T> {
     }
 }
 
-/// Returns the answer of a copy to `path`. If nothing may be sent, a line to `errors` tells the reason.
+/// Succeeds if the copy to `path` was made. Else nothing may be sent, and a line to `errors` tells the reason. If
+/// memory ran out, there is no line.
 fn tell_copied<E: Write>(
     alloc: Global,
     path: &str,
@@ -111,7 +112,7 @@ fn tell_copied<E: Write>(
     Err(STORE_FAILED)
 }
 
-/// Copies `desk` to the file at `path`.
+/// Copies `desk` to the file at `path`. The result also says if that file has more than the desk, or is no record.
 fn copy_to<T: Files, S: Store>(
     rt: &T,
     alloc: Global,
@@ -143,8 +144,8 @@ fn give_to_owner<T: Files>(rt: &T, path: &str, desk: &str) {
     }
 }
 
-/// Writes the file at `path` anew, if there is a path, after the run has sent all. Its time is then the time of the
-/// run, and its owner that of the file `desk`.
+/// Writes the file at `path` anew, if there is a path. `_sent` shows that the run has sent all. The file then has the
+/// time of the run, and the owner of the file `desk`.
 pub fn beat<T: Files, W: Write, E: Write>(
     machine: &mut Machine<'_, T, W, E>,
     path: Option<&str>,
@@ -182,8 +183,8 @@ fn sign_at<T: Files, E: Write>(
     }
 }
 
-/// Writes a file at `path` that has only the end of a line. It replaces a regular file of at most one byte, and no
-/// other.
+/// Writes a file at `path` that has only the end of a line. It replaces a regular file of at most one byte. It fails if
+/// anything else is there.
 fn make_anew<T: Files>(rt: &T, path: &str) -> io::Result<()> {
     match fs::symlink_metadata(rt, path) {
         Ok(found) if found.is_file() && found.len() <= 1 => fs::remove_file(rt, path)?,

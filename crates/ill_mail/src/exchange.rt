@@ -44,7 +44,8 @@ use std::rt::Files;
 /// The text after the path of a desk whose file of messages that came has failed.
 const NO_CAME: &str = ".came cannot be read or written";
 
-/// `ill inbox`: takes the mails of a folder.
+/// `ill inbox`: takes the mails of the folder of `incoming` at the desk of `place`. Returns true if no mail was put
+/// aside or in conflict. Fails with `Left` if mails wait for the next run.
 pub fn inbox<T: Files, D: DeskFiles, W: Write, E: Write>(
     machine: &mut Machine<'_, T, W, E>,
     place: &DeskPlace<'_, D>,
@@ -66,7 +67,8 @@ struct Taken {
     verdicts: Vec<Verdict>,
 }
 
-/// Returns the result of `inbox` by the mails that a run has `taken`.
+/// Returns the result of `inbox` by the mails that a run has `taken`. It is the fault `Left` if mails wait. Else it is
+/// true if no mail was put aside or in conflict.
 fn end(taken: Result<Taken, ToolFault>) -> Result<bool, ToolFault>
     ensures { result ≡ ending_of (answered_with taken_of taken) }
 {
@@ -76,7 +78,8 @@ fn end(taken: Result<Taken, ToolFault>) -> Result<bool, ToolFault>
     }
 }
 
-/// Takes the mails of `incoming` at `desk`. The files of mails are removed only after the desk is saved.
+/// Takes the mails of `incoming` at `desk`, whose path is `file`. What came and the lines of the diary go to the files
+/// beside that path. The files of mails are removed only after the desk is saved.
 fn take_mails<T: Files, S: Store, W: Write, E: Write>(
     machine: &mut Machine<'_, T, W, E>,
     file: &str,
@@ -144,7 +147,7 @@ struct OpenedMail<F> {
     found: Mails,
 }
 
-/// Opens the mail of the desk in `file`, and finds the mails of `incoming`.
+/// Opens the folder of mail and the files beside the desk of `role` in `file`. Then it finds the mails of `incoming`.
 fn open_mail<T: Files, W: Write, E: Write>(
     machine: &mut Machine<'_, T, W, E>,
     file: &str,
@@ -177,8 +180,8 @@ fn open_mail<T: Files, W: Write, E: Write>(
     })
 }
 
-/// Writes a line to the errors if `came`, the file of the messages that came, has failed, and one if the diary
-/// `is_incomplete`.
+/// Writes a line to the errors if `came`, the file of the messages that came, has failed. It writes another if the
+/// diary `is_incomplete`. Each begins with `file`, the path of the desk.
 fn warn_of_streams<T, F, W, E: Write>(
     machine: &mut Machine<'_, T, W, E>,
     file: &str,
@@ -193,7 +196,8 @@ fn warn_of_streams<T, F, W, E: Write>(
     }
 }
 
-/// Reads the mails of a desk: from the folder of `incoming`, or those that a shelf has sorted to it.
+/// Reads the mails of the desk of `role` at `place`. It claims them from the folder of `incoming`, unless a shelf has
+/// sorted them to the desk.
 fn find_mails<T: Files, W: Write, E: Write>(
     machine: &mut Machine<'_, T, W, E>,
     place: &MailPaths<'_>,
@@ -245,7 +249,8 @@ fn seal_with<'k>(key: Option<&'k Key>, role: Role) -> Option<Seal<'k>> {
     }
 }
 
-/// `ill outbox`: puts the messages of the loans that want sending into a folder, or writes them one after another.
+/// `ill outbox`: puts the messages of the loans that want sending into `folder`. Without a folder it writes them to the
+/// output, one after another. Returns true, or the fault.
 pub fn outbox<T: Files, D: DeskFiles, W: Write, E: Write>(
     machine: &mut Machine<'_, T, W, E>,
     place: &DeskPlace<'_, D>,
@@ -260,7 +265,8 @@ pub fn outbox<T: Files, D: DeskFiles, W: Write, E: Write>(
     all_well(sent)
 }
 
-/// Puts the messages of the loans that want sending into `folder`. Without one, it writes them one after another.
+/// Puts the messages of the loans that want sending at `desk` into `folder`. Without a folder it writes them to the
+/// output, one after another. `file` is the path of the desk.
 fn send_from<T: Files, S: Store, W: Write, E: Write>(
     machine: &mut Machine<'_, T, W, E>,
     file: &str,
@@ -275,7 +281,8 @@ fn send_from<T: Files, S: Store, W: Write, E: Write>(
     }
 }
 
-/// Writes the messages of the loans that want sending, one after another.
+/// Writes the messages of the loans that want sending to the output, one after another. The messages that ask are read
+/// beside the desk's path `file`.
 fn send_on<T: Files, S: Store, W: Write, E: Write>(
     machine: &mut Machine<'_, T, W, E>,
     file: &str,
@@ -287,7 +294,8 @@ fn send_on<T: Files, S: Store, W: Write, E: Write>(
     run_desk_outbox_stream(machine.alloc, desk, &asking, &mut machine.writer)
 }
 
-/// Puts the messages of the loans that want sending into the folder of `outlet`, and writes their number.
+/// Puts the messages of the loans that want sending into the folder of `outlet`, and writes their number. The messages
+/// that ask are read beside the desk's path `file`.
 fn send_to<T: Files, S: Store, W: Write, E: Write>(
     machine: &mut Machine<'_, T, W, E>,
     file: &str,
@@ -305,7 +313,7 @@ fn send_to<T: Files, S: Store, W: Write, E: Write>(
     send_asked(machine, desk, sending, outlet.folder)
 }
 
-/// Puts the messages of the loans that want sending into the folder of `outlet`, if it exists, as `send_to` does.
+/// Does what `send_to` does, after it has looked at the folder of `outlet`. Fails if no mails may be there.
 fn send_into<T: Files, S: Store, W: Write, E: Write>(
     machine: &mut Machine<'_, T, W, E>,
     file: &str,
@@ -326,7 +334,8 @@ fn asking<T: Files>(rt: &T, alloc: Global, file: &str) -> Result<Vec<u8>, ToolFa
 }
 
 /// `ill exchange`: takes the mails that have come, performs the deeds of the day, copies the desk, and sends its
-/// messages. With `key`, mails come and go in sealed letters alone.
+/// messages. With `key`, mails come and go in sealed letters alone. Returns true if no mail wants a person, and false
+/// if one does. Fails with `Left` if mails wait for the next run.
 pub fn exchange<T: Files, D: DeskFiles, W: Write, E: Write>(
     machine: &mut Machine<'_, T, W, E>,
     place: &DeskPlace<'_, D>,
@@ -343,7 +352,8 @@ pub fn exchange<T: Files, D: DeskFiles, W: Write, E: Write>(
     done
 }
 
-/// Looks at the paths of `night` before anything is done. A shelf has looked at those of its desks once for all.
+/// Fails if a path of `night` is misplaced for the desk in `file`, before anything is done. For a desk of a shelf it
+/// does nothing: the shelf has looked at these paths before.
 fn look_at_night<T: Files, W: Write, E: Write>(
     machine: &mut Machine<'_, T, W, E>,
     file: &str,
@@ -363,7 +373,8 @@ fn look_at_night<T: Files, W: Write, E: Write>(
     look_at_places(machine, &places, night)
 }
 
-/// Exchanges the mail of `desk`, in the folders and files of `night`.
+/// Exchanges the mail of `desk`, whose path is `file`, in the folders and files of `night`. The result is that of
+/// `exchange`.
 fn exchange_at<'a, T: Files, S: Store, W: Write, E: Write>(
     machine: &mut Machine<'_, T, W, E>,
     file: &'a str,
@@ -419,7 +430,7 @@ fn exchange_at<'a, T: Files, S: Store, W: Write, E: Write>(
     report_fault_of_mail(machine, done, &rooms.out)
 }
 
-/// Returns the mails of `night`, which are in sealed letters if there is a key.
+/// Returns the folder from which the mails of `night` come. They are in sealed letters if there is a `key`.
 fn incoming_of<'a>(night: &'a Night<'a>, key: Option<&'a Key>) -> Incoming<'a, 'a, 'a> {
     Incoming {
         folder: night.incoming,

@@ -18,7 +18,8 @@ use ill_text::fault::ToolFault;
 use std::io::Write;
 use std::rt::Files;
 
-/// `ill inbox`: takes the mails of a folder, or the letters in it alone if there is a file of a key.
+/// `ill inbox`: takes the mails of the folder of `incoming`, as `inbox` does. With `key_file` it takes sealed letters
+/// alone.
 pub fn inbox_with<T: Files, D: DeskFiles, W: Write, E: Write>(
     machine: &mut Machine<'_, T, W, E>,
     place: &DeskPlace<'_, D>,
@@ -35,7 +36,7 @@ pub fn inbox_with<T: Files, D: DeskFiles, W: Write, E: Write>(
     }
 }
 
-/// `ill inbox --key`: takes the letters of a folder.
+/// `ill inbox --key`: takes the letters of the folder of `incoming`, which the key in `key_file` opens.
 fn inbox_sealed<T: Files, D: DeskFiles, W: Write, E: Write>(
     machine: &mut Machine<'_, T, W, E>,
     place: &DeskPlace<'_, D>,
@@ -50,7 +51,8 @@ fn inbox_sealed<T: Files, D: DeskFiles, W: Write, E: Write>(
     inbox(machine, place, sealed)
 }
 
-/// Returns the letters in `folder` that are sealed with `key`.
+/// Returns `folder` as the one from which letters come that are sealed with `key`. `stamp` begins the lines of the
+/// diary.
 fn sealed_in<'a, 'b, 'c>(
     folder: &'a str,
     stamp: &'b Option<Stamp<'c>>,
@@ -64,8 +66,8 @@ fn sealed_in<'a, 'b, 'c>(
     }
 }
 
-/// `ill outbox`: puts the messages of the loans that want sending into a folder, in letters if there is a file of a key.
-/// Without a folder it writes them one after another.
+/// `ill outbox`: puts the messages of the loans that want sending into `folder`. With `key_file` they leave in sealed
+/// letters. Without a folder it writes them to the output one after another, unsealed, also with `key_file`.
 pub fn outbox_with<T: Files, D: DeskFiles, W: Write, E: Write>(
     machine: &mut Machine<'_, T, W, E>,
     place: &DeskPlace<'_, D>,
@@ -82,7 +84,7 @@ pub fn outbox_with<T: Files, D: DeskFiles, W: Write, E: Write>(
     }
 }
 
-/// Puts the messages of the loans that want sending into `folder`, in letters if there is a file of a key.
+/// Puts the messages of the loans that want sending into `folder`. With `key_file` they leave in sealed letters.
 fn outbox_into<T: Files, D: DeskFiles, W: Write, E: Write>(
     machine: &mut Machine<'_, T, W, E>,
     place: &DeskPlace<'_, D>,
@@ -114,7 +116,8 @@ fn outbox_sealed<T: Files, D: DeskFiles, W: Write, E: Write>(
     outbox(machine, place, Some(Outlet::sealed(folder, &key)))
 }
 
-/// `ill exchange`: performs a night. If there is a file of a key, all messages come and go in letters.
+/// `ill exchange`: performs `night` at the desk of `place`, as `exchange` does. With `key_file` all messages come and
+/// go in sealed letters.
 pub fn exchange_with<T: Files, D: DeskFiles, W: Write, E: Write>(
     machine: &mut Machine<'_, T, W, E>,
     place: &DeskPlace<'_, D>,
@@ -131,7 +134,8 @@ pub fn exchange_with<T: Files, D: DeskFiles, W: Write, E: Write>(
     }
 }
 
-/// `ill exchange --key`: performs a night, whose messages come and go in letters.
+/// `ill exchange --key`: performs `night`, whose messages come and go in letters that are sealed with the key in
+/// `key_file`.
 fn exchange_sealed<T: Files, D: DeskFiles, W: Write, E: Write>(
     machine: &mut Machine<'_, T, W, E>,
     place: &DeskPlace<'_, D>,

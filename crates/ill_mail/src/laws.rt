@@ -19,7 +19,8 @@ use ill_night::outgoing::Outgoing;
 use ill_place::place::no_other_desk_starts_at_a_place;
 use ill_saved::Store;
 
-/// A claimed mail that is gone was done, in a run that is saved at the desk. So no mail is lost, whatever the answer was.
+/// If a claimed mail of an honest room is gone, it was done in a run that is saved at the desk. So no mail is lost,
+/// whatever the answer was.
 #[tactic(auto, using(crate::proofs::BadRooms::gone_has_landed))]
 pub fn what_is_gone_has_landed()
     ensures { (mails : List Mail) (desk : HeldAndLanded DeskContents) (old new : RoomState)
@@ -36,16 +37,16 @@ pub fn no_mail_is_settled_unsaved()
         TakesInRoom mails desk old taken new → ⊥ }
 {}
 
-/// No message leaves that a wanted copy has not. No sign of life comes before all have left. Only an outbox of the desk
-/// leaves.
+/// No message leaves before a wanted copy has the desk's record. No sign of life comes before all messages have left.
+/// Only an outbox of the desk leaves.
 pub fn nothing_leaves_uncopied<O: Outgoing>(_out: &O)
     ensures { (sealing : Option Sealing) (asked : List ℕ) (desk : DeskContents) (old new : OutState O.Mails) →
         IsBadSending (PutsWith O.after sealing) asked desk old new →
         SendsInRooms (PutsWith O.after sealing) asked desk old new → ⊥ }
 {}
 
-/// If no desk was loaded from a place, no night at the place ends well: each desk has another path, or other sides than its
-/// record.
+/// If no desk was loaded from a place, no night at the place ends well: each desk has another path, or other sides than
+/// its record.
 pub fn no_night_ends_well_at_another_desk<S: Store>()
     ensures takes { (path : List ℕ) (is_well : Bool) (before after : Option (List ℕ)) →
         AreElsewhere (places.place_of S.state path) →

@@ -62,8 +62,9 @@ pub struct Plan<'a> {
     pub seal: Option<Seal<'a>>,
 }
 
-/// Performs a night of `desk` in `rooms`: takes the mails of `plan`, performs the deeds of its day, copies the desk, sends
-/// its messages, and gives a sign of life.
+/// Performs a night of `desk` in `rooms`. It takes the mails of `plan`, and performs the deeds of its day. Then it
+/// copies the desk, sends its messages, and gives a sign of life. Messages that came are written to `came`. Returns
+/// true if no mail wants a person, and false if one does. Fails with `Left` if mails wait.
 ///
 /// The mails of a letter share its file, which is settled by the worst of their verdicts. The desk is saved with all
 /// that the mails have brought. Only then is the file of a mail removed, put aside or given back. If the mails
@@ -98,8 +99,8 @@ pub fn night_in<
     }
 }
 
-/// Takes the mails of `batch` at `desk`, and then settles their files in `room`. It settles them only after the desk is
-/// saved.
+/// Takes the mails of `batch` at `desk`, and then settles their files in `room`, only after the desk is saved. Messages
+/// that came are written to `came`. Returns the verdict of each mail.
 pub fn take_in<T, S: Store, R: Room, F: Write, W: Write, E: Write>(
     machine: &mut Machine<'_, T, W, E>,
     desk: &mut Desk<S>,
@@ -120,8 +121,8 @@ pub fn take_in<T, S: Store, R: Room, F: Write, W: Write, E: Write>(
     }
 }
 
-/// Settles the files of the mails of a run, after it has kept the messages that ask. First it tells a person of the mails
-/// that want one.
+/// Ends a run over the mails of `batch`, and returns their `verdicts`. It tells a person of the mails that want one,
+/// keeps the messages that ask, and then settles the files.
 fn settle_run<T, S: Store, R: Room, W: Write, E: Write>(
     machine: &mut Machine<'_, T, W, E>,
     desk: &Desk<S>,
@@ -149,7 +150,8 @@ fn settle_run<T, S: Store, R: Room, W: Write, E: Write>(
     }
 }
 
-/// Performs the deeds of the day, copies the desk, and sends its messages. The mails were taken before.
+/// Performs the deeds of the day, copies the desk, and sends its messages. The mails were taken before, with
+/// `verdicts`. The result is that of `night_in`.
 fn finish_in<T, S: Store, R: Room, B: Backup, O: Outgoing, D: Write, W: Write, E: Write>(
     machine: &mut Machine<'_, T, W, E>,
     desk: &mut Desk<S>,
@@ -170,8 +172,8 @@ fn finish_in<T, S: Store, R: Room, B: Backup, O: Outgoing, D: Write, W: Write, E
     }
 }
 
-/// Performs the deeds that are due on the day of `plan`, if it has a day. Each done deed is entered in `diary` before the
-/// save.
+/// Performs the deeds that are due on the day of `plan`, if it has a day. Each done deed is entered in `diary` before
+/// the save.
 fn act_on_dates<T, S: Store, D: Write, W: Write, E>(
     machine: &mut Machine<'_, T, W, E>,
     desk: &mut Desk<S>,
@@ -280,7 +282,7 @@ pub(crate) fn put_asked<T, S: Store, O: Outgoing, W: Write, E>(
     write_and_flush(&mut machine.writer, &text)
 }
 
-/// Gives a sign of life, and returns `ending`, the result of the night.
+/// Gives a sign of life, and returns `ending`, the result of the night. If the sign fails, it returns that fault.
 fn sign<T, B: Backup, W, E: Write>(
     machine: &mut Machine<'_, T, W, E>,
     backup: &mut B,
@@ -297,7 +299,7 @@ fn sign<T, B: Backup, W, E: Write>(
     }
 }
 
-/// Returns the result of a night: a fault if mails wait, false if a mail wants a person, else true.
+/// Returns the result of a night: `Left` if mails wait, false if a mail wants a person, else true.
 fn ending<S: Store>(
     desk: &Desk<S>,
     batch: &Batch<'_>,

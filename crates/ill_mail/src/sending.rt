@@ -30,7 +30,8 @@ pub struct SentAll {
 }
 
 impl SentAll {
-    /// Returns this sign, unless `answer` is a failure. `answer` is the gravest of the desks of a shelf.
+    /// Returns this sign, unless `answer` is a failure other than `Left`. `answer` is the gravest of the desks of a
+    /// shelf.
     pub fn unless_failed(self, answer: Result<bool, ToolFault>) -> Option<SentAll> {
         match answer {
             Ok(_) | Err(ToolFault::Left) => Some(self),
@@ -39,7 +40,8 @@ impl SentAll {
     }
 }
 
-/// Puts the messages of the loans that want sending into `folder`, and writes their number. They leave as `sending` says.
+/// Puts the messages of the loans that want sending into `folder`, and writes their number, as `put_asked` does. If a
+/// mail cannot be put there, a line to the errors says so.
 pub(crate) fn send_asked<T: Files, S: Store, W: Write, E: Write>(
     machine: &mut Machine<'_, T, W, E>,
     desk: &Desk<S>,
@@ -54,7 +56,7 @@ pub(crate) fn send_asked<T: Files, S: Store, W: Write, E: Write>(
     report_fault_of_mail(machine, sent, &out)
 }
 
-/// Puts `words`, the last words of retired groups, into the folder of `outlet`.
+/// Puts `words`, the last words of retired groups, into the folder of `outlet`. Returns the sign that all were put.
 pub fn send_words<T: Files, W: Write, E: Write>(
     machine: &mut Machine<'_, T, W, E>,
     words: &[Apdu],

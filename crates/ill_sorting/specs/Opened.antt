@@ -16,7 +16,7 @@ abbrev pub message_mail : List ℕ → Letter
 message_mail message = record { name = message_name message; bytes = message }
 
 -- Returns the answer of letters that were opened. It is the fault `Left` if a file waits for the next run. Else it is
--- true if each file was a letter of the other library.
+-- `are_sealed`: true if no file was put aside.
 abbrev pub opened_answer : (is_waiting are_sealed : Bool) → Result Bool ToolFault
 opened_answer true are_sealed = Err Left
 opened_answer false are_sealed = Ok are_sealed

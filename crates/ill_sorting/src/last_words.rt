@@ -1,4 +1,5 @@
-//! The last words of retired groups, which their marks have. A partner who missed how a loan ended asks for them each night.
+//! The last words of retired groups, which their marks have. A partner who missed how a loan ended asks for them each
+//! night.
 
 use ill_der::ApduView;
 use ill_files::durable::error_of_store;
@@ -11,7 +12,8 @@ use std::alloc::Global;
 use std::io;
 use std::rt::Files;
 
-/// Returns the bytes of the mark of the group of `desk`, if the group is retired.
+/// Returns the bytes of the mark of the group whose desk has the path `desk`. Returns `None` if the group is not
+/// retired.
 pub fn load_mark<T: Files>(rt: &T, alloc: Global, desk: &str) -> io::Result<Option<Vec<u8>>> {
     let path = retired_path(alloc, desk)?;
     let mut store = FileStore::at(rt, alloc, path.as_str(), RECORD_LIMIT)?;
@@ -30,7 +32,7 @@ pub struct LastWords {
 }
 
 impl LastWords {
-    /// Reads the mark of the group of `desk`. There are no last words if it is not retired.
+    /// Reads the last words in the mark of the group of `desk`. If the group is not retired, there are none.
     pub fn read<T: Files>(rt: &T, alloc: Global, desk: &str) -> io::Result<LastWords> {
         let words = match load_mark(rt, alloc, desk)? {
             Some(mark) => apdus_in(alloc, words_in(&mark))?,

@@ -1,8 +1,9 @@
-//! The letters that come to a shelf with a key. Each is opened, and the messages in it are put into a folder of the shelf,
-//! from which it then takes its mails.
+//! The letters that come to a shelf with a key. Each is opened, and the messages in it are put into a folder of the
+//! shelf, from which it then takes its mails.
 //!
-//! A letter is claimed into a folder where nobody else may write. Its file is removed only once the disk has its messages.
-//! So the next run opens a letter again that a killed run has left. A message that was put already takes its own place.
+//! A letter is claimed into a folder where nobody else may write. Its file is removed only once the disk has its
+//! messages. So the next run opens a letter again that a killed run has left. A message that was put already takes its
+//! own place.
 
 ghost use Rattle.std.specs.Prelude.{◌≡◌, IfErr, IfOk};
 ghost use Rattle.ill_night.specs.Outbox.{PutsOne};
@@ -52,11 +53,11 @@ const NOT_OPENED: &str = " is not opened, and stays among the letters that were 
 pub struct Opened {
     /// Set if a file waits for the next run.
     pub is_waiting: bool,
-    /// Set if each file was a letter that the other library has sealed with the key.
+    /// Set unless a file was put aside, which is no letter that the other library has sealed with the key.
     pub are_sealed: bool,
 }
 
-/// Returns the answer of letters that were opened.
+/// Returns the answer of letters that were opened: `Left` if a file waits, else true if no file was put aside.
 pub fn opened_answer(opened: Opened) -> Result<bool, ToolFault>
     ensures { result ≡ opened_answer opened.is_waiting opened.are_sealed }
 {
@@ -67,7 +68,7 @@ pub fn opened_answer(opened: Opened) -> Result<bool, ToolFault>
     }
 }
 
-/// Returns the path of the folder of the messages in the letters of `shelf`.
+/// Returns the path of the folder of the messages in the letters of `shelf`. Makes the folder if it does not exist.
 pub fn opened_folder<T: Files>(
     rt: &T,
     alloc: Global,
@@ -92,8 +93,8 @@ pub struct Unpacking<'a> {
     pub opened: &'a str,
 }
 
-/// Opens the letters that have come to `shelf`, and puts the messages in them into a folder. It writes a line to `errors`
-/// about each other file.
+/// Opens the letters that have come to `shelf`, and puts the messages in them into the folder of `unpacking`. It writes
+/// a line to the errors about each other file.
 pub fn open_letters<T: LockFiles, W: Write, E: Write>(
     machine: &mut Machine<'_, T, W, E>,
     shelf: &Shelf<'_>,
@@ -109,7 +110,7 @@ pub fn open_letters<T: LockFiles, W: Write, E: Write>(
     opened
 }
 
-/// Opens letters, under a lock against other commands. `own` is the file of the shelf's own desk.
+/// Does what `open_letters` does, under the lock of `own`, the file of the shelf's own desk.
 fn open_under_lock<T: LockFiles, W: Write, E: Write>(
     machine: &mut Machine<'_, T, W, E>,
     shelf: &Shelf<'_>,
@@ -129,7 +130,8 @@ fn open_under_lock<T: LockFiles, W: Write, E: Write>(
     Ok(unpack(machine, shelf, unpacking, &found)?)
 }
 
-/// Claims the letters of the folder of `unpacking`, which may not lie within the shelf, since files there belong to a desk.
+/// Claims the letters of the folder of `unpacking` into the folder `run`. Fails if the letters lie within the shelf,
+/// since files there belong to a desk.
 fn claim_letters<T: Files, W, E>(
     machine: &Machine<'_, T, W, E>,
     shelf: &Shelf<'_>,
@@ -235,7 +237,8 @@ impl<T: Files> Letters<'_, T> {
         }
     }
 
-    /// Settles a file that is no sealed letter, and tells a person.
+    /// Settles the file of `mail`, which is no sealed letter: it is put aside or given back, as `verdict` says. A line
+    /// to `errors` tells a person. If the mail could not be claimed, it has no `file`, and waits.
     fn settle<E: Write>(
         &mut self,
         mail: &Mail,
@@ -275,7 +278,7 @@ impl<T: Files> Letters<'_, T> {
         }
     }
 
-    /// Puts a file aside, under the digest of the bytes that were read of it.
+    /// Puts a file aside, under the digest of the bytes that were read of it, with the reason `unfit`.
     fn set_aside(&self, mail: &Mail, claimed: ClaimedMail<'_>, unfit: Unfit) -> io::Result<()> {
         let digest = mail.digest(self.alloc)?;
         let mut why = Vec::new(self.alloc);
@@ -285,7 +288,8 @@ impl<T: Files> Letters<'_, T> {
             .put_aside(self.rt, claimed, digest.as_str(), &why)
     }
 
-    /// Keeps the file of a mail among the claimed ones, for the next run, and writes a line about it. A letter has one line.
+    /// Keeps the file of a mail among the claimed ones, for the next run, and writes a line about it. A letter has one
+    /// line.
     fn keep<E: Write>(&mut self, mail: &Mail, errors: &mut E) -> io::Result<()> {
         self.opened.is_waiting = true;
         if let Some(letter) = mail.letter {
@@ -298,7 +302,7 @@ impl<T: Files> Letters<'_, T> {
         Ok(())
     }
 
-    /// Removes the files of the letters whose messages the disk has.
+    /// Makes the names of the messages durable, and then removes the files of the letters whose messages were all put.
     fn remove_opened(&self, found: &Mails) -> io::Result<()> {
         flush(&fs::open(self.rt, self.unpacking.opened)?)?;
         for (mail, file) in found.mails.iter().zip(&found.files) {
@@ -313,7 +317,7 @@ impl<T: Files> Letters<'_, T> {
     }
 }
 
-/// Puts `message` into `out`. Its name there is of its digest, so equal messages are one mail.
+/// Puts `message` into `out`. Its name there is made of its digest, so equal messages are one mail.
 fn put_message<O: Outgoing>(alloc: Global, message: &[u8], out: &mut O) -> Result<(), ToolFault>
     ensures { PutsOne O.after (message_mail message.now) (O.mails out.old) (O.mails out.new) result }
 {

@@ -45,14 +45,14 @@ pub enum Route {
     New,
     /// Back to its folder, where it waits for the next run.
     Back,
-    /// Nowhere: its file is removed.
+    /// Nowhere, since its group is retired: its file is removed.
     Gone,
     /// To the shelf's own desk.
     Stray,
 }
 
-/// Returns the way of a mail, by the role of the shelf and the home of its message's group. `has_room` is set if this
-/// run may make further desks.
+/// Returns the way of a mail, by the role of the shelf and the home of its message's group. `is_request` is set if the
+/// message is an ILL-Request, and `has_room` if this run may make further desks.
 pub fn route_of(role: Role, home: Home, is_request: bool, has_room: bool) -> Route
     ensures { result ≡ route_of role home is_request has_room }
 {
@@ -77,8 +77,8 @@ pub struct MailsFrom<'a> {
 }
 
 /// Sorts the mails of a folder to the desks of `shelf`. Returns true if a mail waits for the next run, or a desk is
-/// lost. It writes lines to `errors` about these, new desks, and mails of retired groups. `copies` is the folder that has
-/// copies of the desks, if the run makes any.
+/// lost. It writes lines to the errors about waiting mails, lost and new desks, and mails of retired groups. `copies`
+/// is the folder that has copies of the desks, if the run makes any.
 pub fn sort_mails<T: LockFiles, W: Write, E: Write>(
     machine: &mut Machine<'_, T, W, E>,
     shelf: &Shelf<'_>,
@@ -95,7 +95,7 @@ pub fn sort_mails<T: LockFiles, W: Write, E: Write>(
     sorted
 }
 
-/// Sorts the mails of a folder, under a lock against other commands.
+/// Does what `sort_mails` does, under the lock of the shelf's own desk.
 fn sort_under_lock<T: LockFiles, W: Write, E: Write>(
     machine: &mut Machine<'_, T, W, E>,
     shelf: &Shelf<'_>,
@@ -122,7 +122,7 @@ fn sort_under_lock<T: LockFiles, W: Write, E: Write>(
     Ok(sort_found(machine, shelf, sources, &found)?)
 }
 
-/// The places from which a shelf learns what it sorts.
+/// The folders of a run that sorts mails.
 #[derive(Clone, Copy)]
 struct Sources<'a> {
     /// The folder from which the mails come.
@@ -135,8 +135,8 @@ struct Sources<'a> {
     run: &'a str,
 }
 
-/// Claims the mails of the folder of `sources`. If others bring them, it may not lie within the shelf, since files there
-/// belong to a desk.
+/// Claims the mails of the folder of `sources`. Fails if others bring the mails, and the folder lies within the shelf:
+/// files there belong to a desk.
 fn claim_from<T: Files>(
     rt: &T,
     alloc: Global,
@@ -213,9 +213,9 @@ const NEW_GROUP: &str = " is made: mail begins its group";
 struct SortedBox {
     /// The path of the desk's file.
     desk: String,
-    /// The folder in which they were claimed, where their names differ.
+    /// The folder in which the mails were claimed, where their names differ.
     from: String,
-    /// The folder into which they are renamed.
+    /// The folder into which the mails are renamed.
     run: String,
 }
 
@@ -241,7 +241,7 @@ struct Sorting<'a, T: LockFiles> {
 }
 
 impl<T: LockFiles> Sorting<'_, T> {
-    /// Writes a line about each lost desk: a file that lies beside a desk, or its copy, is there without it.
+    /// Writes a line about each lost desk: a file that lies beside a desk, or a copy of it, is there without the desk.
     fn tell_lost_desks<E: Write>(&mut self, errors: &mut E) -> io::Result<()> {
         for ending in [CAME, MAIL] {
             self.tell_lost_in(self.shelf.folder, ending, errors)?;
@@ -273,7 +273,7 @@ impl<T: LockFiles> Sorting<'_, T> {
         Ok(())
     }
 
-    /// Returns the home of the group of `desk`. If only a copy of the desk or of its mark is there, it is lost.
+    /// Returns the home of the group of `desk`. If only a copy of the desk or of its mark is there, the desk is lost.
     fn home_of(&self, desk: &str) -> io::Result<Home> {
         let home = home_at(self.rt, self.alloc, desk)?;
         let (Home::Nothing, Some(copies)) = (home, self.sources.copies) else {
@@ -384,8 +384,8 @@ impl<T: LockFiles> Sorting<'_, T> {
         }
     }
 
-    /// Adds the last word of the loan of a mail, whose group is retired. If there is none, it writes a line about the
-    /// mail, once a month for each group.
+    /// Adds the last word of the loan of `message` to the words that mails ask for. The group of its desk `desk` is
+    /// retired. If the loan has no last word, it writes a line about `mail`, once a month for each group.
     fn answer<E: Write>(
         &mut self,
         mail: &Mail,
@@ -404,8 +404,8 @@ impl<T: LockFiles> Sorting<'_, T> {
         Ok(())
     }
 
-    /// Returns the last word of the loan of `message`, if the mark of the group of `desk` has one. Mails come in the order
-    /// of their groups, so a mark is read once.
+    /// Returns the last word of the loan of `message`, if the mark of the group of `desk` has one. Mails come in the
+    /// order of their groups, so a mark is read once.
     fn last_word(&mut self, desk: &str, message: &ApduView<'_>) -> io::Result<Option<Apdu>> {
         let is_read = match &self.mark {
             Some(mark) => mark.is_of(desk),
@@ -428,7 +428,7 @@ impl<T: LockFiles> Sorting<'_, T> {
         Ok(())
     }
 
-    /// Keeps the last words that mails ask for. They replace the ones of the run before.
+    /// Keeps the last words that mails ask for. They replace the words that the run before has kept.
     fn keep_words(&self) -> io::Result<()> {
         let mut bytes = Vec::new(self.alloc);
         for word in &self.words {
@@ -458,7 +458,7 @@ impl<T: LockFiles> Sorting<'_, T> {
         }
     }
 
-    /// Renames the file of a mail into the folder at `place`.
+    /// Renames the file of a mail into the folder with the index `place` in `boxes`.
     fn rename_into(&self, place: usize, mail: &Mail, file: &str) -> io::Result<()> {
         let Some(sorted) = self.boxes.get(place) else {
             return Ok(());
@@ -469,8 +469,8 @@ impl<T: LockFiles> Sorting<'_, T> {
         }
     }
 
-    /// Returns the place of the folder into which `file` is renamed for `desk`. Files of different folders get
-    /// different ones, and each is made for its first file.
+    /// Returns the index in `boxes` of the folder into which `file` is renamed for `desk`. Files from different folders
+    /// go to different folders. A folder is made for its first file.
     fn place_of(&mut self, file: &str, desk: String) -> io::Result<usize> {
         let from = Path::new(file)
             .parent()
@@ -487,7 +487,7 @@ impl<T: LockFiles> Sorting<'_, T> {
         Ok(self.boxes.len().saturating_sub(1))
     }
 
-    /// Makes the folder at `place` again.
+    /// Makes the folder with the index `place` in `boxes` again, with another path.
     fn renew(&mut self, place: usize) -> io::Result<()> {
         let run = match self.boxes.get(place) {
             Some(sorted) => self.run_at(sorted.desk.as_str())?,
@@ -499,13 +499,14 @@ impl<T: LockFiles> Sorting<'_, T> {
         Ok(())
     }
 
-    /// Makes a folder for the mails of `desk`.
+    /// Makes a new folder for mails that go to `desk`, and returns its path.
     fn run_at(&self, desk: &str) -> io::Result<String> {
         let mail_box = MailBox::open(self.rt, self.alloc, desk, desk)?;
         new_run(self.rt, self.alloc, &mail_box)
     }
 
-    /// Writes the line with the reason why a mail for `desk` is given back.
+    /// Writes a line with the reason why `mail` for `desk` is given back. The desk is lost, or this run may make no
+    /// more.
     fn tell_back<E: Write>(
         &mut self,
         mail: &Mail,
@@ -530,7 +531,7 @@ impl<T: LockFiles> Sorting<'_, T> {
     }
 }
 
-/// Makes the desk of a group at the path `desk`, unless the group is retired or the desk exists.
+/// Makes the desk of a group at the path `desk`. If the desk exists, that is no failure. Fails if the group is retired.
 pub fn make_desk<T: LockFiles>(
     rt: &T,
     alloc: Global,
@@ -545,7 +546,7 @@ pub fn make_desk<T: LockFiles>(
     made
 }
 
-/// Makes the desk of a group at the path `desk`, under a lock against other commands.
+/// Does what `make_desk` does, under the lock of the desk's file.
 fn make_under_lock<T: Files>(rt: &T, alloc: Global, role: Role, desk: &str) -> Result<(), ToolFault>
     ensures { IfErr result IsOpenFault }
 {

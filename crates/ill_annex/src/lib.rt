@@ -20,7 +20,7 @@ use std::alloc::Global;
 use std::io::Write;
 use std::rt::Files;
 
-/// Opens the desk in `file`, and reads the annex beside it.
+/// Opens the desk in `file`, and reads the annex beside it. If the diary cannot be read, a line to `errors` says so.
 pub fn open_with_annex<'a, T: Files, E: Write>(
     rt: &'a T,
     alloc: Global,
@@ -34,7 +34,8 @@ pub fn open_with_annex<'a, T: Files, E: Write>(
     Ok((desk, annex))
 }
 
-/// Reads the annex of the desk in `file`: its notes, its diary, and the messages that came. It has no news.
+/// Reads the annex of the desk in `file`: its notes, its diary, and the messages that came. Its news are `None`. If the
+/// diary cannot be read, it counts as empty, and a line to `errors` says so.
 pub fn read_annex<T: Files, E: Write>(
     rt: &T,
     alloc: Global,
@@ -61,7 +62,7 @@ pub fn read_notes<T: Files>(rt: &T, alloc: Global, file: &str) -> Result<Notes, 
     Ok(Notes::read(alloc, &bytes)?)
 }
 
-/// Reads the diary of the desk in `file`.
+/// Reads the diary of the desk in `file`. If it cannot be read, it counts as empty, and a line to `errors` says so.
 pub fn read_diary<T: Files, E: Write>(
     rt: &T,
     alloc: Global,

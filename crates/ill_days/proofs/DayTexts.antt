@@ -21,7 +21,7 @@ none_left : (text : List ℕ) → length text ≡ 0 → text ≡ []
 none_left [] e = refl
 none_left (x ∷ rest) e = absurd (omega arith)
 
--- If ten bytes with these hyphens have the digits of `d`, they are the text of `d` with hyphens.
+-- If `x` and `y` of ten bytes are hyphens, and the others are read as `d`, the ten are a text of `d`.
 ten_read : (d : Date) (a b c e x f g y h i : ℕ) → x ≡ 0x2D → y ≡ 0x2D
     → read_date (a ∷ b ∷ c ∷ e ∷ f ∷ g ∷ h ∷ i ∷ []) ≡ Ok d
     → IsTextOf d (a ∷ b ∷ c ∷ e ∷ x ∷ f ∷ g ∷ y ∷ h ∷ i ∷ [])
@@ -63,7 +63,8 @@ dashed_read text d is found =
 pub text_read : (text : List ℕ) (d : Date) → read_day text ≡ Ok d → IsTextOf d text
 text_read text d found = go (is_dashed text) refl found
   where
-    -- `b` says if `text` has the shape of a day with hyphens. Each shape is one of the two texts.
+    -- If `b` is true, `text` has the shape of a day with hyphens, and is the text with hyphens. Else it is the eight
+    -- digits.
     go : (b : Bool) → is_dashed text ≡ b
         → read_date (without_dashes text (if b then Some (slice_index text 0 ∷ slice_index text 1 ∷ slice_index text 2
         ∷ slice_index text 3 ∷ slice_index text 5 ∷ slice_index text 6 ∷ slice_index text 8 ∷ slice_index text 9 ∷ [])

@@ -9,7 +9,8 @@ use Rattle.ill_values.specs.declared.fault.DayFault.{DayFault}
 abbrev pub is_dashed : List ℕ → Bool
 is_dashed text = (length text == 10) && (slice_index text 4 == 0x2D) && (slice_index text 7 == 0x2D)
 
--- Returns the bytes of `text` beside its hyphens, as `20250315` of `2025-03-15`. A text of another shape has none.
+-- Returns the bytes of `text` without its hyphens, as `20250315` of `2025-03-15`. Returns `None` for a text of another
+-- shape.
 abbrev pub undashed : List ℕ → Option (List ℕ)
 undashed text =
     if is_dashed text
@@ -17,7 +18,7 @@ undashed text =
     ∷ slice_index text 5 ∷ slice_index text 6 ∷ slice_index text 8 ∷ slice_index text 9 ∷ [])
     else None
 
--- Returns `digits`, which are the bytes of `text` beside its hyphens, or `text` itself if there are none.
+-- Returns `digits`, the bytes of `text` without its hyphens. If they are `None`, it returns `text` itself.
 abbrev pub without_dashes : List ℕ → Option (List ℕ) → List ℕ
 without_dashes text None = text
 without_dashes text (Some digits) = digits

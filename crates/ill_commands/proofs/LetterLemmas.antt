@@ -16,8 +16,8 @@ use Rattle.ill_commands.specs.Streams.{Streams}
 abbrev Taking : Type 1
 Taking = Streams → Result Bool ToolFault → Streams → Type 0
 
--- If the input opens as a letter of `named` with `text`, and `Takes` takes `bytes`, which are `text`, `TakesLetter`
--- holds. `named` is `sender`.
+-- If the input opens as a letter of `named` with the messages `text`, and `Takes` takes `bytes`, then `TakesLetter`
+-- holds. `named` is `sender`, and `bytes` are `text`.
 pub took : (key : List ℕ) (sender named : Sender) (Takes : Taking) (old new : Streams) (text bytes : List ℕ)
     (unread : Option (List ℕ)) (result : Result Bool ToolFault)
     → named ≡ sender → OpensLetter key named old.unread new.unread text → bytes ≡ text
@@ -42,7 +42,7 @@ left_sealed key sender named Takes old new fault is leaves quiet = (
   (refl, quiet),
 )
 
--- If the input opens as a letter, `OpensOrStays` holds, whatever `IsUnchanged` says.
+-- If the input opens as a letter of `named`, which is `sender`, `OpensOrStays` holds, whatever `IsUnchanged` says.
 pub opened : (key : List ℕ) (sender named : Sender) (IsUnchanged : Type 0) (left rest : Option (List ℕ)) (text : List ℕ)
     → named ≡ sender → OpensLetter key named left rest text → OpensOrStays key sender IsUnchanged left rest
 opened key sender named IsUnchanged left rest text is opens =
@@ -55,7 +55,7 @@ pub stays : (key : List ℕ) (sender named : Sender) (IsUnchanged : Type 0) (lef
 stays key sender named IsUnchanged left rest fault is leaves unchanged =
     (Err fault, subst (λ (sender : Sender). LeavesSealed key sender left rest fault) is leaves, unchanged)
 
--- If `before` starts at `place`, and a letter is taken at it, the letter is taken at `place` (`TakesAtFile`).
+-- If `before` starts at `place`, and a letter is taken at this desk, it is taken at `place` (`TakesAtFile`).
 pub taken_at : {S : Type 0} (place : PlaceOf S) (form : TakeForm) (before after : DeskOf DeskContents S) (key : List ℕ)
     (sender : Sender) (old : Streams) (result : Result Bool ToolFault) (new : Streams)
     → StartsAt place before

@@ -1,4 +1,4 @@
--- Proves that no command ends well at a place from which no desk was loaded.
+-- Proves that no `act`, `take`, `send`, `status`, `slip` or `note` ends well at a place from which no desk was loaded.
 use Rattle.std.proofs.Common.{ℕ, Bool, List, Option, Ok, inl, inr}
 use Rattle.ill_values.specs.TxnId.{Qualifiers}
 use Rattle.ill_saved.specs.Desk.{DeskOf}

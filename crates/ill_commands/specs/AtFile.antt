@@ -33,7 +33,8 @@ use Rattle.ill_commands.specs.Streams.{Streams}
 abbrev pub first_record : Role → List ℕ
 first_record role = sides_encoding (sides_held (no_sides role))
 
--- A desk of `role` was begun at the place, over the store `old`. Its first record led that to `new`, with this answer.
+-- A desk of `role` was begun at the place, over the store `old`. The save of its first record led the store from `old`
+-- to `new`, with the answer `begun`.
 abbrev pub BeginsDesk : {S : Type 0} → PlaceOf S → Role → (old : S) → Result (Unit {0}) ToolFault → (new : S) → Type 0
 BeginsDesk place role old begun new =
     IsAt place old × BeginsIn (first_record role) (place.state old) begun (place.state new)
@@ -47,7 +48,8 @@ NewAtFile {S} place role before after result =
 
 -- ---- actions
 
--- After an action with the answer `acted`, the item of its loan was written, if `is_long` is true and there is no fault.
+-- After an action with the answer `acted`, the item of its loan was written, if `is_long` is true and there is no
+-- fault.
 abbrev pub TellsItem : (is_long : Bool) → (item : Option (List ℕ)) → (acted : Result Bool ToolFault) → Option (List ℕ) →
     Option (List ℕ) → Result Bool ToolFault → Type 0
 TellsItem true item (Ok is_well) before after result =
@@ -55,8 +57,8 @@ TellsItem true item (Ok is_well) before after result =
     × (result ≡ after_writing written (Ok is_well))
 TellsItem is_long item acted before after result = (result ≡ acted) × (after ≡ before)
 
--- The action for which a person asks was performed at a desk, or tried. If `is_long` is true, the item of the loan was
--- told after it.
+-- The action `asked`, for which a person asks, was performed at a desk, or tried. If `is_long` is true, the item of the
+-- loan was written after it.
 abbrev pub ActsOn : Asking → (is_long : Bool) → (old : CommandState DeskContents) → Result Bool ToolFault →
     (new : CommandState DeskContents) → Type 0
 ActsOn asked is_long old result new =
@@ -79,14 +81,16 @@ ActsAtFile {S} place asked is_long before after result =
 abbrev pub with_streams : HeldAndLanded DeskContents → Streams → CommandState DeskContents
 with_streams desk streams = with_input streams.unread (command_state desk streams.written)
 
--- The APDUs of the input were taken at a desk, in this form. Or a file beside it could not be opened, and nothing changed.
+-- The APDUs of the input were taken at a desk, in this form. Or a file beside it could not be opened, and nothing
+-- changed.
 abbrev pub TakesOn : TakeForm → (old : CommandState DeskContents) → Result Bool ToolFault → (new : CommandState DeskContents) →
     Type 0
 TakesOn form old result new =
     (IsErrAnd result IsOpenFault × (new ≡ old))
     ⊎ RunsTaking form.is_kept (wording form.is_long) many_sides old result new
 
--- The APDUs of the input were taken at a desk, which went from `before` to `after`. Its streams went from `old` to `new`.
+-- The APDUs of the input were taken at a desk, which went from `before` to `after`. Its streams went from `old` to
+-- `new`.
 abbrev pub TakesHere : TakeForm → (before after : HeldAndLanded DeskContents) → Streams → Result Bool ToolFault → Streams → Type 0
 TakesHere form before after old result new =
     TakesOn form (with_streams before old) result (with_streams after new)
@@ -124,8 +128,8 @@ ShowsFile {S} place form before after result =
     ⊎ ((desk : DeskOf DeskContents S) × StartsAt place desk
     × GoesWell (WritesText before after (status_of_desk form desk.live.held)) result)
 
--- The transaction `txn` at the desk of the place was shown or drawn, with its note, its history and the messages that came. Or
--- a file could not be opened.
+-- The transaction `txn` at the desk of the place was shown or drawn. `beside` has the notes, the diary and the messages
+-- that came, whose content no contract tells. Or a file could not be opened.
 abbrev pub LoanAtFile : {S : Type 0} → PlaceOf S → LoanForm → Qualifiers → Option (List ℕ) → Option (List ℕ) →
     Result Bool ToolFault → Type 0
 LoanAtFile {S} place form txn before after result =
@@ -141,7 +145,8 @@ SlipAtFile {S} place txn before after result =
     ⊎ ((desk : DeskOf DeskContents S) × StartsAt place desk
     × GoesWell (RunsSlip (found_by txn_held txn desk.live.held) before after) result)
 
--- The record at the place was verified. Or its file could not be opened.
+-- The record in the store at the place was verified, and its lines written in this form. Or the file could not be
+-- opened.
 abbrev pub VerifiesFile : {S : Type 0} → PlaceOf S → Form → Option (List ℕ) → Option (List ℕ) → Result Bool ToolFault → Type 0
 VerifiesFile {S} place form before after result =
     FailsToOpen before after result

@@ -18,8 +18,8 @@ abbrev pub Opens : (key : List ℕ) → Sender → (left rest : Option (List ℕ
 Opens key sender left rest (Ok text) = OpensLetter key sender left rest text
 Opens key sender left rest (Err fault) = LeavesSealed key sender left rest fault
 
--- The opened messages were the input of a command, which `Takes` them to their end or a fault. If nothing was opened, the
--- command has that fault, and nothing was written.
+-- The opened messages were the input of a command, whose effect `Takes` says. If nothing was opened, the command has
+-- the fault of the opening, and nothing was written.
 abbrev pub TakesOpened : (Takes : Streams → Result Bool ToolFault → Streams → Type 0) → Result (List ℕ) ToolFault →
     Streams → Result Bool ToolFault → Streams → Type 0
 TakesOpened Takes (Ok text) old result new =
@@ -38,16 +38,16 @@ abbrev pub OpensOrStays : (key : List ℕ) → Sender → (IsUnchanged : Type 0)
 OpensOrStays key sender IsUnchanged left rest =
     (opened : Result (List ℕ) ToolFault) × Opens key sender left rest opened × IfErr opened (λ fault. IsUnchanged)
 
--- The input was a letter of the other library, opened with a key, and its messages were taken. Or it was no such letter, and
--- nothing changed. Or no key or no desk could be used.
+-- The input was a letter of the other library, opened with a key, and its messages were taken. Or it was no such
+-- letter, and nothing changed. Or no key or no desk could be used.
 abbrev pub TakesSealed : (Takes : Streams → Result Bool ToolFault → Streams → Type 0) → Streams → Result Bool ToolFault →
     Streams → Type 0
 TakesSealed Takes old result new =
     (IsErrAnd result IsKeyFault × (new.written ≡ old.written) × (new.unread ≡ old.unread))
     ⊎ ((key : List ℕ) × (sender : Sender) × TakesLetter key sender Takes old result new)
 
--- The letter with a message at the desk of the place was written, sealed for the other library. Or the key or the desk could
--- not be used.
+-- The letter with a message at the desk of the place was written, sealed for the other library. Or the key or the desk
+-- could not be used.
 abbrev pub SendsLetterAtFile : {S : Type 0} → PlaceOf S → MessageOf → (before after : Option (List ℕ)) →
     Result Bool ToolFault → Type 0
 SendsLetterAtFile {S} place message before after result =
@@ -56,13 +56,13 @@ SendsLetterAtFile {S} place message before after result =
     × GoesWell (RunsSendAs (sealed key (own_sender (many_sides.role desk.live)))
     (found_by txn_held message.txn desk.live.held) message.number before after) result)
 
--- The command `take`, with a key or without one. Without a key `Takes` says its effect.
+-- The command `take`. Without a key `Takes` says its effect. With a key `TakesSealed` does.
 abbrev pub TakesWith : (key : Option (List ℕ)) → (Takes : Streams → Result Bool ToolFault → Streams → Type 0) → Streams →
     Result Bool ToolFault → Streams → Type 0
 TakesWith None Takes old result new = Takes old result new
 TakesWith (Some key) Takes old result new = TakesSealed Takes old result new
 
--- The command `send`, with a key or without one.
+-- The command `send`. Without a key the message was written, and with a key its letter.
 abbrev pub SendsWith : {S : Type 0} → PlaceOf S → (key : Option (List ℕ)) → MessageOf → (before after : Option (List ℕ)) →
     Result Bool ToolFault → Type 0
 SendsWith place None message before after result = SendsAtFile place message before after result

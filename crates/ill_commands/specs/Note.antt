@@ -37,12 +37,14 @@ KeepsAtFile line before after result =
     FailsToOpen before after result
     ⊎ ((kept : Option (List ℕ)) × (now : Option (List ℕ)) × RunsNote line kept now before after result)
 
--- If the loan has a side, the line of a note was kept.
+-- If the loan has a side, the line of a note was kept. Without a side the fault is `NoSuchTransaction`, and nothing was
+-- written.
 abbrev pub KeepsNote : Option Side → (line : List ℕ) → Option (List ℕ) → Option (List ℕ) → Result (Unit {0}) ToolFault → Type 0
 KeepsNote None line before after result = (result ≡ Err (Desk NoSuchTransaction)) × (after ≡ before)
 KeepsNote (Some side) line before after result = KeepsAtFile line before after result
 
--- A note on the loan `txn` was kept, if the desk of the place has that loan. Or the file of the desk could not be opened.
+-- A note on the loan `txn` was kept, if the desk of the place has that loan. Or the file of the desk could not be
+-- opened.
 abbrev pub NotesAtFile : {S : Type 0} → PlaceOf S → Qualifiers → (words : List ℕ) → Option (List ℕ) → Option (List ℕ) →
     Result Bool ToolFault → Type 0
 NotesAtFile {S} place txn words before after result =

@@ -1,7 +1,8 @@
 -- The input and the output of a command.
 use Rattle.std.specs.Prelude.{ℕ, List, Option}
 
--- The bytes that are left of the input, and those of the output. A stream whose bytes are not known is `None`.
+-- `unread` has the bytes that are left of the input, and `written` the bytes of the output. A stream whose bytes are
+-- not known is `None`.
 pub record Streams : Type 0 where
   pub unread : Option (List ℕ)
   pub written : Option (List ℕ)

@@ -1,5 +1,5 @@
-//! The commands on the desk at a place. Their arguments are values that were read before, except the words of an action. A
-//! command that may change the desk's file holds its lock from before the load to its end.
+//! The commands on the desk at a place. Their arguments are values that were read before, except the words of an
+//! action. A command that may change the desk's file holds its lock from before the load to its end.
 
 ghost use Rattle.std.specs.Prelude.{◌≡◌, option_copied};
 ghost use Rattle.ill_show.specs.ItemLine.{item_of};
@@ -38,7 +38,7 @@ use std::alloc::Global;
 use std::io::{Read, Write, sink};
 use std::rt::Files;
 
-/// `ill new`: begins a desk.
+/// `ill new`: begins a desk of `role` at `place`, and writes `done`. Returns true, or the fault.
 pub fn new<T, D: DeskFiles, W: Write, E: Write>(
     machine: &mut Machine<'_, T, W, E>,
     place: &DeskPlace<'_, D>,
@@ -54,7 +54,8 @@ pub fn new<T, D: DeskFiles, W: Write, E: Write>(
     end(begun)
 }
 
-/// `ill act`: performs the action of `view`, or tries it. If `is_long` is set, the item of the loan is written too.
+/// `ill act`: performs the action of `view`, or tries it. If `is_long` is set, the item of the loan is written too. The
+/// result is that of `run_desk_act_as`: false if the loan has changed since it was seen.
 pub fn act<T: Files, D: DeskFiles, W: Write, E: Write>(
     machine: &mut Machine<'_, T, W, E>,
     place: &DeskPlace<'_, D>,
@@ -69,8 +70,8 @@ pub fn act<T: Files, D: DeskFiles, W: Write, E: Write>(
 }
 
 /// Performs or tries the action of `view` at `locked`, the desk in `file`. Then it lets the desk and its lock go. If
-/// its day is given, it is entered in the diary beside `file`. The diary is made if it does not exist, but a refused
-/// action makes none. Writes a line to the errors if the loan has few numbers left.
+/// the day of the action is given, the action is entered in the diary beside `file`. The diary is made if it does not
+/// exist, but a refused action makes none. Writes a line to the errors if the loan has few numbers left.
 pub fn act_at<T: Files, D: DeskFiles, W: Write, E: Write>(
     machine: &mut Machine<'_, T, W, E>,
     file: &str,
@@ -103,7 +104,8 @@ pub fn act_at<T: Files, D: DeskFiles, W: Write, E: Write>(
     told
 }
 
-/// Performs or tries the action of `view` at `desk`. If its day is given, it is entered in the diary beside `file`.
+/// Performs or tries the action of `view` at `desk`. If the day of the action is given, the action is entered in the
+/// diary beside the desk's path `file`.
 fn act_and_enter<T: Files, S: Store, W: Write, E: Write>(
     machine: &mut Machine<'_, T, W, E>,
     file: &str,
@@ -140,7 +142,8 @@ fn tell_item<W: Write>(
     after_writing(write_item(alloc, side, writer), acted)
 }
 
-/// Writes to `errors` the count of the numbers that the loan `txn` has left, if these are few.
+/// Writes to `errors` the count of the numbers that the loan `txn` has left, if these are few. The line begins with
+/// `file`, the path of the desk.
 fn tell_numbers_of<S: Store, E: Write>(
     alloc: Global,
     file: &str,
@@ -165,7 +168,8 @@ pub struct TakeView<'a, 'b> {
     pub stamp: &'a Option<Stamp<'b>>,
 }
 
-/// `ill take`: takes the APDUs of the input. It holds the lock of the file until the input ends.
+/// `ill take`: takes the APDUs of the input `reader` at the desk of `place`. It holds the lock of the desk's file until
+/// the input ends. Returns true if no APDU was refused or in conflict.
 pub fn take<T: Files, D: DeskFiles, R: Read, W: Write, E: Write>(
     machine: &mut Machine<'_, T, W, E>,
     place: &DeskPlace<'_, D>,
@@ -182,8 +186,9 @@ pub fn take<T: Files, D: DeskFiles, R: Read, W: Write, E: Write>(
     taken
 }
 
-/// Takes the APDUs of the input at `desk`. Those that are kept go to the file beside `file`, if that can be opened. If a day
-/// is given, they are entered in the diary too.
+/// Takes the APDUs of the input `reader` at `desk`, as `take` does. If `view` asks to keep them, they go to the file of
+/// messages that came, beside the desk's path `file`. With a day they go to the diary too. If the file of messages
+/// cannot be opened, nothing is taken.
 pub(crate) fn take_at<T: Files, S: Store, R: Read, W: Write, E: Write>(
     machine: &mut Machine<'_, T, W, E>,
     file: &str,
@@ -224,7 +229,7 @@ pub(crate) fn take_at<T: Files, S: Store, R: Read, W: Write, E: Write>(
     taken
 }
 
-/// `ill send`: writes the bytes of a message of a transaction.
+/// `ill send`: writes the bytes of the message `number` of the transaction `txn`. Returns true, or the fault.
 pub fn send<T, D: DeskFiles, W: Write, E: Write>(
     machine: &mut Machine<'_, T, W, E>,
     place: &DeskPlace<'_, D>,
@@ -240,7 +245,7 @@ pub fn send<T, D: DeskFiles, W: Write, E: Write>(
     all_well(sent)
 }
 
-/// Performs `ill status`: shows the state of each loan.
+/// `ill status`: writes the state of each loan of the desk of `place`, in `form`. Returns true, or the fault.
 pub fn status<T, D: DeskFiles, W: Write, E: Write>(
     machine: &mut Machine<'_, T, W, E>,
     place: &DeskPlace<'_, D>,
@@ -255,7 +260,7 @@ pub fn status<T, D: DeskFiles, W: Write, E: Write>(
     all_well(shown)
 }
 
-/// `ill loan`: shows all that is known of a transaction.
+/// `ill loan`: shows all that is known of the transaction of `view`, or draws it. Returns true, or the fault.
 pub fn loan<T: Files, D: DeskFiles, W: Write, E: Write>(
     machine: &mut Machine<'_, T, W, E>,
     place: &DeskPlace<'_, D>,
@@ -278,7 +283,7 @@ pub fn loan<T: Files, D: DeskFiles, W: Write, E: Write>(
     all_well(shown)
 }
 
-/// `ill slip`: writes a slip of a transaction.
+/// `ill slip`: writes the slip of the transaction `txn`. Returns true, or the fault.
 pub fn slip<T, D: DeskFiles, W: Write, E: Write>(
     machine: &mut Machine<'_, T, W, E>,
     place: &DeskPlace<'_, D>,
@@ -293,7 +298,8 @@ pub fn slip<T, D: DeskFiles, W: Write, E: Write>(
     all_well(written)
 }
 
-/// `ill verify`: checks the record in a file.
+/// `ill verify`: checks the record in the file of `place`, and writes its numbers in `form`. Returns true if it is a
+/// record, else the fault.
 pub fn verify<T, D: DeskFiles, W: Write, E: Write>(
     machine: &mut Machine<'_, T, W, E>,
     place: &DeskPlace<'_, D>,

@@ -32,7 +32,8 @@ struct LetterForm<'a, 'b, 'c> {
     view: TakeView<'b, 'c>,
 }
 
-/// `ill take`: takes the messages of the input, or those of the letter on it if there is a file of a key.
+/// `ill take`: takes the messages of the input `reader`, as `take` does. With `key_file` the input is one sealed
+/// letter, whose messages are taken.
 pub fn take_with<T: Files, D: DeskFiles, R: Read, W: Write, E: Write>(
     machine: &mut Machine<'_, T, W, E>,
     place: &DeskPlace<'_, D>,
@@ -51,7 +52,8 @@ pub fn take_with<T: Files, D: DeskFiles, R: Read, W: Write, E: Write>(
     }
 }
 
-/// `ill send`: writes the bytes of one message, or its letter if there is a file of a key.
+/// `ill send`: writes the bytes of the message `number` of `txn`. With `key_file` it writes the message in a sealed
+/// letter.
 pub fn send_with<T: Files, D: DeskFiles, W: Write, E: Write>(
     machine: &mut Machine<'_, T, W, E>,
     place: &DeskPlace<'_, D>,
@@ -68,8 +70,8 @@ pub fn send_with<T: Files, D: DeskFiles, W: Write, E: Write>(
     }
 }
 
-/// `ill take --key`: opens the letter on the input with the key in `key_file`, and takes its messages in their order. All
-/// of the input must be one letter of the other library (else `NotSealed`). Then nothing changes.
+/// `ill take --key`: opens the letter on the input with the key in `key_file`, and takes its messages in their order.
+/// If the input is not one letter of the other library, it fails with `NotSealed`, and the desk is unchanged.
 fn take_letter<T: Files, D: DeskFiles, R: Read, W: Write, E: Write>(
     machine: &mut Machine<'_, T, W, E>,
     place: &DeskPlace<'_, D>,
@@ -92,8 +94,8 @@ fn take_letter<T: Files, D: DeskFiles, R: Read, W: Write, E: Write>(
     taken
 }
 
-/// Opens the letter on the input, and takes its messages at `desk`. If it is no letter of the other role, `desk` is
-/// unchanged.
+/// Opens the letter on the input, and takes its messages at `desk`, as `take_at` does. Messages that are kept go to the
+/// files beside the desk's path `file`. If the input is no letter of the other role, `desk` is unchanged.
 fn take_letter_at<T: Files, S: Store, R: Read, W: Write, E: Write>(
     machine: &mut Machine<'_, T, W, E>,
     file: &str,
@@ -115,7 +117,7 @@ fn take_letter_at<T: Files, S: Store, R: Read, W: Write, E: Write>(
     }
 }
 
-/// `ill send --key`: writes the letter that has one message of a transaction, sealed with the key in `key_file`.
+/// `ill send --key`: writes the letter that has the message `number` of `txn`, sealed with the key in `key_file`.
 fn send_letter<T: Files, D: DeskFiles, W: Write, E: Write>(
     machine: &mut Machine<'_, T, W, E>,
     place: &DeskPlace<'_, D>,

@@ -29,8 +29,8 @@ pub struct NoteView<'a> {
     pub words: &'a [&'a str],
 }
 
-/// `ill note`: keeps the note of `view` beside the desk at `place`, which must hold the loan (else `NoSuchTransaction`).
-/// The lock of its file is held until the note is durable.
+/// `ill note`: keeps the note of `view` beside the desk at `place`, which must hold the loan (else
+/// `NoSuchTransaction`). The lock of the desk's file is held until the note is durable. Returns true, or the fault.
 pub fn note<T: Files, D: DeskFiles, W: Write, E: Write>(
     machine: &mut Machine<'_, T, W, E>,
     place: &DeskPlace<'_, D>,
@@ -45,7 +45,7 @@ pub fn note<T: Files, D: DeskFiles, W: Write, E: Write>(
     all_well(kept)
 }
 
-/// Keeps the note of `view` beside `file`, if `sides` have its loan.
+/// Keeps the note of `view` beside `file`, if `sides` have its loan. Else it fails with `NoSuchTransaction`.
 fn keep_if_held<T: Files, W: Write, E: Write>(
     machine: &mut Machine<'_, T, W, E>,
     file: &str,
@@ -61,8 +61,8 @@ fn keep_if_held<T: Files, W: Write, E: Write>(
     }
 }
 
-/// Keeps the note of `view` in the file of notes beside `file`. Writes a line to the errors if a part of a line was cut off
-/// at the end of that file.
+/// Keeps the note of `view` in the file of notes beside `file`. Writes a line to the errors if a part of a line was cut
+/// off at the end of that file.
 fn keep_at<T: Files, W: Write, E: Write>(
     machine: &mut Machine<'_, T, W, E>,
     file: &str,

@@ -7,8 +7,8 @@ use Rattle.ill_commands.specs.AtFile.{TellsItem}
 use Rattle.ill_commands.proofs.commands.act_at.Goals as goal
 use Rattle.ill_commands.proofs.commands.act_at.Goals.{then-is_ok, else-is_ok}
 
--- Proves the contract of `act_at`. The item is that of the side after the action. Telling how many numbers are left leaves
--- the writer as it is.
+-- Proves the contract of `act_at`. The item is that of the side after the action (`told`). In both branches the writer
+-- stays as it is after the item: the line about numbers goes to the errors.
 pub returns : goal.returns
 returns g c =
     let found = c.get.ensures ∙ ap (λ (sides : SidesOf). side_with c.args.view.now.txn.now sides.sides) c.sides.ensures.value in

@@ -3,7 +3,8 @@ use Rattle.std.proofs.Common.{inr}
 use Rattle.ill_beside.specs.FileLines.{lines_of}
 use Rattle.ill_commands.proofs.commands.loan.Goals as goal
 
--- Proves that the transaction is one of the desk that was loaded at the place.
+-- Proves that the transaction is one of the desk that was loaded at the place. It is shown with the files beside the
+-- desk.
 pub returns : goal.returns
 returns g c =
     inr (

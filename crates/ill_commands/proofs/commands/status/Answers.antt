@@ -2,7 +2,7 @@
 use Rattle.std.proofs.Common.{inr}
 use Rattle.ill_commands.proofs.commands.status.Goals as goal
 
--- Proves that the sides are those of the desk that was loaded at the place.
+-- Proves that the sides that are shown are those of the desk that was loaded at the place.
 pub returns : goal.returns
 returns g c =
     inr (

@@ -2,7 +2,7 @@
 use Rattle.std.proofs.Common.{inr}
 use Rattle.ill_commands.proofs.commands.verify.Goals as goal
 
--- Proves that the record is one of the store at the place.
+-- Proves that the record that is verified is that of the store at the place.
 pub returns : goal.returns
 returns g c =
     inr (

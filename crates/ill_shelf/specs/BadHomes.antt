@@ -4,11 +4,11 @@ use Rattle.ill_place.specs.BadPlaces.{AreElsewhere}
 use Rattle.ill_place.specs.Place.{ShelfOf, place_of}
 use Rattle.ill_shelf.specs.Home.{IsDeskFor, IsHome}
 
--- No desk of `group` was loaded, on the shelf.
+-- No desk was loaded from the path of the desk of `group` on the shelf, in either role.
 abbrev pub IsNowhere : {S : Type 0} → ShelfOf S → (group : List ℕ) → Type 0
 IsNowhere shelf group = (path : List ℕ) → IsHome shelf.folder group path → AreElsewhere (place_of shelf.state path)
 
--- No desk that takes messages of `group` was loaded, on the shelf.
+-- No desk was loaded from the path of the desk of `group`, or from that of the shelf's own desk.
 abbrev pub IsTakenNowhere : {S : Type 0} → ShelfOf S → (group : List ℕ) → Type 0
 IsTakenNowhere shelf group =
     (path : List ℕ) → IsDeskFor shelf.folder group path → AreElsewhere (place_of shelf.state path)

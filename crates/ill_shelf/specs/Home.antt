@@ -23,12 +23,13 @@ IsHome folder group path = (role : Role) × (path ≡ desk_path folder role grou
 abbrev pub IsDeskFor : (folder group path : List ℕ) → Type 0
 IsDeskFor folder group path = IsHome folder group path ⊎ (path ≡ own_path folder)
 
--- `AtPlace` holds of the place of the desk of `group` on the shelf.
+-- `AtPlace` holds of a place on the shelf: that of the desk of `group`.
 abbrev pub AtHome : {S : Type 0} → ShelfOf S → (group : List ℕ) → (AtPlace : PlaceOf S → Type 0) → Type 0
 AtHome shelf group AtPlace =
     (path : List ℕ) × IsHome shelf.folder group path × AtPlace (place_of shelf.state path)
 
--- The action was performed or tried at the desk of the place, which may have been begun for it. Or its file could not be opened.
+-- The action was performed or tried at the desk of the place, which may have been begun for it. Or its file could not
+-- be opened.
 abbrev pub ActsAtPlace : {S : Type 0} → PlaceOf S → Asking → (is_long : Bool) → Option (List ℕ) → Option (List ℕ) →
     Result Bool ToolFault → Type 0
 ActsAtPlace {S} place asked is_long before after result =
@@ -67,7 +68,7 @@ abbrev pub SlipAtHome : {S : Type 0} → ShelfOf S → Qualifiers → Option (Li
 SlipAtHome shelf txn before after result =
     AtHome shelf txn.group (λ place. SlipAtFile place txn before after result)
 
--- The own desk of the shelf was begun, a desk of `role`. Or its file could not be opened.
+-- The own desk of the shelf was begun, with the role `role`. Or its file could not be opened.
 abbrev pub BeginsShelf : {S : Type 0} → ShelfOf S → Role → Option (List ℕ) → Option (List ℕ) → Result Bool ToolFault → Type 0
 BeginsShelf shelf role before after result =
     NewAtFile (place_of shelf.state (own_path shelf.folder)) role before after result

@@ -30,18 +30,20 @@ use Rattle.ill_shelf.specs.Home.{IsDeskFor}
 
 -- ---- one desk after another
 
--- The effect of a command at the desk of a place: its output goes from the first to the second, and it has this result.
+-- The effect of a command at the desk of a place. After the place come the output before it, the output after it, and
+-- its result.
 abbrev pub AtDesk : Type 0 → Type 1
 AtDesk S = PlaceOf S → Option (List ℕ) → Option (List ℕ) → Result Bool ToolFault → Type 0
 
--- If the line of the path was written, the command ran at the desk. If it was not, its fault is the answer.
+-- If the line of the path was written, the command ran at the desk, as `Runs` says. If the line failed, its fault is
+-- the answer, and nothing more was written.
 abbrev pub RunsAfter : (Option (List ℕ) → Option (List ℕ) → Result Bool ToolFault → Type 0) → Result (Unit {0}) ToolFault →
     Option (List ℕ) → Option (List ℕ) → Result Bool ToolFault → Type 0
 RunsAfter Runs (Ok done) between after answer = Runs between after answer
 RunsAfter Runs (Err fault) between after answer = (answer ≡ Err fault) × (after ≡ between)
 
--- If `is_headed`, the line of the path was written first. Then the command ran at the desk. `state` has the states of the
--- stores of desks.
+-- If `is_headed`, the line of the path was written first. Then the command ran at the desk, as `Runs` says. `state`
+-- gives the state of the store of a desk.
 abbrev pub Headed : {S : Type 0} → (state : S → StoreState) → Bool → AtDesk S → Stop → Type 0
 Headed state is_headed Runs stop =
     (between : Option (List ℕ)) × (told : Result (Unit {0}) ToolFault)
@@ -53,7 +55,7 @@ abbrev pub is_lines : Form → Bool
 is_lines Lines = true
 is_lines form = false
 
--- Returns true if the line of its path is written before each desk. It is not if messages or objects of JSON
+-- Returns true if the line of its path is written before each desk. No line is written if messages or objects of JSON
 -- go to the output.
 abbrev pub is_headed : Visit → Bool
 is_headed (visits.Status form) = is_lines form
@@ -73,14 +75,14 @@ abbrev pub VisitsAll : (Visits : Stop → Type 0) → (paths : List (List ℕ)) 
     Result Bool ToolFault → Type 0
 VisitsAll Visits paths before after answer = VisitsEach (λ is_first. Visits) paths before after answer
 
--- The result is that all is well, that mails without a desk wait, or that a file failed.
+-- The result is true, the fault `Left` (mails wait for the next run), or the fault of a file or of memory.
 abbrev pub IsFurther : Result Bool ToolFault → Type 0
 IsFurther (Ok is_well) = is_well ≡ true
 IsFurther (Err Left) = Unit {0}
 IsFurther (Err fault) = IsFileFault fault
 
--- Desks of the shelf in `folder` were visited. The result is graver than their answers if mails wait that have no desk, or
--- a file failed. Or the shelf could not be opened.
+-- Desks of the shelf in `folder` were visited. The result is the graver of their gravest answer and of `further`. That
+-- tells if mails wait, or a file failed. Or the shelf could not be opened.
 abbrev pub VisitsShelf : (folder : List ℕ) → (Visits : Stop → Type 0) → Option (List ℕ) → Option (List ℕ) →
     Result Bool ToolFault → Type 0
 VisitsShelf folder Visits before after result =
@@ -90,8 +92,8 @@ VisitsShelf folder Visits before after result =
 
 -- ---- letters
 
--- The letters that had come to the shelf in `folder` were opened, and then its desks were visited. The result is graver than
--- that of the visits if a file waits, or was no letter. Or the shelf could not be opened, or no key could be used.
+-- The letters that had come to the shelf in `folder` were opened, and then its desks were visited. The result is the
+-- graver of the visits' result and of that of the opening. Or the shelf could not be opened, or no key could be used.
 abbrev pub OpensShelf : (folder : List ℕ) → (Visits : Stop → Type 0) → Option (List ℕ) → Option (List ℕ) →
     Result Bool ToolFault → Type 0
 OpensShelf folder Visits before after result =
@@ -112,7 +114,7 @@ abbrev pub retired_line : Bool → List ℕ
 retired_line true = codes "done\n"
 retired_line false = codes "not-now\n"
 
--- Returns the answer of a command that has written its line, or the fault if it could not.
+-- Returns `is_well`, the answer of a command, if its line was written. Else it returns the fault of the writing.
 abbrev pub told_with : Bool → Result (Unit {0}) ToolFault → Result Bool ToolFault
 told_with is_well (Ok done) = Ok is_well
 told_with is_well (Err fault) = Err fault
@@ -127,15 +129,16 @@ RetiresAtFile before after result =
 
 -- ---- an input
 
--- The state of `take` on a shelf: the shelf's folder, the form and the output. `all_fine` is true if all went well so far.
+-- The state of `take` on a shelf: the shelf's folder, the form and the output. `all_fine` is true if all went well so
+-- far.
 pub record ShelfTaking : Type 0 where
   pub folder : List ℕ
   pub form : TakeForm
   pub all_fine : Bool
   pub written : Option (List ℕ)
 
--- The APDU `a` was taken as by `take` at the desk of its group, or at the shelf's own desk. `a` alone was the input. `state`
--- has the states of the stores of desks.
+-- The APDU `a` was taken as by `take` at the desk of its group, or at the shelf's own desk. `a` alone was the input.
+-- `state` gives the state of the store of a desk. If all went well, `all_fine` stays as it was.
 abbrev pub TakesAtHome : {S : Type 0} → (state : S → StoreState) → Handles ShelfTaking ToolFault
 TakesAtHome state old a (Ok done) new =
     (path : List ℕ) × IsDeskFor old.folder a.txn.group path × (is_well : Bool) × (rest : Option (List ℕ))

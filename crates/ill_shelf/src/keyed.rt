@@ -1,4 +1,5 @@
-//! The commands on the mails of a shelf, with a key or without one. With a key all messages come and go in sealed letters.
+//! The commands on the mails of a shelf, with a key or without one. With a key all messages come and go in sealed
+//! letters.
 
 ghost use Rattle.std.specs.Prelude.{true, Some, is_some, option_map};
 ghost use Rattle.ill_mail.specs.Keyed.{WithKey};
@@ -22,7 +23,8 @@ use ill_text::diary::Stamp;
 use ill_text::fault::{ToolFault, graver};
 use std::io::Write;
 
-/// `ill shelf inbox`: takes the mails of a folder, or the letters in it alone if there is a file of a key.
+/// `ill shelf inbox`: takes the mails of the folder of `incoming`, each at the desk of its group. With `key_file` it
+/// takes sealed letters alone. Returns the gravest answer of the desks and of the sorting.
 pub fn inbox_of_shelf_with<T: LockFiles, D: DeskFiles, W: Write, E: Write>(
     machine: &mut Machine<'_, T, W, E>,
     place: &ShelfPlace<'_, D>,
@@ -39,7 +41,8 @@ pub fn inbox_of_shelf_with<T: LockFiles, D: DeskFiles, W: Write, E: Write>(
     }
 }
 
-/// `ill shelf inbox --key`: opens the letters of a folder, and takes the messages in them.
+/// `ill shelf inbox --key`: opens the letters of the folder of `incoming` with the key in `key_file`. Then it takes the
+/// messages in them.
 #[tactic(auto, using(crate::proofs::ShelfLemmas::not_opened, crate::proofs::ShelfLemmas::no_key))]
 fn inbox_sealed<T: LockFiles, D: DeskFiles, W: Write, E: Write>(
     machine: &mut Machine<'_, T, W, E>,
@@ -64,7 +67,8 @@ fn inbox_sealed<T: LockFiles, D: DeskFiles, W: Write, E: Write>(
     graver(done, opened_answer(opened))
 }
 
-/// Returns the mails of `folder`, with the stamp of the lines of the diary.
+/// Returns `folder`, into which the shelf has put messages, as the folder from which mails come. `stamp` begins the
+/// lines of the diary.
 fn mails_in<'a, 'b, 'c>(folder: &'a str, stamp: &'b Option<Stamp<'c>>) -> Incoming<'a, 'b, 'c> {
     Incoming {
         folder,
@@ -74,8 +78,8 @@ fn mails_in<'a, 'b, 'c>(folder: &'a str, stamp: &'b Option<Stamp<'c>>) -> Incomi
     }
 }
 
-/// `ill shelf outbox`: puts the messages of the loans that want sending into a folder, in letters if there is a file of a
-/// key. Without a folder it writes them one after another.
+/// `ill shelf outbox`: puts the messages of the loans that want sending into the folder `outgoing`. With `key_file`
+/// they leave in sealed letters. Without a folder it writes them one after another, unsealed.
 pub fn outbox_of_shelf_with<T: LockFiles, D: DeskFiles, W: Write, E: Write>(
     machine: &mut Machine<'_, T, W, E>,
     place: &ShelfPlace<'_, D>,
@@ -93,7 +97,8 @@ pub fn outbox_of_shelf_with<T: LockFiles, D: DeskFiles, W: Write, E: Write>(
     }
 }
 
-/// Puts the messages of the loans that want sending into the folder `out`, in letters if there is a file of a key.
+/// Puts the messages of the loans that want sending into the folder `out`. With `key_file` they leave in sealed
+/// letters.
 fn outbox_into<T: LockFiles, D: DeskFiles, W: Write, E: Write>(
     machine: &mut Machine<'_, T, W, E>,
     place: &ShelfPlace<'_, D>,
@@ -125,8 +130,8 @@ fn outbox_sealed<T: LockFiles, D: DeskFiles, W: Write, E: Write>(
     outbox_of_shelf(machine, place, Some(Outlet::sealed(out, &key)))
 }
 
-/// `ill shelf exchange`: performs the nights of the desks. If there is a file of a key, all messages come and go in
-/// letters.
+/// `ill shelf exchange`: performs `night` at each desk. With `key_file` all messages come and go in sealed letters.
+/// Returns the gravest answer of the desks, the sorting and the end of the night.
 pub fn exchange_of_shelf_with<T: LockFiles, D: DeskFiles, W: Write, E: Write>(
     machine: &mut Machine<'_, T, W, E>,
     place: &ShelfPlace<'_, D>,

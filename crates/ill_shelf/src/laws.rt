@@ -12,8 +12,8 @@ ghost use Rattle.ill_shelf.specs.Shelf.{ShelfTaking, TakesAtHome};
 use ill_commands::laws::no_command_ends_well_at_another_desk;
 use ill_saved::Store;
 
-/// If no desk of a group was loaded, no command in a transaction of the group ends well on a shelf. No message of the group
-/// is taken there, if the shelf's own desk was not loaded either.
+/// If no desk of a group was loaded, no `slip`, `note` or `send` in a loan of the group ends well. No message of the
+/// group is taken there, if the shelf's own desk was not loaded either.
 pub fn no_command_ends_well_away_from_its_group<S: Store>()
     ensures slips { (folder : List ℕ) (txn : Qualifiers) (is_well : Bool) (before after : Option (List ℕ)) →
         IsNowhere (shelf_of S.state folder) txn.group →

@@ -1,4 +1,5 @@
-//! The commands on a shelf. In a transaction each does at the desk of its group as the command for one desk does.
+//! The commands on a shelf. A command in one transaction does at the desk of its group what the command for one desk
+//! does.
 
 ghost use Rattle.std.specs.Prelude.{◌≡◌, true, is_some, map, option_map, string_bytes, IfErr, IfOk};
 ghost use Rattle.ill_files.specs.ShelfNames.{AreOnShelf};
@@ -47,7 +48,7 @@ use std::io::{ErrorKind, Write};
 use std::rt::Files;
 use std::{fs, io};
 
-/// `ill shelf new`: begins a shelf in a folder. The folder is made if it is not there.
+/// `ill shelf new`: begins a shelf of `role` in the folder of `place`. The folder is made if it is not there.
 pub fn new_shelf<T: Files, D: DeskFiles, W: Write, E: Write>(
     machine: &mut Machine<'_, T, W, E>,
     place: &ShelfPlace<'_, D>,
@@ -65,7 +66,7 @@ pub fn new_shelf<T: Files, D: DeskFiles, W: Write, E: Write>(
     new(machine, &desk, role)
 }
 
-/// Makes the folder of a shelf, if it is not there.
+/// Makes the folder of a shelf, if it is not there. Fails if `folder` is empty.
 fn make_shelf_folder<T: Files>(rt: &T, folder: &str) -> Result<(), ToolFault>
     ensures { IfErr result IsOpenFault }
 {
@@ -78,8 +79,8 @@ fn make_shelf_folder<T: Files>(rt: &T, folder: &str) -> Result<(), ToolFault>
     }
 }
 
-/// `ill shelf act`: performs the action of `view`, at the desk of its group. If `is_long` is set, the item of the loan is
-/// written too. A new group is begun only if `is_new_group` is set.
+/// `ill shelf act`: performs the action of `view`, at the desk of its group. If `is_long` is set, the item of the loan
+/// is written too. A new group is begun only if `is_new_group` is set.
 pub fn act_on_shelf<T: Files, D: DeskFiles, W: Write, E: Write>(
     machine: &mut Machine<'_, T, W, E>,
     place: &ShelfPlace<'_, D>,
@@ -102,7 +103,7 @@ pub fn act_on_shelf<T: Files, D: DeskFiles, W: Write, E: Write>(
 }
 
 /// Opens the desk at `place` under the lock of its file. If the file is not there and there is a `role`, it begins a
-/// desk of that role. Nothing of that desk is saved yet.
+/// desk of that role, of which nothing is saved yet. Fails if the group is retired, or its desk is lost.
 fn open_or_begin<T: Files, D: DeskFiles>(
     rt: &T,
     alloc: Global,
@@ -118,7 +119,8 @@ fn open_or_begin<T: Files, D: DeskFiles>(
     place.open_or_begin(alloc, lock, role)
 }
 
-/// `ill shelf send`: writes the bytes of a message of a transaction, or its letter if there is a file of a key.
+/// `ill shelf send`: writes the bytes of the message `number` of `txn`. With `key_file` it writes the message in a
+/// sealed letter.
 pub fn send_on_shelf_with<T: Files, D: DeskFiles, W: Write, E: Write>(
     machine: &mut Machine<'_, T, W, E>,
     place: &ShelfPlace<'_, D>,
@@ -174,7 +176,7 @@ pub fn note_on_shelf<T: Files, D: DeskFiles, W: Write, E: Write>(
     note(machine, &desk, view)
 }
 
-/// `ill shelf slip`: writes a slip of a transaction.
+/// `ill shelf slip`: writes the slip of the transaction `txn`, at the desk of its group.
 pub fn slip_on_shelf<T: Files, D: DeskFiles, W: Write, E: Write>(
     machine: &mut Machine<'_, T, W, E>,
     place: &ShelfPlace<'_, D>,
@@ -191,7 +193,8 @@ pub fn slip_on_shelf<T: Files, D: DeskFiles, W: Write, E: Write>(
     slip(machine, &desk, txn)
 }
 
-/// Returns the path of the desk of the group of `txn`, unless the group is retired.
+/// Returns the path of the desk of the group of `txn`, and does not look for the desk. Fails if the shelf is not
+/// opened, the group is retired or that cannot be read, or memory runs out.
 fn home_of<T: Files>(rt: &T, alloc: Global, folder: &str, txn: &TxnId) -> Result<String, ToolFault>
     ensures home { IfOk result (λ path. IsHome folder.now txn.now.group (string_bytes path)) }
     ensures faults { IfErr result IsOpenFault }
@@ -202,7 +205,7 @@ fn home_of<T: Files>(rt: &T, alloc: Global, folder: &str, txn: &TxnId) -> Result
     Ok(file)
 }
 
-/// `ill shelf status`: shows the sides of each desk.
+/// `ill shelf status`: shows the sides of each desk in `form`. Returns true, or the gravest fault of a desk.
 pub fn status_of_shelf<T: Files, D: DeskFiles, W: Write, E: Write>(
     machine: &mut Machine<'_, T, W, E>,
     place: &ShelfPlace<'_, D>,
@@ -217,8 +220,8 @@ pub fn status_of_shelf<T: Files, D: DeskFiles, W: Write, E: Write>(
     visit_all(machine, place.files, &desks, &Visit::Status(form))
 }
 
-/// `ill shelf outbox`: puts the messages of the loans that want sending into a folder, or writes them one after
-/// another.
+/// `ill shelf outbox`: puts the messages of the loans that want sending into the folder of `outlet`. The last words of
+/// retired groups go there too. Without an outlet it writes the messages one after another, and no last words.
 pub fn outbox_of_shelf<T: Files, D: DeskFiles, W: Write, E: Write>(
     machine: &mut Machine<'_, T, W, E>,
     place: &ShelfPlace<'_, D>,
@@ -234,7 +237,7 @@ pub fn outbox_of_shelf<T: Files, D: DeskFiles, W: Write, E: Write>(
     graver(answer, send_words_to(machine, &shelf, outlet))
 }
 
-/// Sends the last words of retired groups into a folder, if there is one.
+/// Sends the last words of retired groups into the folder of `outlet`. Without an outlet it does nothing.
 fn send_words_to<T: Files, W: Write, E: Write>(
     machine: &mut Machine<'_, T, W, E>,
     shelf: &Shelf<'_>,
@@ -252,7 +255,8 @@ fn send_words_to<T: Files, W: Write, E: Write>(
     }
 }
 
-/// `ill shelf inbox`: takes the mails of a folder, each at the desk of its group.
+/// `ill shelf inbox`: takes the mails of the folder of `incoming`, each at the desk of its group. Returns the gravest
+/// answer of the desks, and at least `Left` if mails wait.
 pub fn inbox_of_shelf<T: LockFiles, D: DeskFiles, W: Write, E: Write>(
     machine: &mut Machine<'_, T, W, E>,
     place: &ShelfPlace<'_, D>,
@@ -265,8 +269,8 @@ pub fn inbox_of_shelf<T: LockFiles, D: DeskFiles, W: Write, E: Write>(
     take_at_desks(machine, place.files, &shelf, incoming, false)
 }
 
-/// Takes the mails of `incoming`, each at the desk of its group. The shelf sorts them. `is_own` is set if it has put them
-/// there itself.
+/// Sorts the mails of `incoming`, and takes each at the desk of its group. `is_own` is set if the shelf has put the
+/// mails into their folder itself. The result is that of `inbox_of_shelf`.
 pub(crate) fn take_at_desks<T: LockFiles, D: DeskFiles, W: Write, E: Write>(
     machine: &mut Machine<'_, T, W, E>,
     files: &D,
@@ -312,7 +316,8 @@ fn waiting(is_waiting: bool) -> Result<bool, ToolFault>
     }
 }
 
-/// `ill shelf exchange`: sorts the mail that has come, and exchanges the mail of each desk.
+/// `ill shelf exchange`: sorts the mail that has come, and performs `night` at each desk. Returns the gravest answer of
+/// the desks and of the end of the night.
 pub fn exchange_of_shelf<T: LockFiles, D: DeskFiles, W: Write, E: Write>(
     machine: &mut Machine<'_, T, W, E>,
     place: &ShelfPlace<'_, D>,
@@ -330,7 +335,7 @@ pub fn exchange_of_shelf<T: LockFiles, D: DeskFiles, W: Write, E: Write>(
     exchange_at_desks(machine, place.files, &shelf, night, way)
 }
 
-/// Opens the shelf in `folder`, and looks at the paths of `night` before anything is done.
+/// Opens the shelf in `folder`. Fails if a path of `night` is misplaced, before anything is done.
 pub(crate) fn look_at_shelf<'a, T: LockFiles, W: Write, E: Write>(
     machine: &mut Machine<'_, T, W, E>,
     folder: &'a str,
@@ -354,14 +359,16 @@ pub(crate) fn look_at_shelf<'a, T: LockFiles, W: Write, E: Write>(
 /// The way on which the mails of a night come and go.
 #[derive(Clone, Copy)]
 pub(crate) struct Way<'a> {
-    /// The folder from which the mails come. With a key, it is that of the messages in letters that the shelf has opened.
+    /// The folder from which the mails come. With a key, it is that of the messages in letters that the shelf has
+    /// opened.
     pub incoming: &'a str,
     /// The key of the letters in which messages leave, if there is one.
     pub key: Option<&'a Key>,
 }
 
 impl<'a> Way<'a> {
-    /// Returns the way of messages in letters that are sealed with `key`. Those that have come were put into `incoming`.
+    /// Returns the way of messages in letters that are sealed with `key`. Those that have come were put into
+    /// `incoming`.
     pub fn sealed(incoming: &'a str, key: &'a Key) -> Way<'a> {
         Way {
             incoming,
@@ -370,7 +377,8 @@ impl<'a> Way<'a> {
     }
 }
 
-/// Performs the nights of the desks of `shelf`, whose mails come and go on this way.
+/// Performs `night` at each desk of `shelf`, whose mails come and go on `way`. The result is that of
+/// `exchange_of_shelf`.
 pub(crate) fn exchange_at_desks<T: LockFiles, D: DeskFiles, W: Write, E: Write>(
     machine: &mut Machine<'_, T, W, E>,
     files: &D,
@@ -438,9 +446,9 @@ struct Ending<'a, 'b> {
     is_waiting: bool,
 }
 
-/// Copies the marks of retired groups to the folder of copies, and sends the last words of these groups. So no last word
-/// leaves that the copies do not have. Then it gives the sign of life of the night, unless a desk has failed. It returns
-/// the fault `Left` if mails wait.
+/// Copies the marks of retired groups to the folder of copies, and sends the last words of these groups. So no last
+/// word leaves that the copies do not have. Then it gives the sign of life of the night, unless a desk has failed:
+/// `answer` is the gravest answer of the desks. It returns the fault `Left` if mails wait, else true.
 fn end_night<T: Files, W: Write, E: Write>(
     machine: &mut Machine<'_, T, W, E>,
     shelf: &Shelf<'_>,
@@ -487,7 +495,8 @@ fn copy_marks<T: Files>(rt: &T, alloc: Global, shelf: &Shelf<'_>, folder: &str) 
     Ok(())
 }
 
-/// Saves `mark`, the mark that the group of `desk` is retired, and makes it durable with its folder.
+/// Saves `mark`, the mark that the group of `desk` is retired, and makes it durable with its folder. Without a mark it
+/// does nothing.
 fn save_mark<T: Files>(rt: &T, alloc: Global, desk: &str, mark: Option<Vec<u8>>) -> io::Result<()> {
     let path = retired_path(alloc, desk)?;
     match mark {
@@ -505,8 +514,8 @@ fn save_file<T: Files>(rt: &T, alloc: Global, path: &str, bytes: &[u8]) -> io::R
     }
 }
 
-/// `ill shelf retire`: replaces a desk by the mark of its group, if all its loans are over. No mail is sorted in that
-/// time.
+/// `ill shelf retire`: replaces the desk of `group` by the mark of the group, if all its loans are over. Meanwhile no
+/// mail is sorted. Returns true if the group is retired, and false if a loan is not over.
 pub fn retire<T: LockFiles, W: Write, E: Write>(
     machine: &mut Machine<'_, T, W, E>,
     folder: &str,
@@ -533,7 +542,7 @@ fn retired_line(is_retired: bool) -> &'static [u8]
     if is_retired { b"done\n" } else { b"not-now\n" }
 }
 
-/// Returns the answer of a command that has written its line, or the fault if it could not.
+/// Returns `is_well`, the answer of a command, if its line was written. Else it returns the fault of the writing.
 fn tell_with(is_well: bool, told: Result<(), ToolFault>) -> Result<bool, ToolFault>
     ensures { result ≡ told_with is_well told }
 {
@@ -555,7 +564,8 @@ fn mark_and_clear<T: Files>(rt: &T, alloc: Global, file: &str) -> Result<bool, T
     Ok(is_marked)
 }
 
-/// Marks the group of the desk in `file` as retired, if all loans of the desk are over. It may be marked already.
+/// Marks the group of the desk in `file` as retired, if all loans of the desk are over. Returns true if the group is
+/// marked, now or before.
 fn mark_retired<T: Files>(rt: &T, alloc: Global, file: &str) -> Result<bool, ToolFault>
     ensures { IfErr result IsOpenFault }
 {
@@ -568,7 +578,8 @@ fn mark_retired<T: Files>(rt: &T, alloc: Global, file: &str) -> Result<bool, Too
     retire_desk(alloc, &desk, &mut mark)
 }
 
-/// Marks the group of `desk` as retired in the store `mark`, as `run_desk_retire` does.
+/// Marks the group of `desk` as retired in the store `mark`, as `run_desk_retire` does. Returns false if a loan is not
+/// over.
 #[tactic(auto, using(crate::proofs::ShelfLemmas::retire_faults))]
 fn retire_desk<S: Store, C: Store>(
     alloc: Global,

@@ -26,7 +26,8 @@ use ill_values::OutOfMemory;
 use std::alloc::Global;
 use std::io::{Read, Write};
 
-/// `ill shelf take`: takes the APDUs of the input, each at the desk of its group.
+/// `ill shelf take`: takes the APDUs of the input `reader`, each at the desk of its group. Returns true if no APDU was
+/// refused or in conflict. It stops at the first fault.
 fn take_on_shelf<T: LockFiles, D: DeskFiles, R: Read, W: Write, E: Write>(
     machine: &mut Machine<'_, T, W, E>,
     place: &ShelfPlace<'_, D>,
@@ -50,7 +51,8 @@ fn take_on_shelf<T: LockFiles, D: DeskFiles, R: Read, W: Write, E: Write>(
     }
 }
 
-/// `ill shelf take`: takes the messages of the input, or those of the letter on it if there is a file of a key.
+/// `ill shelf take`: takes the messages of the input `reader`, as `take_on_shelf` does. With `key_file` the input is
+/// one sealed letter, whose messages are taken.
 pub fn take_on_shelf_with<T: LockFiles, D: DeskFiles, R: Read, W: Write, E: Write>(
     machine: &mut Machine<'_, T, W, E>,
     place: &ShelfPlace<'_, D>,
@@ -98,7 +100,7 @@ struct TakesHome<'a, 'b, 'c, D> {
     shelf: Shelf<'a>,
     /// The form in which each APDU is taken, and the stamp of the diary.
     view: TakeView<'b, 'c>,
-    /// Set if all went well so far.
+    /// Set if no APDU was refused or in conflict so far.
     all_fine: bool,
 }
 
@@ -158,9 +160,9 @@ fn encoded(alloc: Global, apdu: &ApduView<'_>) -> Result<Vec<u8>, OutOfMemory>
     encode(alloc, &apdu)
 }
 
-/// Returns the path of the desk for `apdu`. An ILL-Request to a responder's shelf makes the desk of a new group. A
-/// retired group has no desk, and neither has one whose desk is lost. The APDUs of any other group go to the shelf's
-/// own desk.
+/// Returns the path of the desk that takes `apdu`: the desk of its group, if it exists. An ILL-Request to a responder's
+/// shelf makes the desk of a new group. Fails if the group is retired, or its desk is lost. The APDUs of any other
+/// group go to the shelf's own desk.
 #[tactic(auto, using(crate::proofs::HomeLemmas::home_is_for, crate::proofs::HomeLemmas::own_is_for))]
 fn desk_for<T: LockFiles>(
     rt: &T,

@@ -28,7 +28,7 @@ use std::rt::Files;
 pub(crate) enum Visit<'a, 'b, 'c> {
     /// Its loans are shown.
     Status(Form),
-    /// The mails that were sorted to it are taken. Mails that wait are given back to this folder.
+    /// The mails that were sorted to it are taken. Mails that wait are given back to the folder of this `Incoming`.
     Inbox(Incoming<'a, 'b, 'c>),
     /// Its messages are put into the folder of this outlet, or written to the output.
     Outbox(Option<Outlet<'a>>),
@@ -77,7 +77,7 @@ fn visit_desk<T: Files, D: DeskFiles, W: Write, E: Write>(
     }
 }
 
-/// Writes the line of the path of a desk, if there is one.
+/// Writes the line of `path`, the path of a desk, if `is_headed` is set.
 fn head<T: Files, W: Write, E: Write>(
     machine: &mut Machine<'_, T, W, E>,
     path: &str,
@@ -117,7 +117,7 @@ fn is_lines(form: Form) -> bool
     }
 }
 
-/// Visits a desk, and writes a line to `errors` if the visit fails.
+/// Runs the command of `visit` at a desk. A line to the errors tells of a fault, unless the fault is `Left`.
 fn visit_told<T: Files, D: DeskFiles, W: Write, E: Write>(
     machine: &mut Machine<'_, T, W, E>,
     place: &DeskPlace<'_, D>,

@@ -36,7 +36,7 @@ returns-in_err-file g c =
     not_acted (shelf_of g.D.DeskStore.Store.state c.args.place.now.folder.now) (asking_of c.args.view.now) c.args.is_long _ result
     opens
 
--- Proves the contract if the desk is not opened. Then no action is performed.
+-- Proves the contract if `open_or_begin` fails: the desk is neither opened nor begun. Then no action is performed.
 pub returns-in_err-locked : goal.returns-in_err-locked
 returns-in_err-locked g c =
     let result = c.from_residual-in_err-locked.result in

@@ -15,7 +15,7 @@ returns-in_err-make_shelf_folder g c =
       refl,
     )
 
--- Proves the contract if memory runs out for the path of the desk. Then no desk is begun.
+-- Proves the contract if memory runs out for the path of the shelf's own desk. Then no desk is begun.
 pub returns-in_err-own : goal.returns-in_err-own
 returns-in_err-own g c =
     inl (open_fault c.from_residual-in_err-own.result OutOfMemory c.from_residual-in_err-own.ensures.1 tt, refl)

@@ -19,7 +19,8 @@ returns g c = (
       c.as_str.ensures.value c.note.ensures,
 )
 
--- Proves the contract if the desk of the group is not found. Then no note is kept.
+-- Proves the contract if `home_of` fails. The shelf is not opened, the group is retired or that cannot be read, or
+-- memory runs out. Then no note is kept.
 pub returns-in_err-file : goal.returns-in_err-file
 returns-in_err-file g c =
     let result = c.from_residual.result in

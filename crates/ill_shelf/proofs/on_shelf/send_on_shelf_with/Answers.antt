@@ -18,7 +18,8 @@ returns g c =
     (g.W.Write.contents c.send_with.new.machine.writer) c.send_with.result) c.as_str.ensures.value c.send_with.ensures in
     (string_bytes c.in_ok-file.file, c.in_ok-file.ensures.home, sent)
 
--- Proves the contract if the desk of the group is not found. Then no message is sent.
+-- Proves the contract if `home_of` fails. The shelf is not opened, the group is retired or that cannot be read, or
+-- memory runs out. Then no message is sent.
 pub returns-in_err-file : goal.returns-in_err-file
 returns-in_err-file g c =
     let key = option_map (λ file. file.now) c.args.key_file in

@@ -11,7 +11,8 @@ use Rattle.ill_shelf.specs.Shelf.{ShelfTaking}
 use Rattle.ill_shelf.proofs.take_home.TakesHomeHandlerMachine.handle.Goals as goal
 use Rattle.ill_shelf.proofs.take_home.TakesHomeHandlerMachine.handle.Goals.{then-self, else-self}
 
--- Proves the contract if no desk is found. None is opened, and `TakesAtHome` holds with the path of the own desk.
+-- Proves the contract if `desk_for` fails. The group is retired, its desk is lost or cannot be made, or memory runs
+-- out. No desk is opened, and `TakesAtHome` holds with the path of the own desk.
 pub returns-in-Err : goal.returns-in-Err
 returns-in-Err g c = (
   own_path c.args.self.now.shelf.folder.now,
@@ -25,8 +26,8 @@ pub returns-in-Err-encoded : goal.returns-in-Err-encoded
 returns-in-Err-encoded g c =
     (own_path c.args.self.now.shelf.folder.now, inr refl, Some (encoding c.args.apdu.now), inl ((tt, refl), refl))
 
--- If the desk answers with a fault, the APDU was taken at `path` up to the fault (`took`). The desk there may take it
--- (`here`).
+-- Proves the contract if the desk answers with a fault. The APDU was taken at `path` up to the fault (`took`). The desk
+-- at `path` is one for the APDU (`here`).
 pub returns : goal.returns
 returns g c =
     let path = c.as_str.result.now in
@@ -42,8 +43,8 @@ returns g c =
     TakesAtFile place form (streams_of (Some (encoding c.args.apdu.now)) before) answer new) c.in-Err-take.is ran in
     (path, here, Some c.take.new.reader.now, took)
 
--- If the desk has taken the APDU, or refused it, so has the shelf (`took`). The desk may take it (`here`).
--- `all_fine` stays true only if this went well.
+-- Proves the contract if the desk has taken the APDU, or refused it (`took`). The desk at `path` is one for the APDU
+-- (`here`). The lemma `all_fine` says that the flag stays true only if the APDU went well.
 pub returns-in-Ok-take : goal.returns-in-Ok-take
 returns-in-Ok-take g c =
     let path = c.as_str.result.now in

@@ -35,8 +35,8 @@ longer_by_part today since before parts part =
     ∙ ap (λ text. before ++ (flat_map (part_text today since) parts ++ text)) (sym (append-nil (part_text today since part)))
     ∙ ap (λ text. before ++ text) (sym (flat_map-append (part_text today since) parts (part ∷ [])))
 
--- If a page has parts for the first `place` files and then the next, it has `place + 1`. `told` says so of the files,
--- `text` of the page, and `graver_is` of the faults.
+-- If a page has the parts of the first `place` files, and then the next part, it has those of `place + 1` files. `told`
+-- proves this of the files, `text` of the page, and `graver_is` of the gravest fault.
 pub one_more_part : (today : Date) (since : Option Date) (files : List (List ℕ)) (place : ℕ) (file before between after : List ℕ)
     (answer next : Result Bool ToolFault)
     → place < length files → file ≡ get_or files place file → AddsParts today since (take place files) before between answer
@@ -55,7 +55,7 @@ one_more_part today since files place file before between after answer next with
     ∙ sym (graver_part parts part) in
     (parts ++ part ∷ [], told, text, graver_is)
 
--- If each of two answers is a fault of opening or none, so is the graver of them.
+-- If each of two answers is Ok or a fault of opening, the graver of them is, too.
 pub open_graver : (one other : Result Bool ToolFault) → IfErr one IsOpenFault → IfErr other IsOpenFault
     → IfErr (graver one other) IsOpenFault
 open_graver (Ok one) (Ok other) first second = tt

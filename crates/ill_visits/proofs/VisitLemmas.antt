@@ -12,7 +12,7 @@ use Rattle.ill_visits.specs.declared.visit.Visit.{Visit}
 use Rattle.ill_visits.specs.declared.visit.Visit.TheVariants as visits
 use Rattle.ill_visits.specs.Visits.{RunsVisit}
 
--- In a list of no bytes are no messages.
+-- The messages in a list of no bytes are none.
 nothing_in : AreIn [] []
 unfolding apdu_at outer_at header_at
 nothing_in = (Ok [], ([], record { encoded = tt; parts = refl }, (refl, refl)))

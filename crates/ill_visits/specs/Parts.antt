@@ -9,12 +9,12 @@ use Rattle.ill_beside.specs.Since.{AnnexRead}
 use Rattle.ill_news.specs.Told.{news_since}
 use Rattle.ill_report.specs.Report.{desk_text, page_end, page_head, report_of, unread_text}
 
--- A part of a page is about the desk in a file. It has the loans of the desk and its annex, or the fault with which it
--- cannot be read and the text of the fault.
+-- A part of a page: the path of a desk, and the sides of the desk with its annex. If the desk cannot be read, the part
+-- has the fault and its text instead.
 abbrev pub Part : Type 0
 Part = List ℕ × Result (List Side × AnnexRead) (ToolFault × List ℕ)
 
--- Returns the annex of a desk, with the news since a day.
+-- Returns `annex`, the annex of a desk with `sides`, with the news since the day `since`. Without a day it has none.
 abbrev pub with_news : Option Date → List Side → AnnexRead → AnnexRead
 with_news since sides annex = record {
   notes = annex.notes;
@@ -33,15 +33,15 @@ abbrev pub part_answer : Part → Result Bool ToolFault
 part_answer (file, Ok loans) = Ok true
 part_answer (file, Err (fault, words)) = Err fault
 
--- Returns the gravest of the faults of some parts, or true if they have none.
+-- Returns the gravest of the faults in `parts`, or true if each desk was read.
 abbrev pub gravest_part : List Part → Result Bool ToolFault
 gravest_part parts = gravest_of (map part_answer parts)
 
--- Returns the page of these parts.
+-- Returns the page of the day with `parts`. If a day `since` is given, their loans have their news since that day.
 abbrev pub report_page : Date → (since : Option Date) → List Part → List ℕ
 report_page today since parts = page_head today ++ flat_map (part_text today since) parts ++ page_end
 
--- The page `after` is `before`, and then a part about the desk in `file`. `answer` is true, or the fault in it.
+-- The page `after` is `before`, and then a part about the desk in `file`. `answer` is true, or the fault in this part.
 abbrev pub AddsPart : Date → (since : Option Date) → List ℕ → List ℕ → List ℕ → Result Bool ToolFault → Type 0
 AddsPart today since file before after answer =
     (part : Part) × (part.0 ≡ file) × (after ≡ before ++ part_text today since part) × (answer ≡ part_answer part)

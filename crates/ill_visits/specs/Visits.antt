@@ -1,4 +1,5 @@
--- The effect of each command that visits desks. A desk here was loaded from a file, so nothing is known of its content.
+-- The effect of each command that visits desks in files. Nothing is known of the content of such a file, so the sides
+-- of a desk are any.
 use Rattle.std.specs.Prelude.{◌≡◌, ◌⊎◌, ℕ, Bool, nat_lt, List, ◌++◌, length, map, Option, option_map, Result, Ok}
 use Rattle.std.specs.Prelude.{Err, IfErr}
 use Rattle.ill_values.specs.Day.{Date}
@@ -25,9 +26,9 @@ use Rattle.ill_text.specs.Visits.{Stop, VisitsEach, graver}
 use Rattle.ill_visits.specs.declared.visit.Visit.{Visit}
 use Rattle.ill_visits.specs.declared.visit.Visit.TheVariants as visits
 
--- Those of the wanted sides of a desk that have the words `find`, if there are any, were listed in a visit, with what came
--- to them since the wanted day. If `is_first`, no desk is before it. If `is_headed`, the path is written first. Or a file
--- could not be opened, and nothing was written.
+-- The wanted sides of a desk were listed in a visit, with what came to them since the wanted day. If there are words
+-- `find`, only sides that have them were listed. If `is_first`, no desk is before this one. If `is_headed`, the path is
+-- written first. Or a file could not be opened, and nothing was written.
 abbrev pub ListsDesk : Form → Wanted → (find : Option (List ℕ)) → (is_headed is_first : Bool) → Stop → Type 0
 ListsDesk form wanted find is_headed is_first stop =
     FailsToOpen stop.before stop.after stop.answer
@@ -36,8 +37,9 @@ ListsDesk form wanted find is_headed is_first stop =
     (between form is_first ++ listed_desk form is_headed wanted (record { find = find; annex = annex }) stop.path sides))
     stop.answer)
 
--- What came to a desk since the day, if one is given, was told in a visit after its open answers, as `news_desk` does. If
--- `is_first`, no desk is before it. Or a file could not be opened, and nothing was written.
+-- What came to a desk was told in a visit, as `news_desk` does. If `since` is given, this is the open answers and what
+-- came since that day. If `last` is given, only so many of the last messages are shown. If `is_first`, no desk is
+-- before this one. If `is_headed`, the path is written. Or a file could not be opened, and nothing was written.
 abbrev pub TellsDesk : Form → Option ℕ → (since : Option Date) → (is_headed is_first : Bool) → Stop → Type 0
 TellsDesk form last since is_headed is_first stop =
     FailsToOpen stop.before stop.after stop.answer
@@ -46,8 +48,8 @@ TellsDesk form last since is_headed is_first stop =
     ++ news_desk form is_headed last stop.path sides (told_since since notes lines sides apdus)) came stop.before stop.after)
     stop.answer)
 
--- The figures of a desk were written in a visit, by its diary and by what came. Or a file could not be opened, and nothing was
--- written.
+-- The figures of a desk were written in a visit, as `view` asks, from its diary and what came. `is_headed` and
+-- `is_first` are as in `ListsDesk`. Or a file could not be opened, and nothing was written.
 abbrev pub CountsDesk : FiguresView → (is_headed is_first : Bool) → Stop → Type 0
 CountsDesk view is_headed is_first stop =
     FailsToOpen stop.before stop.after stop.answer
@@ -70,8 +72,8 @@ abbrev pub VisitsFiles : (Bool → Bool → Stop → Type 0) → List (List ℕ)
     Result Bool ToolFault → Type 0
 VisitsFiles Runs files before after answer = VisitsEach (Runs (are_several files)) files before after answer
 
--- Desks that are found at `paths` were visited, one after another. The result is the gravest of their answers and of that
--- about the names in the folders. Or memory ran out before the first desk.
+-- Desks that are found at `paths` were visited, one after another. The result is the gravest of their answers. A name
+-- in a folder that is no text is a fault too. Or memory ran out before the first desk.
 abbrev pub VisitsPaths : (Bool → Bool → Stop → Type 0) → (paths : List (List ℕ)) → Option (List ℕ) → Option (List ℕ) →
     Result Bool ToolFault → Type 0
 VisitsPaths Runs paths before after result =
@@ -79,8 +81,8 @@ VisitsPaths Runs paths before after result =
     ⊎ ((files : List (List ℕ)) × (are_texts : Bool) × (answer : Result Bool ToolFault) × AreFoundAt paths files
     × VisitsFiles Runs files before after answer × (result ≡ graver answer (names_answer are_texts)))
 
--- After the text before the first desk, which was written with the result `written`, the desks at `paths` were visited. If
--- `written` is a fault, none was.
+-- After the text before the first desk, which was written with the result `written`, the desks at `paths` were visited.
+-- If `written` is a fault, none was.
 abbrev pub VisitsAfter : (written : Result (Unit {0}) ToolFault) → (Bool → Bool → Stop → Type 0) → (paths : List (List ℕ)) →
     Option (List ℕ) → Option (List ℕ) → Result Bool ToolFault → Type 0
 VisitsAfter (Ok done) Runs paths between after result = VisitsPaths Runs paths between after result
@@ -94,9 +96,9 @@ CountsPaths view paths before after result =
     × WritesPrefix before between (head_text view.is_csv) written
     × VisitsAfter written (CountsDesk view) paths between after result
 
--- A page of the desks at `paths` was written, with a part for each, and with news if a day `since` is given. The result is
--- the gravest of the faults of desks that could not be opened, and of that about the names in the folders. Or memory ran out
--- before the page.
+-- A page of the desks at `paths` was written, with a part for each, and news if a day `since` is given. The result is
+-- the gravest of the faults of desks. A name in a folder that is no text is a fault too. A failure of the output is
+-- graver. Or memory ran out before the page.
 abbrev pub ReportsPaths : Date → (since : Option Date) → (paths : List (List ℕ)) → Option (List ℕ) → Option (List ℕ) →
     Result Bool ToolFault → Type 0
 ReportsPaths today since paths before after result =

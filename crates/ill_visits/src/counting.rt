@@ -12,7 +12,7 @@ use ill_text::fault::ToolFault;
 use std::io::Write;
 use std::rt::Files;
 
-/// Writes the figures of the desk in a file.
+/// Writes the figures of the desk at the path of `listed`, as `view` asks. Returns true, or the fault.
 pub(crate) fn count_file<T: Files, W: Write, E: Write>(
     machine: &mut Machine<'_, T, W, E>,
     listed: &Listed<'_>,

@@ -24,7 +24,9 @@ use std::rt::Files;
 /// The number of loans from which on `list` warns of the room left.
 const MANY: usize = 900;
 
-/// Lists the desk in a file, and tells which loans have few numbers left, its room and what is left out.
+/// Lists the `wanted` loans of the desk of `listed`, or those of them that have the words `find`. Lines to the errors
+/// tell which loans have few numbers left, how much room the desk has, and what is left out. Returns true, or the
+/// fault.
 pub(crate) fn list_file<T: Files, W: Write, E: Write>(
     machine: &mut Machine<'_, T, W, E>,
     listed: &Listed<'_>,
@@ -97,14 +99,15 @@ fn listed_annex<T: Files, E: Write>(
     }
 }
 
-/// Writes to `errors` which loans of a desk have few numbers left, and how many.
+/// Writes to `errors` a line for each loan in `sides` that has few numbers left, with their count. `file` is the path
+/// of the desk.
 fn tell_numbers<E: Write>(alloc: Global, file: &str, sides: &Sides, errors: &mut E) {
     if let Ok(lines) = numbers_lines(alloc, file, sides) {
         let _ = errors.write_all(&lines);
     }
 }
 
-/// Writes a warning of the room left at a desk to `errors`, if the desk has many loans.
+/// Writes a warning of the room left at the desk in `file`, if it has 900 `loans` or more.
 fn warn<E: Write>(alloc: Global, file: &str, loans: usize, errors: &mut E) {
     if loans < MANY {
         return;
@@ -114,7 +117,8 @@ fn warn<E: Write>(alloc: Global, file: &str, loans: usize, errors: &mut E) {
     }
 }
 
-/// Writes to `errors` how many loans the list of a desk leaves out since no day is given, if any.
+/// Writes to `errors` how many loans the list of the desk in `file` leaves out because no day is given. If there are
+/// none, it writes nothing.
 fn tell_left_out<E: Write>(
     alloc: Global,
     file: &str,

@@ -19,7 +19,8 @@ use std::alloc::Global;
 use std::io::Write;
 use std::rt::Files;
 
-/// Tells what came to the desk in a file.
+/// Tells what came to the desk of `listed`: the last `last` messages, or all. With `since` it tells the open answers
+/// and what came on that day or later. Returns true, or the fault.
 pub(crate) fn tell_file<T: Files, W: Write, E: Write>(
     machine: &mut Machine<'_, T, W, E>,
     listed: &Listed<'_>,
@@ -55,7 +56,7 @@ pub(crate) fn tell_file<T: Files, W: Write, E: Write>(
     all_well(told)
 }
 
-/// Reads the diary of the desk in `file` if it is `wanted`. Else no line is read.
+/// Reads the diary of the desk in `file` if it is `wanted`. Else it returns a diary without lines.
 fn diary_if<T: Files, E: Write>(
     rt: &T,
     alloc: Global,
@@ -73,7 +74,7 @@ fn diary_if<T: Files, E: Write>(
     }
 }
 
-/// Reads the notes beside the desk in `file` if they are `wanted`. Else no line is read.
+/// Reads the notes beside the desk in `file` if they are `wanted`. Else it returns no notes.
 fn notes_if<T: Files>(rt: &T, alloc: Global, file: &str, wanted: bool) -> Result<Notes, ToolFault>
     ensures { IfErr result IsOpenFault }
 {

@@ -21,15 +21,17 @@ use std::rt::Files;
 /// A visit of a command to a desk in a file.
 #[derive(Clone, Copy)]
 pub(crate) enum Visit<'a> {
-    /// Its wanted loans are listed. If there are words, these are the loans that have them.
+    /// Its wanted loans are listed. If there are words, only the wanted loans that have them are listed.
     List(&'a Wanted, Option<&'a str>),
-    /// The last of the messages that came to it are told, or all of them. With a day, these are what came since.
+    /// The messages that came to it are told: as many of the last ones as the number says, or all. With a day, these
+    /// are the open answers and what came on that day or later.
     News(Option<Number>, Option<Day>),
     /// Its figures are written.
     Figures(&'a FiguresView),
 }
 
-/// Visits the desks at `paths`, and returns the gravest of their answers and of that about the names in the folders.
+/// Visits the desks at `paths`, and returns the gravest of their answers. A name in a folder that is no text is a fault
+/// too.
 pub(crate) fn visit_paths<T: Files, W: Write, E: Write>(
     machine: &mut Machine<'_, T, W, E>,
     paths: &[&str],
@@ -74,8 +76,8 @@ fn visit_files<T: Files, W: Write, E: Write>(
     answer
 }
 
-/// Visits the desk in a file, and writes a line to `errors` if it cannot be read. If the writer failed at the desk before,
-/// with the answer `before`, it is not called again.
+/// Visits the desk of `listed`, and writes a line to the errors if it cannot be read. `before` is the answer of the
+/// desk before. If it says that the writer failed, nothing more is written, and the answer is `before`.
 fn visit_next<T: Files, W: Write, E: Write>(
     machine: &mut Machine<'_, T, W, E>,
     before: Result<bool, ToolFault>,
@@ -101,7 +103,7 @@ fn visit_next<T: Files, W: Write, E: Write>(
     answer
 }
 
-/// Visits the desk in a file.
+/// Runs the command of `visit` at the desk of `listed`. Returns true, or the fault.
 fn visit_file<T: Files, W: Write, E: Write>(
     machine: &mut Machine<'_, T, W, E>,
     listed: &Listed<'_>,

@@ -22,8 +22,8 @@ use ill_values::{Day, Number, OutOfMemory};
 use std::io::Write;
 use std::rt::Files;
 
-/// `ill list`: lists the wanted loans of the desks at `paths`, or those that have the words `find`. After a failure at one
-/// desk, the others are still listed.
+/// `ill list`: lists the wanted loans of the desks at `paths`, or those of them that have the words `find`. After a
+/// failure at one desk, the others are still listed. Returns true, or the gravest fault.
 pub fn list<T: Files, W: Write, E: Write>(
     machine: &mut Machine<'_, T, W, E>,
     paths: &[&str],
@@ -37,8 +37,9 @@ pub fn list<T: Files, W: Write, E: Write>(
     visit_paths(machine, paths, &Visit::List(wanted, find), form)
 }
 
-/// `ill news`: tells what came to the desks at `paths`, on the day `since` or later if it is given. After a failure at one
-/// desk, the others are still told.
+/// `ill news`: tells what came to the desks at `paths`. If `since` is given, it tells the open answers and what came on
+/// that day or later. If `last` is given, only so many of the last messages of each desk are told. After a failure at
+/// one desk, the others are still told. Returns true, or the gravest fault.
 pub fn news<T: Files, W: Write, E: Write>(
     machine: &mut Machine<'_, T, W, E>,
     paths: &[&str],
@@ -52,7 +53,8 @@ pub fn news<T: Files, W: Write, E: Write>(
     visit_paths(machine, paths, &Visit::News(last, since), form)
 }
 
-/// `ill figures`: writes the figures of the desks at `paths`. After a failure at one desk, the others are still written.
+/// `ill figures`: writes the figures of the desks at `paths`. After a failure at one desk, the others are still
+/// written. Returns true, or the gravest fault.
 pub fn figures<T: Files, W: Write, E: Write>(
     machine: &mut Machine<'_, T, W, E>,
     paths: &[&str],
@@ -67,8 +69,8 @@ pub fn figures<T: Files, W: Write, E: Write>(
     }
 }
 
-/// `ill report`: writes a page of the desks at `paths`. If a day `since` is given, each loan has its news since that day. A
-/// desk that cannot be read has a part with its fault.
+/// `ill report`: writes the page of the day `today` of the desks at `paths`. If a day `since` is given, each loan has
+/// its news since that day. A desk that cannot be read has a part with its fault. Returns true, or the gravest fault.
 pub fn report<T: Files, W: Write, E: Write>(
     machine: &mut Machine<'_, T, W, E>,
     paths: &[&str],
@@ -95,11 +97,12 @@ pub fn report<T: Files, W: Write, E: Write>(
 struct ReportDays {
     /// The day of the page.
     today: Day,
-    /// The day since which news are told, if they are.
+    /// The day since which news are told, or `None` if no news are told.
     since: Option<Day>,
 }
 
-/// Appends to `page` the part of each desk in `files`, and returns the gravest of their faults.
+/// Appends to `page` the part of each desk in `files`, and returns the gravest of their faults, or true. Fails if
+/// memory runs out for the page.
 fn push_files<T: Files, W: Write, E: Write>(
     machine: &mut Machine<'_, T, W, E>,
     page: &mut Vec<u8>,
@@ -119,7 +122,8 @@ fn push_files<T: Files, W: Write, E: Write>(
     Ok(answer)
 }
 
-/// Appends to `page` the part of the desk in `file`, and returns its fault, if it cannot be read.
+/// Appends to `page` the part of the desk in `file`. Returns true, or the fault with which the desk cannot be read.
+/// Fails if memory runs out for the page.
 fn push_file<T: Files, W: Write, E: Write>(
     machine: &mut Machine<'_, T, W, E>,
     page: &mut Vec<u8>,

@@ -9,7 +9,8 @@ use Rattle.ill_beside.specs.Since.{annex_of}
 use Rattle.ill_files.proofs.OpenLemmas.{open_fault}
 use Rattle.ill_visits.proofs.listing.list_file.Goals as goal
 
--- Proves the contract of `list_file` if the desk is opened. `run_desk_list` lists its sides, with the news of the annex.
+-- Proves the contract of `list_file` if the desk is opened. `run_desk_list` lists its sides, with the news of the
+-- annex.
 pub returns : goal.returns
 returns g c =
     let annex = annex_of c.in_ok-annex.annex in
@@ -23,12 +24,12 @@ returns g c =
       (c.run_desk_list-answer.result, c.run_desk_list-answer.ensures, c.all_well.ensures),
     )
 
--- If memory runs out for the news, nothing is written.
+-- Proves the contract of `list_file` if memory runs out for the news. Then nothing is written.
 pub returns-in_err-news : goal.returns-in_err-news
 returns-in_err-news g c =
     inl (open_fault c.from_residual-in_err-news.result OutOfMemory c.from_residual-in_err-news.ensures.1 tt, refl)
 
--- If the desk is not opened, nothing is written.
+-- Proves the contract of `list_file` if the desk is not opened. Then nothing is written.
 pub returns-in_err-desk : goal.returns-in_err-desk
 returns-in_err-desk g c =
     let result = c.from_residual-in_err-desk.result in

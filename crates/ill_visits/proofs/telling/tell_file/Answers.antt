@@ -14,7 +14,7 @@ returns g c = inr (
   (c.run_desk_news-told.result, c.run_desk_news-told.ensures, c.all_well.ensures),
 )
 
--- If the file of the messages that came is not read, nothing is written.
+-- Proves the contract of `tell_file` if the file of the messages that came is not read. Then nothing is written.
 pub returns-in_err-bytes : goal.returns-in_err-bytes
 returns-in_err-bytes g c =
     let result = c.from_residual-in_err-bytes.result in

@@ -11,8 +11,9 @@ use Rattle.ill_text.specs.Visits.{graver}
 use Rattle.ill_visits.proofs.visits.report.Goals as goal
 use Rattle.ill_text.specs.Fault.{IsOpenFault}
 
--- Proves the contract of `report`. The head, the parts of all desks and the end text make up the page (`whole`).
--- Nothing is written before it (`silent`). `result` says that the answer is the gravest fault.
+-- Proves the contract of `report`. The page is the head, the parts of all desks and the end (`whole`). Nothing is
+-- written before the page (`silent`). `result` proves that the answer is the gravest fault. `found` proves that each
+-- desk is found at one of the paths.
 pub returns : goal.returns
 returns g c =
     let today = c.args.today in

@@ -69,13 +69,13 @@ pub record ActionLaws : Type 0 where
 longer : (txn : Qualifiers) (old new : List Apdu) → IssuesNext txn old new → length new ≡ length old + 1
 longer txn old new more = ap length more.1 ∙ length-append old _
 
--- If `done_by` gives the side `new`, the result is a record whose side is `new`.
+-- If `done_by` gives the side `new`, the result `r` is Ok with a record, of which `make` makes `new`.
 done_is : {R : Type 0} (make : R → Side) (r : Result R Refusal) (new : Side) → done_by make r ≡ Ok new
     → (made : R) × (r ≡ Ok made) × (make made ≡ new)
 done_is make (Ok made) new e = (made, refl, search rules)
 done_is make (Err refusal) new e = search rules
 
--- If `action` leads from `old` to `new`, one more message is issued, and at most 255 are issued.
+-- If `action` leads from `old` to `new`, `new` has issued one message more, and at most 255 in all.
 issues_one : ActionLaws → (old new : Side) (action : Action) → acts old action ≡ Ok new
     → (length (issued_of new) ≡ length (issued_of old) + 1) × (length (issued_of new) ≤ 255)
 issues_one rows (sides.Requester x) new (actions.Wish wish) e =

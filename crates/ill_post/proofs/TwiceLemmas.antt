@@ -31,7 +31,7 @@ use Rattle.ill_post.proofs.StampLemmas.{new_is_no_stamp}
 
 -- ---- what is known of actions
 
--- What is known of actions: each that is done changes the stamp, and keeps the transaction.
+-- What is known of sides: an action that is done changes the stamp, and a side grows by each transition.
 pub record ActionFacts : Type 0 where
   pub changes : (old new : Side) (action : Action) → acts old action ≡ Ok new → side_stamp old ≡ side_stamp new → ⊥
   pub grows : (old new : Side) → IsSideTransition old new → Grows old new
@@ -106,7 +106,7 @@ entry_was_found : (live between : DeskContents) (action : Action) (call : Result
 entry_was_found live between action (Ok held) e = (held, (refl, e))
 entry_was_found live between action (Err fault) e = search rules
 
--- If a choice between `done` and `WrongRole` gives `between`, `done` does.
+-- If a choice by `same` between `done` and the fault `WrongRole` gives `between`, then `done` is `between`.
 role_is_own : (same : Bool) (done : Result DeskContents DeskFault) (between : DeskContents)
     → (if same then done else Err (faults.Core WrongRole)) ≡ Ok between → done ≡ Ok between
 role_is_own true done between e = e
@@ -175,7 +175,7 @@ told_done (Err fault) e = told_fault fault (is_refusal fault) e where
   told_fault fault true e = search rules
   told_fault fault false e = search rules
 
--- If the result is Ok, the action was done, and `new` holds what a save leaves of `between`.
+-- If `SavesAfter` has the result Ok, the action was done, and `new` holds what a save leaves of `between`.
 save_leaves_whole : (acted : Result (Unit {0}) DeskFault) (between new : DeskState) (done : Unit {0})
     → SavesAfter acted between (Ok done) new
     → ((was : Unit {0}) × (acted ≡ Ok was)) × (new.live ≡ whole_of (sides_held between.live))
@@ -215,7 +215,7 @@ performed_if : ActionFacts → (form : FormShown) (fresh : Bool) (old new : Desk
 performed_if known form true old new fresh performs = performed known form form.action old new fresh performs
 performed_if known form false old new fresh performs = search rules
 
--- If `form` was sent and the answer is `Done`, it is no longer fresh.
+-- If `form` was sent and the answer is `Done`, `form` is no longer fresh.
 done_is_stale : ActionFacts → (form : FormShown) (old new : DeskState) → AnswersPost form old (Ok Done) new
     → is_fresh form new.live ≡ false
 done_is_stale known form old new answers =
@@ -224,7 +224,8 @@ done_is_stale known form old new answers =
     (λ memory. search rules)
     answers
 
--- If `form` is `Done` and is sent again at once, nothing changes. The answer is `Changed`, or memory ran out.
+-- If `form` was answered with `Done` and is sent again at once, nothing changes. The second answer is `Changed`, or
+-- memory ran out.
 pub sent_again_changes_nothing : ActionFacts → (form : FormShown) (old new last : DeskState) (second : Result Posted DeskFault)
     → AnswersPost form old (Ok Done) new → AnswersPost form new second last
     → ((second ≡ Ok Changed) ⊎ (second ≡ Err faults.OutOfMemory)) × (last ≡ new)

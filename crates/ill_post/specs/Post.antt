@@ -43,13 +43,13 @@ stamp_for txn live = stamp_of (side_with txn (sides_held live).sides)
 abbrev pub is_fresh : FormShown → DeskContents → Bool
 is_fresh form live = bytes_eq (stamp_for form.txn live) form.stamp
 
--- The Bool is true if the loan is as the page showed it. Or memory ran out.
+-- The answer is true exactly if the loan of `form` is as its page showed it. Or memory ran out.
 abbrev pub IsFreshness : FormShown → DeskContents → Result Bool DeskFault → Type 0
 IsFreshness form live (Ok is) = is ≡ is_fresh form live
 IsFreshness form live (Err fault) = fault ≡ OutOfMemory
 
--- If the action was done, the desk `between` was saved, with this result. If it failed, its fault is the result, and
--- nothing was saved.
+-- If the action was done, the desk was saved, which went from `between` to `new` with this result. If the action
+-- failed, its fault is the result, and nothing was saved.
 abbrev pub SavesAfter : Result (Unit {0}) DeskFault → DeskState → Result (Unit {0}) DeskFault → DeskState → Type 0
 SavesAfter (Ok done) between result new =
     (new.live ≡ held_after many_sides result between.live)
@@ -68,15 +68,15 @@ abbrev pub told : Result (Unit {0}) DeskFault → Result Posted DeskFault
 told (Ok done) = Ok Done
 told (Err fault) = if is_refusal fault then Ok (Refused fault) else Err fault
 
--- The form was answered, if its loan is as its page showed it. If the form names no action, nothing changed. Else exactly
--- this action was performed.
+-- A form in the loan of `txn` was answered, whose loan is as its page showed it. If the form names no action, nothing
+-- changed. Else exactly this action was performed.
 abbrev pub Performs : Option Action → Qualifiers → DeskState → Result Posted DeskFault → DeskState → Type 0
 Performs None txn old result new = (result ≡ Ok NoAction) × (new ≡ old)
 Performs (Some action) txn old result new =
     (acted : Result (Unit {0}) DeskFault) × ActsAndSaves txn action old acted new × (result ≡ told acted)
 
--- The form was answered. The Bool is true if its loan is as its page showed it. If it is not, nothing changed, in memory
--- or in the store.
+-- The form was answered. The first argument is true if its loan is as its page showed it. If it is false, nothing
+-- changed, in memory or in the store.
 abbrev pub PerformsIf : Bool → FormShown → DeskState → Result Posted DeskFault → DeskState → Type 0
 PerformsIf true form old result new = Performs form.action form.txn old result new
 PerformsIf false form old result new = (result ≡ Ok Changed) × (new ≡ old)
@@ -86,8 +86,8 @@ abbrev pub AnswersPost : FormShown → DeskState → Result Posted DeskFault →
 AnswersPost form old result new =
     PerformsIf (is_fresh form old.live) form old result new ⊎ ((result ≡ Err OutOfMemory) × (new ≡ old))
 
--- The action was entered in the diary: its line, if it was done, and nothing if nothing was done. After a fault it may
--- have been entered, or not.
+-- If the action was done, its `line` was entered in the diary. After another answer nothing was entered. After a fault
+-- the line may have been entered, or not.
 abbrev pub EntersPost : Result Posted DeskFault → (line : List ℕ) → DiaryState → DiaryState → Type 0
 EntersPost (Ok Done) line old new = Enters line old new
 EntersPost (Ok other) line old new = new ≡ old

@@ -22,7 +22,7 @@ pub struct Form<'a> {
     pub action: Option<Action>,
 }
 
-/// What came of a form. Unless it is `Done`, nothing changed.
+/// The answer to a form. Unless it is `Done`, nothing changed.
 #[derive(Clone, Copy, Debug, PartialEq, Eq)]
 pub enum Posted {
     /// The loan is no longer as the page showed it.
@@ -35,8 +35,8 @@ pub enum Posted {
     Done,
 }
 
-/// Performs the action of `form`, and saves it, if the loan still has the stamp of the form. If it is done, `entry` is
-/// entered before the save.
+/// Performs the action of `form`, and saves the desk, if the loan still has the stamp of the form. If the action is
+/// done, `entry` is entered in the diary before the save.
 pub fn post<S: Store, D: Write>(
     alloc: Global,
     desk: &mut Desk<S>,
@@ -63,7 +63,8 @@ fn is_fresh<S: Store>(alloc: Global, desk: &Desk<S>, form: &Form<'_>) -> Result<
     Ok(now.as_bytes() == form.stamp)
 }
 
-/// Performs the action of `form`, whose loan is as the page showed it.
+/// Performs the action of `form`, whose loan is as the page showed it, and saves the desk. If the form names no action,
+/// it does nothing.
 fn perform<S: Store, D: Write>(
     alloc: Global,
     desk: &mut Desk<S>,
@@ -82,7 +83,8 @@ fn perform<S: Store, D: Write>(
     }
 }
 
-/// Performs `action` in the loan of `txn`. If it was done, it enters `entry`, and then saves the desk.
+/// Performs `action` in the loan of `txn`. If the action was done, it enters `entry` in the diary, and then saves the
+/// desk.
 fn act_and_save<S: Store, D: Write>(
     alloc: Global,
     desk: &mut Desk<S>,

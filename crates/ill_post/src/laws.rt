@@ -19,8 +19,8 @@ pub fn an_action_changes_the_stamp()
     ill_core::laws::responder_issues();
 }
 
-/// A form that is sent twice acts once. If it was done, and is sent again at once, nothing changes. This assumes nothing
-/// of the digest.
+/// A form that is sent twice acts once. If its action was done, and it is sent again at once, nothing changes. The
+/// second answer is `Changed` unless memory runs out. This assumes nothing of the digest.
 pub fn a_form_sent_twice_acts_once()
     ensures { (form : FormShown) (old new last : DeskState) (second : Result Posted DeskFault) →
         AnswersPost form old (Ok Done) new → AnswersPost form new second last →

@@ -1,4 +1,4 @@
-//! The stamp of a loan: it tells whether the loan is as a page has shown it.
+//! The stamp of a loan. It shows if the loan is still as a page has shown it.
 
 ghost use Rattle.std.specs.Prelude.{◌≡◌, option_map, string_bytes, IfOk};
 ghost use Rattle.ill_post.specs.Stamp.{stamp_of, side_stamp};

@@ -5,7 +5,7 @@ use Rattle.std.specs.List.{find}
 use Rattle.ill_browser.specs.declared.field.Field.{Field}
 use Rattle.ill_browser.specs.Fields.{Pair, field_shown, first_named}
 
--- If `find_mapped` holds for `items`, it holds for `item ∷ items`. `passes` says if the value of `item` passes.
+-- If `find_mapped` holds for `items`, it holds for `item ∷ items`. `passes` is true if the value of `item` passes.
 one_more : {X Y : Type 0} (value : X → Y) (test : Y → Bool) (item : X) (items : List X)
     → find test (map value items) ≡ option_map value (find (λ x. test (value x)) items)
     → (passes : Bool) → test (value item) ≡ passes

@@ -1,4 +1,4 @@
--- Proves what fields have that name a loan, a page or a change.
+-- Proves what follows if fields name a loan, a page or a change. Each name is known, and is on one field alone.
 use Rattle.std.proofs.Common.{◌≡◌, ◌∙◌, ◌<◌, ◌⊎◌, inl, inr, ⊎_elim, ℕ, Bool, true, false, List, [], ◌∷◌, Option}
 use Rattle.std.proofs.Common.{Some, None}
 use Rattle.std.proofs.Common.{Result, Ok, refl, sym, subst, arith, rules}
@@ -39,7 +39,7 @@ pub if_some : {X : Type 0} (test : Bool) (o : Option X) (x : X) → (if test the
 if_some true o x e = (refl, e)
 if_some false o x e = search rules
 
--- If the only field with `name` has a value, one field alone has this name.
+-- If `only_named` gives a value for `name`, one field alone has this name.
 pub only_once : (name : List ℕ) (fields : List Pair) (text : List ℕ) → only_named name fields ≡ Some text
     → (count_named name fields == 1) ≡ true
 only_once name fields text e = (if_some (count_named name fields == 1) (first_named name fields) text e).0
@@ -48,12 +48,12 @@ only_once name fields text e = (if_some (count_named name fields == 1) (first_na
 one_counts : (count : ℕ) → (count == 1) ≡ true → 0 < count
 one_counts count one = grind (arith, nat_tests, one)
 
--- If the only field with `name` has a value, some field has this name.
+-- If `only_named` gives a value for `name`, some field has this name.
 pub only_counts : (name : List ℕ) (fields : List Pair) (text : List ℕ) → only_named name fields ≡ Some text
     → 0 < count_named name fields
 only_counts name fields text e = one_counts (count_named name fields) (only_once name fields text e)
 
--- If `on_field_is_among` holds for `fields`, it holds for `field ∷ fields`. `is` says if `field` has the name.
+-- If `on_field_is_among` holds for `fields`, it holds for `field ∷ fields`. `is` is true if `field` has the name.
 one_of_more : (names : List (List ℕ)) (name : List ℕ) (field : Pair) (fields : List Pair) (is : Bool)
     → (0 < count_named name fields → is_among name names ≡ true) → is_named name field ≡ is
     → list_any (λ known. is_named known field) names ≡ true → 0 < count_named name (field ∷ fields) → is_among name names ≡ true

@@ -9,7 +9,7 @@ use Rattle.ill_browser.specs.Visit.{RulesShown, VisitShown, is_post, is_look}
 use Rattle.ill_browser.specs.Wanted.{Asked, LoanAsked, Desks, Loan, Slip, Figures, Note, act_names, note_names, day_named}
 use Rattle.ill_browser.specs.Wanted.{is_change}
 
--- An act or a note has this name on one field alone.
+-- If a field of an act or a note has this name, no second field has it.
 pub data IsOnce : List ℕ → Type 0 where
   desk : IsOnce (codes "desk")
   group : IsOnce (codes "group")
@@ -17,7 +17,7 @@ pub data IsOnce : List ℕ → Type 0 where
   stamp : IsOnce (codes "stamp")
   note : IsOnce (codes "note")
 
--- An act has this name on its fields, and a note has it on none.
+-- A field of an act may have this name. No field of a note has it.
 pub data IsOfActs : List ℕ → Type 0 where
   a_stamp : IsOfActs (codes "stamp")
   a_word : IsOfActs (codes "word")

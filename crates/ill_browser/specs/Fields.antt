@@ -41,7 +41,7 @@ first_named name fields = option_map (λ field. field.1) (find (λ field. is_nam
 abbrev pub count_named : List ℕ → List Pair → ℕ
 count_named name fields = length (filter (λ field. is_named name field) fields)
 
--- Returns the value of the only field with this name. There is none if two fields have this name.
+-- Returns the value of the only field with this name. Returns `None` if no field or two fields have this name.
 abbrev pub only_named : List ℕ → List Pair → Option (List ℕ)
 only_named name fields = if count_named name fields == 1 then first_named name fields else None
 
@@ -49,11 +49,11 @@ only_named name fields = if count_named name fields == 1 then first_named name f
 abbrev pub are_named : List (List ℕ) → List Pair → Bool
 are_named names fields = list_all (λ field. list_any (λ name. is_named name field) names) fields
 
--- Returns the word of a day: its digits. No text at all is `none`.
+-- Returns the word of a day: its digits. The word of an empty text is `none`.
 abbrev pub day_word : List ℕ → List ℕ
 day_word text = if length text == 0 then codes "none" else day_digits text
 
--- Returns the word in a field, if it has one.
+-- Returns the word in a field named `word` or `day`. Another field has none.
 abbrev pub word_in : Pair → Option (List ℕ)
 word_in field =
     if is_named (codes "word") field then Some field.1

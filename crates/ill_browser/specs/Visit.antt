@@ -83,14 +83,14 @@ decimal_value digits = fold (λ value digit. 10 * value + (digit - 0x30)) 0 digi
 abbrev pub size_within : ℕ → Result ℕ VisitFault
 size_within size = if nat_lt 4096 size then Err TooLong else Ok size
 
--- Returns the number of bytes that a text says, or its refusal. More than four digits are too long.
+-- Returns the number that a text of decimal digits says, or its refusal. More than four digits are too long.
 abbrev pub size_said : List ℕ → Result ℕ VisitFault
 size_said text =
     if not (is_numeral text) then Err NoLength
     else if nat_lt 4 (length text) then Err TooLong
     else size_within (decimal_value text)
 
--- Returns the number of bytes in a form, or the refusal of the form.
+-- Returns the number of bytes that the request says its form has, or the refusal of the form.
 abbrev pub form_size : RulesShown → VisitShown → Result ℕ VisitFault
 form_size rules v =
     if not (is_own rules v) then Err Foreign

@@ -175,7 +175,8 @@ asked_by v body =
     else if length v.query == 0 then posted_of (fields_in body)
     else Err Fields
 
--- Returns what `body` asks for if its length is the size, or else `Cut`. A refusal in place of the size stays.
+-- Returns what a request with `body` asks for if the length of `body` is the size, or else `Cut`. A refusal in place of
+-- the size stays.
 abbrev pub asked_with : Result ℕ VisitFault → VisitShown → (body : List ℕ) → Result Asked VisitFault
 asked_with (Ok size) v body = if length body == size then asked_by v body else Err Cut
 asked_with (Err refusal) v body = Err refusal
@@ -184,8 +185,8 @@ asked_with (Err refusal) v body = Err refusal
 abbrev pub wanted_of : RulesShown → VisitShown → (body : List ℕ) → Result Asked VisitFault
 wanted_of rules v body = asked_with (body_size rules v) v body
 
--- If the result has a value, `asked` is what it asks for. If it has a refusal, `asked` is that refusal. `OutOfMemory`
--- says nothing of `asked`.
+-- If the result has a value, `asked` is Ok with what this value asks for. If it has a refusal, `asked` has that
+-- refusal. `OutOfMemory` says nothing of `asked`.
 abbrev pub Reads : Result Asked VisitFault → Result Wanted VisitFault → Type 0
 Reads asked (Ok wanted) = asked ≡ Ok (asked_of wanted)
 Reads asked (Err OutOfMemory) = Unit {0}

@@ -33,7 +33,7 @@ pub(crate) fn size_said(text: &[u8]) -> Result<usize, VisitFault>
     }
 }
 
-/// Returns `size`, or its refusal if it is more than the limit.
+/// Returns `size`, or the refusal `TooLong` if it is more than `BODY_LIMIT`.
 fn size_within(size: usize) -> Result<usize, VisitFault>
     ensures { result ≡ size_within size }
 {
@@ -73,8 +73,8 @@ fn decimal(digits: &[u8]) -> usize
     value
 }
 
-/// Reads `size` bytes from `reader`. If it fails, the body broke off, or could not be read. Or memory ran out before a
-/// byte was read.
+/// Reads `size` bytes from `reader`. Fails with `Cut` if the body broke off or could not be read. Fails with
+/// `OutOfMemory` before a byte was read.
 pub(crate) fn read_body<R: Read>(
     alloc: Global,
     size: usize,

@@ -6,7 +6,8 @@ ghost use Rattle.ill_browser.specs.declared.fault.VisitFault.TheVariants.{OutOfM
 use std::alloc::{AllocError, AllocFailed};
 use thiserror::Error;
 
-/// The reason why a request is refused. The first that holds is told.
+/// The reason for which a request is refused. Of several reasons it is the first in this order, but `OutOfMemory` may
+/// come before others.
 #[derive(Clone, Copy, Debug, Drop, PartialEq, Eq, Error)]
 pub enum VisitFault {
     /// The path is not that of the program.
@@ -15,16 +16,16 @@ pub enum VisitFault {
     /// The method is neither GET nor POST.
     #[error("no such method")]
     Method,
-    /// No page of this program sent the form.
+    /// The request does not show that a page of this program sent the form.
     #[error("foreign")]
     Foreign,
-    /// Nobody is named who sent the form.
+    /// Nobody is named who sent the form, and the operator wants a name.
     #[error("nobody")]
     NoUser,
     /// The body is no form.
     #[error("no form")]
     NoForm,
-    /// The number of bytes in the body is not said.
+    /// The number of bytes in the body is not said in decimal digits.
     #[error("no length")]
     NoLength,
     /// The body has more than `BODY_LIMIT` bytes.
@@ -33,8 +34,8 @@ pub enum VisitFault {
     /// The body broke off, or could not be read.
     #[error("cut")]
     Cut,
-    /// The fields name no loan, no act, no day or no page. Or a name is there twice, or is none of a field, or a form has
-    /// a query.
+    /// The fields name no loan, no act, no note, no day or no page. Or two fields have a name that may be there once.
+    /// Or a field has an unknown name, or a form has a query.
     #[error("fields")]
     Fields,
     /// Memory ran out.

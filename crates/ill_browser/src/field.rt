@@ -122,7 +122,7 @@ pub(crate) fn words(alloc: Global, fields: &[Field<'_>]) -> Result<Vec<Vec<u8>>,
     Ok(words)
 }
 
-/// Returns the word in a field, if it has one.
+/// Returns the word in a field named `word` or `day`. Another field has none.
 fn word(alloc: Global, field: &Field<'_>) -> Result<Option<Vec<u8>>, OutOfMemory>
     ensures { IfOk result (λ word. option_map (λ word. word.items) word ≡ word_in (field_shown field.now)) }
 {
@@ -135,8 +135,8 @@ fn word(alloc: Global, field: &Field<'_>) -> Result<Option<Vec<u8>>, OutOfMemory
     Ok(None)
 }
 
-/// Returns the word of a day, as `20250315` of `2025-03-15`. No text at all is `none`. A text of another shape is the
-/// word itself.
+/// Returns the word of a day, as `20250315` of `2025-03-15`. The word of an empty text is `none`. A text of another
+/// shape is the word itself.
 fn day_word(alloc: Global, text: &[u8]) -> Result<Vec<u8>, OutOfMemory>
     ensures { IfOk result (λ word. word.items ≡ day_word text.now) }
 {

@@ -11,21 +11,23 @@ ghost use Rattle.ill_browser.specs.OwnForm.{IsOwnForm};
 ghost use Rattle.ill_browser.specs.Visit.{RulesShown, VisitShown, body_size};
 ghost use Rattle.ill_browser.specs.Wanted.{Act, Answers, Asked, LoanAsked, Note, is_change, wanted_of};
 
-/// What changes a desk, or is kept beside it, is asked for by a form alone. A page of this program sent it to the program
-/// itself, with a name of its sender unless the operator wants none.
+/// What changes a desk, or is kept beside it, is asked for by a form alone. A page of this program sent it to the
+/// program itself, with a name of its sender unless the operator wants none.
 pub fn a_change_is_asked_by_an_own_form()
     ensures { (rules : RulesShown) (v : VisitShown) (body : List ℕ) (asked : Asked) →
         wanted_of rules v body ≡ Ok asked → is_change asked ≡ true → IsOwnForm rules v body }
 {}
 
-/// An act is asked for by such a form alone. The words of the act are those of its fields, in their order.
+/// An act is asked for only by a form that a page of this program sent (`IsOwnForm`). The words of the act are those of
+/// the form's fields, in their order.
 pub fn an_act_is_asked_by_an_own_form()
     ensures { (rules : RulesShown) (v : VisitShown) (body : List ℕ) (loan : LoanAsked) (stamp : List ℕ)
         (words : List (List ℕ)) → wanted_of rules v body ≡ Ok (Act loan stamp words) →
         IsOwnForm rules v body × (words ≡ words_in (fields_in body)) }
 {}
 
-/// A note is asked for by such a form alone. Its text is that of the only field `note`.
+/// A note is asked for only by a form that a page of this program sent (`IsOwnForm`). Its text is that of the only
+/// field `note`.
 pub fn a_note_is_asked_by_an_own_form()
     ensures { (rules : RulesShown) (v : VisitShown) (body : List ℕ) (loan : LoanAsked) (note : List ℕ) →
         wanted_of rules v body ≡ Ok (Note loan note) →

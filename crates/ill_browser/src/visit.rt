@@ -9,30 +9,31 @@ use crate::fault::VisitFault;
 /// The texts of the environment that count. A text that is not there is empty.
 #[derive(Clone, Copy)]
 pub struct Visit<'a> {
-    /// `REQUEST_METHOD`
+    /// `REQUEST_METHOD`: `GET` looks at a page, and `POST` sends a form.
     pub method: &'a str,
-    /// `PATH_INFO`
+    /// `PATH_INFO`: the path after that of the program.
     pub path: &'a str,
-    /// `QUERY_STRING`
+    /// `QUERY_STRING`: the fields in the URL.
     pub query: &'a str,
-    /// `HTTP_SEC_FETCH_SITE`
+    /// `HTTP_SEC_FETCH_SITE`: the browser's word for the site whose page sent the request.
     pub site: &'a str,
-    /// `HTTP_ORIGIN`
+    /// `HTTP_ORIGIN`: the origin of the page that sent the request.
     pub origin: &'a str,
-    /// `REMOTE_USER`
+    /// `REMOTE_USER`: the person who sent the request, as the web server knows them.
     pub user: &'a str,
-    /// `CONTENT_TYPE`
+    /// `CONTENT_TYPE`: the type of the body.
     pub content_type: &'a str,
-    /// `CONTENT_LENGTH`
+    /// `CONTENT_LENGTH`: the number of bytes in the body.
     pub content_length: &'a str,
 }
 
 /// The rules of the operator for all requests.
 #[derive(Clone, Copy)]
 pub struct Rules<'a> {
-    /// The origin of the pages, as browsers see it, such as `https://ill.example.org`. None is empty.
+    /// The origin of the pages, as browsers see it, such as `https://ill.example.org`. It is empty if the operator
+    /// names none.
     pub origin: &'a str,
-    /// A form is taken though nobody is named who sent it.
+    /// Set if a form is taken though nobody is named who sent it.
     pub is_open: bool,
 }
 
@@ -72,7 +73,7 @@ fn is_post(visit: &Visit<'_>) -> bool
     visit.method == "POST"
 }
 
-/// Returns the number of bytes in a form, or the refusal of the form.
+/// Returns the number of bytes that the request says its form has, or the refusal of the form.
 fn form_size(rules: &Rules<'_>, visit: &Visit<'_>) -> Result<usize, VisitFault>
     ensures { result ≡ form_size (rules_shown rules.now) (visit_shown visit.now) }
 {
@@ -98,7 +99,7 @@ fn is_own(rules: &Rules<'_>, visit: &Visit<'_>) -> bool
     }
 }
 
-/// Returns true if `origin` is the operator's.
+/// Returns true if `origin` is the operator's. If the operator names none, no origin is.
 fn is_origin(rules: &Rules<'_>, origin: &str) -> bool
     ensures { result ≡ is_origin (rules_shown rules.now) origin.now }
 {

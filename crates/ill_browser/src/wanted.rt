@@ -143,7 +143,7 @@ fn looked_beside(alloc: Global, fields: &[Field<'_>]) -> Result<Wanted, VisitFau
     }
 }
 
-/// Reads the words to find that the fields name.
+/// Reads the page of the loans with the words that the fields name. Refuses other fields with `Fields`.
 fn found(alloc: Global, fields: &[Field<'_>]) -> Result<Wanted, VisitFault>
     ensures { Reads (or_fields (found_named (map field_shown fields.now))) result }
 {
@@ -154,7 +154,7 @@ fn found(alloc: Global, fields: &[Field<'_>]) -> Result<Wanted, VisitFault>
     Ok(Wanted::Desks { find })
 }
 
-/// Reads the slip that the fields name.
+/// Reads the slip that the fields name. Refuses fields that name none with `Fields`.
 fn slip(alloc: Global, fields: &[Field<'_>]) -> Result<Wanted, VisitFault>
     ensures { Reads (or_fields (slip_named (map field_shown fields.now))) result }
 {
@@ -175,7 +175,7 @@ fn is_slip(fields: &[Field<'_>]) -> bool
     }
 }
 
-/// Reads the figures that the fields name.
+/// Reads the figures that the fields name. Refuses fields that do not name two days with `Fields`.
 fn figures(fields: &[Field<'_>]) -> Result<Wanted, VisitFault>
     ensures { Reads (or_fields (figures_named (map field_shown fields.now))) result }
 {
@@ -184,7 +184,7 @@ fn figures(fields: &[Field<'_>]) -> Result<Wanted, VisitFault>
     Ok(Wanted::Figures { from, to })
 }
 
-/// Reads the day in the only field with this name.
+/// Reads the day in the only field with this name. If there is no such field, or it has no day, the fault is `Fields`.
 fn day(fields: &[Field<'_>], name: &str) -> Result<Day, VisitFault>
     ensures { ReadsNamed (λ day. day) (day_named name.now (map field_shown fields.now)) result }
 {
@@ -197,7 +197,7 @@ fn day(fields: &[Field<'_>], name: &str) -> Result<Day, VisitFault>
     }
 }
 
-/// Reads what the fields of a form ask for.
+/// Reads the act or the note that the fields of a form ask for. Refuses fields that ask for neither with `Fields`.
 fn posted(alloc: Global, fields: &[Field<'_>]) -> Result<Wanted, VisitFault>
     ensures { Reads (posted_of (map field_shown fields.now)) result }
 {
@@ -210,7 +210,7 @@ fn posted(alloc: Global, fields: &[Field<'_>]) -> Result<Wanted, VisitFault>
     }
 }
 
-/// Reads the note that the fields name.
+/// Reads the note that the fields name. Refuses fields that name none with `Fields`.
 fn note(alloc: Global, fields: &[Field<'_>]) -> Result<Wanted, VisitFault>
     ensures { Reads (or_fields (note_named (map field_shown fields.now))) result }
 {
@@ -222,7 +222,7 @@ fn note(alloc: Global, fields: &[Field<'_>]) -> Result<Wanted, VisitFault>
     Ok(Wanted::Note { loan, note })
 }
 
-/// Reads the act that the fields name.
+/// Reads the act that the fields name. Refuses fields that name none with `Fields`.
 fn act(alloc: Global, fields: &[Field<'_>]) -> Result<Wanted, VisitFault>
     ensures { Reads (or_fields (act_named (map field_shown fields.now))) result }
 {
@@ -235,7 +235,7 @@ fn act(alloc: Global, fields: &[Field<'_>]) -> Result<Wanted, VisitFault>
     Ok(Wanted::Act { loan, stamp, words })
 }
 
-/// Reads the loan that the fields name.
+/// Reads the loan that the fields name. Refuses fields that name none with `Fields`.
 fn loan(alloc: Global, fields: &[Field<'_>]) -> Result<LoanName, VisitFault>
     ensures { ReadsNamed loan_asked (loan_named (map field_shown fields.now)) result }
 {
@@ -253,7 +253,7 @@ fn loan(alloc: Global, fields: &[Field<'_>]) -> Result<LoanName, VisitFault>
     })
 }
 
-/// Reads the transaction with these qualifiers.
+/// Returns the transaction with these qualifiers. If a text is no qualifier, the fault is `Fields`.
 fn txn(alloc: Global, group: &[u8], transaction: &[u8]) -> Result<TxnId, VisitFault>
     ensures { ReadsNamed (λ txn. txn) (result_ok (txn_id_of group.now transaction.now)) result }
 {

@@ -49,8 +49,8 @@ named_of_url name value all =
     list_all-append is_of_url name (byte_serialize value)
     ∙ ap (λ first. first && list_all is_of_url (byte_serialize value)) all ∙ value_of_url value
 
--- Each byte of the URL of the loan at `place` may stand in a URL. The URL has a name and a value for each of three
--- parts.
+-- All bytes of the URL of the loan at `place` pass `is_of_url`. The URL has a name and a value for each of three parts:
+-- desk, group and transaction.
 pub place_of_url : (place : PlaceShown) → list_all is_of_url (place_text place) ≡ true
 unfolding place_text
 place_of_url place =

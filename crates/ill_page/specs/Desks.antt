@@ -28,7 +28,7 @@ abbrev pub sought_text : (find : Option (List ℕ)) → List ℕ
 sought_text None = []
 sought_text (Some words) = FOUND.now ++ (html_text words ++ FOUND_END.now)
 
--- Returns the words that are sought, or no text.
+-- Returns the words that are sought, or the empty text if there are none.
 abbrev pub or_none : (find : Option (List ℕ)) → List ℕ
 or_none None = []
 or_none (Some words) = words
@@ -44,7 +44,7 @@ abbrev pub group_of : Option Side → List ℕ
 group_of None = []
 group_of (Some side) = html_escaped (txn_of side).group
 
--- Returns the group that is proposed for a new loan.
+-- Returns the group that is proposed for a new loan: that of the last loan. Without a loan it is empty.
 abbrev pub known_group : List Side → List ℕ
 known_group sides = group_of (slice_get sides (length sides - 1))
 

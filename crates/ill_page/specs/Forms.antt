@@ -26,7 +26,7 @@ form_shown view = record { place = place_shown view.place; stamp = view.stamp.no
 
 -- ---- the fields that a browser sends unseen
 
--- Returns a field that a browser sends unseen.
+-- Returns the field with this name and value, which a browser sends unseen.
 unfoldable pub hidden_text : List ℕ → List ℕ → List ℕ
 hidden_text name value = HIDDEN.now ++ (name ++ (VALUE.now ++ (html_escaped value ++ HIDDEN_END.now)))
 
@@ -42,12 +42,12 @@ act_fields stamp verb = hidden_text (codes "stamp") stamp ++ hidden_text (codes 
 
 -- ---- the inputs
 
--- Returns a day, or no text if the calendar has none.
+-- Returns the text of a day with hyphens, or the empty text after a fault.
 abbrev pub day_or_none : Result Date DayFault → List ℕ
 day_or_none (Ok day) = iso_text day
 day_or_none (Err fault) = []
 
--- Returns the day that is proposed on the day `today`, if one is: 28 days later.
+-- Returns the text of the day that is proposed on the day `today`: 28 days later. It is empty if `has_day` is false.
 abbrev pub day_proposed : (today : Date) → (has_day : Bool) → List ℕ
 day_proposed today false = []
 day_proposed today true = day_or_none (day_after LOAN_DAYS today)
@@ -56,7 +56,7 @@ day_proposed today true = day_or_none (day_after LOAN_DAYS today)
 unfoldable pub inputs_text : (today : Date) → Inputs → List ℕ
 inputs_text today inputs = before inputs ++ (day_proposed today (has_day inputs) ++ after inputs)
 
--- Returns the purpose of a form, its inputs and its end.
+-- Returns what a form of `verb` shows: its purpose, its inputs and its end.
 unfoldable pub shown_text : (today : Date) → Verb → Inputs → List ℕ
 shown_text today verb inputs =
     PURPOSE.now ++ (meaning verb ++ (PURPOSE_END.now ++ (inputs_text today inputs ++ FORM_END.now)))

@@ -1,5 +1,5 @@
--- The page of a loan, the page of figures, and a page with a notice. Texts that people wrote go into them by `html_text`
--- and `html_escaped`.
+-- The page of a loan, the page of figures, and a page with a notice. Texts that people wrote go into them by
+-- `html_text` and `html_escaped`.
 use Rattle.std.specs.Prelude.{ℕ, List, [], ◌++◌, codes, length, ◌==◌, if◌then◌else◌, Option, Some, None}
 use Rattle.ill_values.specs.Day.{Date}
 use Rattle.ill_record.specs.declared.side.Side.{Side}
@@ -14,8 +14,8 @@ use Rattle.ill_page.specs.declared.parts.TheConstants.{ALERT, ALERT_END, COUNTED
 use Rattle.ill_page.specs.declared.words.TheConstants.{ALL, COUNTED, KNOWN, POSSIBLE, SLIP_END}
 use Rattle.ill_page.specs.Forms.{forms_text, note_text}
 
--- A loan that is shown: the day, the text for its desk, the side of this library, its stamp, and the lines of all that is
--- known of it.
+-- A loan that is shown: the day, the text for its desk, the side of this library, its stamp, and the lines of all that
+-- is known of it.
 pub record LoanSeen : Type 0 where
   pub today : Date
   pub desk : List ℕ
@@ -89,7 +89,7 @@ loan_page seen notice =
 
 -- ---- the page of figures
 
--- Returns the page with the lines of figures, and a notice before them. It has none if `notice` is empty.
+-- Returns the page with the lines of figures, and `notice` before them. If `notice` is empty, the page has no notice.
 unfoldable pub figures_page : Date → (notice lines : List ℕ) → List ℕ
 figures_page today notice lines =
     begun_text today notice ++ (COUNTED.now ++ (html_escaped lines ++ (COUNTED_END.now ++ END.now)))

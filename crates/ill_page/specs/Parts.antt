@@ -42,7 +42,7 @@ inputs_of verbs.Ship = inputs.Due ∷ []
 inputs_of verbs.RenewAnswer = inputs.Grant ∷ inputs.Deny ∷ []
 inputs_of other = inputs.Bare ∷ []
 
--- Returns the meaning of an action, for people.
+-- Returns the text that tells people what an action of this verb means.
 abbrev pub meaning : Verb → List ℕ
 meaning verbs.Request = TO_REQUEST.now
 meaning verbs.Cancel = TO_CANCEL.now

@@ -1,4 +1,5 @@
-//! The page of all desks: their loans by the kind of work, the search, the form of a new loan, and the way to the figures.
+//! The page of all desks: their loans by the kind of work, the search, the form of a new loan, and the way to the
+//! figures.
 
 ghost use Rattle.std.specs.Prelude.{◌≡◌, ◌++◌, option_map, IfOk, OnOk};
 ghost use Rattle.ill_text.specs.Html.{html_escaped, html_text};
@@ -71,7 +72,8 @@ fn push_sought(page: &mut Vec<u8>, find: Option<&str>) -> Result<(), OutOfMemory
     push_plain(page, FOUND_END)
 }
 
-/// Appends the part of a desk: its loans, each with a link to its page. At the desk of a requester a form begins a loan.
+/// Appends the part of a desk: its loans, each with a link to its page. At the desk of a requester a form begins a
+/// loan.
 #[tactic(auto, unfolding(crate::specs::Desks::desk_part))]
 pub fn push_desk_part(page: &mut Vec<u8>, shown: &DeskShown<'_>) -> Result<(), OutOfMemory>
     ensures { OnOk result (page.new.items ≡ page.old.items ++ desk_part (desk_seen shown.now)) }
@@ -85,7 +87,7 @@ pub fn push_desk_part(page: &mut Vec<u8>, shown: &DeskShown<'_>) -> Result<(), O
     push_new(page, shown)
 }
 
-/// Appends the form of a new loan, at the desk of a requester.
+/// Appends the form of a new loan, if the desk is a requester's.
 fn push_new(page: &mut Vec<u8>, shown: &DeskShown<'_>) -> Result<(), OutOfMemory>
     ensures { OnOk result (page.new.items ≡ page.old.items
         ++ new_text shown.now.today shown.now.file.now shown.now.sides.now.role shown.now.sides.now.sides) }

@@ -17,7 +17,7 @@ use ill_values::{Day, OutOfMemory};
 /// The number of days after which an item is due, unless staff say otherwise.
 pub(crate) const LOAN_DAYS: u32 = 28;
 
-/// What all forms of a loan have.
+/// What all forms of a loan have: the loan, its stamp, and the day of the page.
 #[derive(Clone, Copy)]
 pub(crate) struct FormView<'a> {
     /// The loan.
@@ -99,7 +99,7 @@ pub(crate) fn push_act(page: &mut Vec<u8>, stamp: &str, verb: Verb) -> Result<()
     push_hidden(page, "word", verb.name().as_bytes())
 }
 
-/// Appends a field that a browser sends unseen.
+/// Appends the field with this name and value, which a browser sends unseen.
 #[tactic(auto, unfolding(crate::specs::Forms::hidden_text))]
 pub(crate) fn push_hidden(page: &mut Vec<u8>, name: &str, value: &[u8]) -> Result<(), OutOfMemory>
     ensures { OnOk result (page.new.items ≡ page.old.items ++ hidden_text name.now value.now) }
@@ -111,7 +111,7 @@ pub(crate) fn push_hidden(page: &mut Vec<u8>, name: &str, value: &[u8]) -> Resul
     push_plain(page, HIDDEN_END)
 }
 
-/// Appends the purpose of a form, its inputs and its end.
+/// Appends what a form of `verb` shows: its purpose, its inputs and its end.
 #[tactic(auto, unfolding(crate::specs::Forms::shown_text))]
 fn push_shown(page: &mut Vec<u8>, today: Day, verb: Verb, inputs: Inputs) -> Result<(), OutOfMemory>
     ensures { OnOk result (page.new.items ≡ page.old.items ++ shown_text today verb inputs) }

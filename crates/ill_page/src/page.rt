@@ -24,13 +24,13 @@ use std::alloc::Global;
 pub struct LoanShown<'a> {
     /// The day of the page.
     pub today: Day,
-    /// The text for its desk.
+    /// The text for the desk of the loan.
     pub desk: &'a str,
     /// The side of this library.
     pub side: &'a Side,
-    /// Its stamp.
+    /// The stamp of the loan.
     pub stamp: &'a str,
-    /// The lines of all that is known of it.
+    /// The lines of all that is known of the loan.
     pub lines: &'a [u8],
 }
 
@@ -44,7 +44,7 @@ fn push_title(page: &mut Vec<u8>, side: &Side) -> Result<(), OutOfMemory>
     }
 }
 
-/// Returns the page of the loan in `shown`, with a notice for the reader if it is not empty.
+/// Returns the page of the loan in `shown`, with `notice` for the reader, if that is not empty.
 #[tactic(auto, unfolding(crate::specs::Page::loan_page))]
 pub fn loan_page(alloc: Global, shown: &LoanShown<'_>, notice: &str) -> Result<Vec<u8>, OutOfMemory>
     ensures { IfOk result (λ page. page.items ≡ loan_page (loan_seen shown.now) notice.now) }
@@ -69,8 +69,8 @@ impl LoanShown<'_> {
     }
 }
 
-/// Appends what the page of a loan has below its title: its state, the forms, the way to its slip, and all that is known of
-/// it.
+/// Appends what the page of a loan has below its title: its state, the forms, the way to its slip, and all that is
+/// known of it.
 #[tactic(auto, unfolding(crate::specs::Page::known_text))]
 fn push_known(page: &mut Vec<u8>, shown: &LoanShown<'_>) -> Result<(), OutOfMemory>
     ensures { OnOk result (page.new.items ≡ page.old.items ++ known_text (loan_seen shown.now)) }
@@ -127,7 +127,7 @@ fn push_slip(page: &mut Vec<u8>, place: &Place<'_>) -> Result<(), OutOfMemory>
     push_plain(page, SLIP_END)
 }
 
-/// Returns the page with the lines of figures, and a notice before them. It has none if `notice` is empty.
+/// Returns the page with the lines of figures, and `notice` before them. If `notice` is empty, the page has no notice.
 #[tactic(auto, unfolding(crate::specs::Page::figures_page))]
 pub fn figures_page(
     alloc: Global,

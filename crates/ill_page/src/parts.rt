@@ -84,7 +84,7 @@ pub(crate) const SLIP: &str = "<p><a href=\"";
 /// The inputs of a form of an action.
 #[derive(Clone, Copy)]
 pub(crate) enum Inputs {
-    /// A button.
+    /// A button that confirms the action.
     Bare,
     /// A button for yes, and one for no.
     YesNo,
@@ -92,11 +92,11 @@ pub(crate) enum Inputs {
     Wished,
     /// The day on which an item is due.
     Due,
-    /// Yes, and a new due date.
+    /// A new due date, and a button for yes.
     Grant,
-    /// No.
+    /// A button for no.
     Deny,
-    /// A result of a request.
+    /// A choice among the results of a request.
     Result,
 }
 
@@ -157,7 +157,7 @@ pub(crate) fn inputs_of(verb: Verb) -> &'static [Inputs]
     }
 }
 
-/// Returns the meaning of an action, for people.
+/// Returns the text that tells people what an action of `verb` means.
 pub(crate) fn meaning(verb: Verb) -> &'static str
     ensures { result.now ≡ meaning verb }
 {

@@ -14,17 +14,17 @@ use std::alloc::Global;
 /// The status of a reply (RFC 9110, section 15).
 #[derive(Clone, Copy, Debug, PartialEq, Eq)]
 pub enum Status {
-    /// 200: here is the page.
+    /// 200: the reply has the page that was asked for.
     Good,
-    /// 400: the form is wrong.
+    /// 400: the fields of the request are wrong, or its body broke off.
     Bad,
-    /// 403: nobody may send this.
+    /// 403: no page of this program sent the form, nobody is named who did, or a diary cannot name them.
     Foreign,
-    /// 404: there is no such page.
+    /// 404: there is no such page, desk or loan.
     NoPage,
-    /// 405: a page is looked at, and a form is sent.
+    /// 405: the method is neither GET, for a page, nor POST, for a form.
     Method,
-    /// 409: the loan is not as the form saw it, or refuses the action.
+    /// 409: the loan is no longer as the page of the form showed it, or its desk refuses the action.
     Conflict,
     /// 411: the length of the form is missing.
     NoLength,
@@ -32,9 +32,9 @@ pub enum Status {
     TooLong,
     /// 415: the body is no form.
     NoForm,
-    /// 500: the program failed.
+    /// 500: memory ran out, or the file of the desk is missing or damaged.
     Failed,
-    /// 503: the desk is busy.
+    /// 503: the desk is busy, or its file could not be read or written.
     Busy,
 }
 

@@ -149,18 +149,18 @@ pub const RESULT: &str = "\
 <option>conditional<option>retry<option>unfilled<option>locations-provided\
 <option>will-supply<option>hold-placed<option>estimate</select></label> <button>Answer</button>";
 
-// ---- Requests that are refused
+// ---- Requests that are refused, and figures that lack a desk
 
 /// The notice of a request for no page.
 pub const NO_PAGE: &str = "There is no such page.";
 
-/// The notice of a request by another method.
+/// The notice of a request by a method that is neither GET nor POST.
 pub const METHOD: &str = "A page is for GET, and a form for POST.";
 
 /// The notice of a form that another site sent.
 pub const FOREIGN: &str = "No page of this program sent the form.";
 
-/// The notice of a form that nobody sent.
+/// The notice of a form whose sender is not named.
 pub const NO_USER: &str = "Nobody is named who sent the form.";
 
 /// The notice of a body that is no form.
@@ -191,13 +191,13 @@ pub const NO_SPAN: &str = "The last day of the figures is before the first one."
 pub const UNCOUNTED: &str =
     "A desk cannot be read, and has no figures here. The page of all loans names it.";
 
-/// The notice of a note that is none.
+/// The notice of a text that is too long for a note, or has a control character.
 pub const NO_NOTE: &str = "A note has at most 200 bytes, and no control characters.";
 
 /// The notice of a loan of another group than that of its desk.
 pub const OTHER_GROUP: &str = "Nothing was done: this desk takes loans of another group.";
 
-// ---- Desks that fail
+// ---- Loans that a desk lacks, desks that fail, and want of memory
 
 /// The notice of a loan that its desk does not have.
 pub const NO_LOAN: &str = "This desk has no such loan.";

@@ -4,7 +4,7 @@ use Rattle.std.specs.List.{flat_map}
 use Rattle.ill_page.specs.Forms.{form_shown, form_text}
 use Rattle.ill_page.proofs.forms.push_verb.Given as goal
 
--- The forms so far are appended to the page.
+-- The forms of the verb with the inputs so far are appended to the page.
 abbrev pub invariant-loop-inputs : goal.invariant-loop-inputs
 invariant-loop-inputs l =
     l.page.items ≡ l.initial.page.items

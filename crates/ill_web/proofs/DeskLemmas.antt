@@ -21,8 +21,8 @@ longer_by_desk today find before desks desk =
     ∙ ap (λ text. before ++ (flat_map (part_of today find) desks ++ text)) (sym (append-nil (part_of today find desk)))
     ∙ ap (λ text. before ++ text) (sym (flat_map-append (part_of today find) desks (desk ∷ [])))
 
--- If a page has parts for the first `place` files and then the next, it has `place + 1`. `told` says so of the files,
--- and `text` of the page.
+-- If a page has the parts of the first `place` files, and then the next part, it has those of `place + 1` files. `told`
+-- proves this of the files, and `text` of the page.
 pub one_more_desk : (today : Date) (find : Option (List ℕ)) (files : List (List ℕ)) (place : ℕ)
     (file before between after : List ℕ) → place < length files → file ≡ get_or files place file
     → AddsDesks today find (take place files) before between → AddsDesk today find file between after

@@ -27,8 +27,8 @@ none_is : (bytes : List ℕ) (failed : Bool) → bytes ≡ [] → failed ≡ fal
 none_is bytes failed none fine =
     ap (λ bytes. diary_state (Some bytes) failed) none ∙ ap (λ failed. diary_state (Some []) failed) fine
 
--- If an entry of `line` beside `beside` had entered nothing, and `EntersPost` holds of it, `EntersTurn` does. The
--- premises say that `at` is `beside`, and `own` is `line`.
+-- If an entry of `line` beside `beside` had entered nothing before, and `EntersPost` holds of it, then `EntersTurn`
+-- holds. The premises say that `at` is `beside`, and `own` is `line`.
 pub enters_turn : (came : Result Posted DeskFault) (beside at line own : List ℕ) (bytes : List ℕ) (failed : Bool)
     (diary : DiaryState) → at ≡ beside → own ≡ line → bytes ≡ [] → failed ≡ false
     → EntersPost came own (diary_state (Some bytes) failed) diary

@@ -142,14 +142,14 @@ pub turn_is_of_form : (operator : Operator) (v : VisitShown) (left rest : Option
 turn_is_of_form operator v left rest turn reply (result, (wanted, answers, follows), is) =
     form_answered operator v left rest turn result wanted answers follows
 
--- If `size` is a refusal, this is the result of reading, and the input stays.
+-- If `size` is the refusal `refusal`, this is the result of the reading, and nothing is read.
 refused_answers : (size : Result ℕ VisitFault) (wanted : List ℕ → Result Asked VisitFault) (left rest : Option (List ℕ))
     (refusal : VisitFault) (result : Result Wanted VisitFault) → size ≡ Err refusal → Answers size wanted left rest result
     → (result ≡ Err refusal) × (rest ≡ left)
 refused_answers size wanted left rest refusal result e answers =
     subst (λ size. Answers size wanted left rest result → (result ≡ Err refusal) × (rest ≡ left)) (sym e) (λ it. it) answers
 
--- If a request was refused, it has no turn, and the refusal is its result.
+-- If a request was read as a refusal, it has no turn. The result is the trouble with this refusal.
 refused_follows : (operator : Operator) (user : List ℕ) (turn : Option Turn) (result : Result (List ℕ) Trouble)
     (refusal : VisitFault) (wanted : Result Wanted VisitFault) → wanted ≡ Err refusal
     → Follows operator user wanted turn result → (turn ≡ None) × (result ≡ Err (Refused refusal))

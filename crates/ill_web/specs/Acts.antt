@@ -61,7 +61,7 @@ PostsAt beside line form old answer new =
     (came : Result Posted DeskFault) × (entered : Entered) × AnswersPost form old came new
     × EntersTurn came beside line entered × (answer ≡ of_post came)
 
--- The form was answered at its desk, on the day of the stamp. Its line has this stamp.
+-- The form was answered at its desk, on the day of the stamp. Its line in the diary has this stamp.
 abbrev pub AnswersSent : Stamped → SentForm → DeskState → Result Posted Trouble → DeskState → Type 0
 AnswersSent stamp sent old answer new =
     PostsAt sent.loan.desk (form_line stamp (form_of stamp.day old.live.role sent) old.live)
@@ -74,7 +74,7 @@ abbrev pub status_of : Posted → Status
 status_of posteds.NoAction = statuses.Bad
 status_of other = statuses.Conflict
 
--- The notice has the words of a fault.
+-- The notice says that nothing was done, and has the words of some fault.
 abbrev pub IsRefusal : (notice : List ℕ) → Type 0
 IsRefusal notice = (words : List ℕ) × (notice ≡ NOTHING_DONE.now ++ (words ++ FAULT_END.now))
 
@@ -94,7 +94,8 @@ TellsWhy today loan posted result =
 abbrev pub place_of : LoanAsked → PlaceShown
 place_of loan = record { desk = loan.desk; txn = loan.txn }
 
--- The reply leads to the page of the loan, if its form was done. Else it shows the loan, and says why. Or memory ran out.
+-- If the form was done, the reply leads to the page of the loan. Else the reply shows the loan, and says why the form
+-- was not done. Or memory ran out.
 abbrev pub TellsPosted : Date → LoanAsked → Posted → Result (List ℕ) Trouble → Type 0
 TellsPosted today loan posteds.Done result = Gives (seen_reply (place_of loan)) result
 TellsPosted today loan posted result = TellsWhy today loan posted result ⊎ (result ≡ Err no_memory)
@@ -113,8 +114,8 @@ IsEarly troubles.NoName = Unit {0}
 IsEarly troubles.OtherGroup = Unit {0}
 IsEarly trouble = IsUnread trouble
 
--- A turn is that of a form. It is at the desk that the form names, and the form is answered there as `AnswersPost` says.
--- What is entered beside that desk is the line of the form with this stamp, as `EntersPost` says.
+-- The turn is that of the form `sent`. It is at the desk that the form names, and the form is answered at this desk as
+-- `AnswersPost` says. What is entered beside the desk is the line of the form with this stamp, as `EntersPost` says.
 abbrev pub IsTurnOf : Stamped → SentForm → Turn → Type 0
 IsTurnOf stamp sent turn =
     (turn.file ≡ sent.loan.desk)
@@ -126,7 +127,7 @@ IsTurnOf stamp sent turn =
 abbrev pub HasTurn : Stamped → SentForm → Turn → Result (List ℕ) Trouble → Type 0
 HasTurn stamp sent turn result = IsTurnOf stamp sent turn × TellsAnswer stamp.day sent.loan (of_post turn.came) result
 
--- The form had a turn. Or it was refused before, and had none.
+-- The form had `turn`. Or it was refused before, and had no turn.
 abbrev pub ActsIn : Stamped → SentForm → Option Turn → Result (List ℕ) Trouble → Type 0
 ActsIn stamp sent (Some turn) result = HasTurn stamp sent turn result
 ActsIn stamp sent None result = IsErrAnd result IsEarly

@@ -1,4 +1,4 @@
--- The replies with pages. A desk here was loaded from a file, so nothing is known of its content.
+-- The replies with pages. Nothing is known of the content of a desk's file, so the sides of a desk are any.
 use Rattle.std.specs.Prelude.{◌≡◌, ◌⊎◌, ℕ, Bool, true, false, List, [], ◌++◌, map, length, find, ◌==◌, bytes_eq, Vec}
 use Rattle.std.specs.Prelude.{Option, Some, None, Result, Ok, Err, IsErrAnd}
 use Rattle.std.specs.declared.alloc.Global.{Global}
@@ -60,7 +60,7 @@ asked_at place = record { desk = place.desk.now; txn = place.txn.now }
 abbrev pub file_named : (files : List (List ℕ)) → (desk : List ℕ) → Option (List ℕ)
 file_named files desk = find (λ file. bytes_eq file desk) files
 
--- If the text `desk` names one of `files`, the result is as `Answers` says. Else it is that there is no such desk.
+-- If the text `desk` names one of `files`, the result is as `Answers` says. Else it is the trouble `NoDesk`.
 abbrev pub AtDesk : (files : List (List ℕ)) → (desk : List ℕ) → (Result (List ℕ) Trouble → Type 0) → Result (List ℕ) Trouble →
     Type 0
 AtDesk files desk Answers result =
@@ -91,7 +91,8 @@ abbrev pub sides_part : Date → (find : Option (List ℕ)) → (file : List ℕ
 sides_part today find file role sides annex =
     desk_part (record { today = today; find = find; file = file; role = role; sides = sides; annex = annex })
 
--- Returns the part of a page about a desk. It tells what came today.
+-- Returns the part of a page about a desk, with what came today. If the desk was not read, the part has the words for
+-- its fault.
 abbrev pub part_of : Date → (find : Option (List ℕ)) → DeskRead → List ℕ
 part_of today find (file, Ok (role, sides, annex)) = sides_part today find file role sides (with_news today sides annex)
 part_of today find (file, Err words) = unread_text file words
@@ -127,31 +128,32 @@ abbrev pub AreLines : Qualifiers → DeskContents → (lines : List ℕ) → Typ
 AreLines txn live lines =
     (beside : FilesBeside) × RunsLoan Lines beside (found_by txn_held txn live.held) (Some []) (Some lines) (Ok tt)
 
--- The reply has a notice alone, about a loan that a desk does not hold. If `is_silent`, there is no notice, and the result
--- is that there is no such loan.
+-- The loan is one that a desk does not hold, and the reply has the notice of `told` alone. If `is_silent`, there is no
+-- notice, and the result is the fault `NoSuchTransaction`.
 abbrev pub TellsNone : (is_silent : Bool) → Date → Telling → Result (List ℕ) Trouble → Type 0
 TellsNone true today told result = result ≡ Err (troubles.Desk (tools.Desk NoSuchTransaction))
 TellsNone false today told result = Gives (page_reply told.status (notice_page today told.notice)) result
 
--- The reply shows the loan of `side`, which is one of a desk that holds `live`. It has the forms of what may be done on the
--- day, and the lines of all that is known of the loan. Or a file beside the desk could not be read.
+-- The reply shows the loan of `side`, which is one of a desk that holds `live`. It has the forms of what may be done on
+-- the day, and the lines of all that is known of the loan. Or a file beside the desk could not be read.
 abbrev pub ShowsSide : Date → Telling → LoanAsked → Side → DeskContents → Result (List ℕ) Trouble → Type 0
 ShowsSide today told loan side live (Ok reply) =
     (lines : List ℕ) × AreLines loan.txn live lines
     × (reply ≡ page_reply told.status (page_of today loan.desk side lines told.notice))
 ShowsSide today told loan side live (Err trouble) = IsUnread trouble
 
--- The reply shows the loan, which has `side` at a desk that holds `live`. Or it says that there is none.
+-- If the loan has a side at a desk that holds `live`, the reply shows it. Else the reply is as `TellsNone` says.
 abbrev pub ShowsIfHeld : Option Side → Date → Telling → LoanAsked → DeskContents → Result (List ℕ) Trouble → Type 0
 ShowsIfHeld (Some side) today told loan live result = ShowsSide today told loan side live result
 ShowsIfHeld None today told loan live result = TellsNone (length told.notice == 0) today told result
 
--- The reply shows a loan of a desk that holds `live`, and tells this beside.
+-- The reply shows a loan of a desk that holds `live`, with the status and the notice of `told`.
 abbrev pub ShowsHeld : Date → Telling → LoanAsked → DeskContents → Result (List ℕ) Trouble → Type 0
 ShowsHeld today told loan live result =
     ShowsIfHeld (side_with loan.txn (sides_held live).sides) today told loan live result
 
--- The reply shows a loan of the desk that was opened, and tells this beside. Or the desk could not be opened.
+-- The reply shows a loan of the desk that was opened, with the status and the notice of `told`. Or the desk could not
+-- be opened.
 abbrev pub ShowsLoan : Date → Telling → LoanAsked → Result (List ℕ) Trouble → Type 0
 ShowsLoan today told loan result =
     IsErrAnd result IsUnread ⊎ ((live : DeskContents) × ShowsHeld today told loan live result)
@@ -174,8 +176,8 @@ abbrev pub uncounted : Result Bool ToolFault → List ℕ
 uncounted (Ok is_well) = []
 uncounted (Err fault) = UNCOUNTED.now
 
--- The reply has figures of the span of the desks in `files`, as `ill figures` writes them. A desk that cannot be read has
--- none, and a notice says so.
+-- The reply has the figures of the desks in `files` in the span, as `ill figures` writes them. A desk that cannot be
+-- read has no figures, and a notice says so. Without a span the result is the trouble `NoSpan`.
 abbrev pub ShowsSpan : Date → (files : List (List ℕ)) → Option Span → Result (List ℕ) Trouble → Type 0
 ShowsSpan today files None result = result ≡ Err troubles.NoSpan
 ShowsSpan today files (Some span) (Ok reply) =
@@ -184,6 +186,7 @@ ShowsSpan today files (Some span) (Ok reply) =
     × (reply ≡ page_reply Good (figures_page today (uncounted answer) lines))
 ShowsSpan today files (Some span) (Err trouble) = trouble ≡ no_memory
 
--- The reply has the figures of the desks in `files` of the days from one to another, if the second is not before the first.
+-- The reply has the figures of the desks in `files` of the days from one to another, if the second is not before the
+-- first.
 abbrev pub ShowsFigures : Date → (files : List (List ℕ)) → (from to : Date) → Result (List ℕ) Trouble → Type 0
 ShowsFigures today files from to result = ShowsSpan today files (span_between from to) result

@@ -40,7 +40,8 @@ rules_of operator = record { origin = operator.origin.now; is_open = operator.is
 
 -- ---- what is asked for
 
--- If the text for the desk names one, the form acts as `ActsIf` says. Else it has no turn, and the trouble is `NoDesk`.
+-- If the text for the desk is the path of a desk, the form acts as `ActsIf` says. Else it has no turn, and the trouble
+-- is `NoDesk`.
 abbrev pub ActsHere : HouseShown → SentForm → Option Turn → Result (List ℕ) Trouble → Type 0
 ActsHere house sent turn result =
     ((file_named house.files sent.loan.desk ≡ Some sent.loan.desk)
@@ -60,8 +61,8 @@ AnswersAt house (Note loan note) turn result = (turn ≡ None) × AtDesk house.f
 
 -- ---- a request
 
--- What was asked for was answered at desks that are found at the operator's paths. Or the request was refused. Or memory ran out
--- before the desks were found.
+-- What was asked for was answered at desks that are found at the operator's paths. Or the request was refused. Or
+-- memory ran out before the desks were found.
 abbrev pub Follows : Operator → (user : List ℕ) → Result Wanted VisitFault → Option Turn → Result (List ℕ) Trouble → Type 0
 Follows operator user (Err refusal) turn result = (turn ≡ None) × (result ≡ Err (troubles.Refused refusal))
 Follows operator user (Ok wanted) turn result =
@@ -78,7 +79,7 @@ AnswersRequest operator v left rest turn result =
 
 -- ---- the reply
 
--- Returns the reply in a result, or the one that tells its trouble.
+-- Returns the reply in a result. If the result is a trouble, it returns the reply that tells the trouble.
 abbrev pub reply_of : Date → Result (List ℕ) Trouble → List ℕ
 reply_of today (Ok reply) = reply
 reply_of today (Err trouble) = trouble_reply today trouble
@@ -88,11 +89,11 @@ abbrev pub sent_of : {F : Type 0} → Result (Vec ℕ Global) F → List ℕ
 sent_of (Ok reply) = reply.items
 sent_of (Err fault) = NO_MEMORY.now
 
--- The reply is that to `result`. Or memory ran out for it, and it says so.
+-- The reply is that of `result`. Or memory ran out for it, and the reply is `NO_MEMORY`.
 abbrev pub IsReply : Date → Result (List ℕ) Trouble → (reply : List ℕ) → Type 0
 IsReply today result reply = (reply ≡ reply_of today result) ⊎ (reply ≡ NO_MEMORY.now)
 
--- The request has this reply, and its form had this turn at a desk.
+-- The request was answered with `reply`. If it had a turn at a desk, this was `turn`.
 abbrev pub Replies : Operator → VisitShown → (left rest : Option (List ℕ)) → Option Turn → (reply : List ℕ) → Type 0
 Replies operator v left rest turn reply =
     (result : Result (List ℕ) Trouble) × AnswersRequest operator v left rest turn result

@@ -1,4 +1,4 @@
--- Why a request does not get what it asks for, and what a reader is told then.
+-- The troubles for which a request does not get what it asks for, and what a reader is told of each.
 use Rattle.std.specs.Prelude.{ℕ, List}
 use Rattle.ill_values.specs.Day.{Date}
 use Rattle.ill_saved.specs.declared.fault.DeskFault.TheVariants.{NoSuchTransaction, Store}
@@ -43,7 +43,7 @@ refused visits.Cut = tells statuses.Bad CUT.now
 refused visits.Fields = tells statuses.Bad FIELDS.now
 refused visits.OutOfMemory = tells statuses.Failed OUT_OF_MEMORY.now
 
--- Returns what is told of a desk with this fault.
+-- Returns what is told if a command at a desk failed with this fault.
 abbrev pub failed : ToolFault → Telling
 failed (tools.Desk NoSuchTransaction) = tells statuses.NoPage NO_LOAN.now
 failed (tools.Desk (Store fault)) = tells statuses.Busy BUSY.now

@@ -44,7 +44,8 @@ struct Sent<'a> {
     words: &'a [Vec<u8>],
 }
 
-/// Performs the act of a form, and returns the reply.
+/// Performs the act of a form in `loan`, and returns the reply. Fails with `NoDesk` if the text for the desk is no path
+/// of the operator's desks.
 pub fn act<T: LockFiles>(
     house: &House<'_, T>,
     loan: &LoanName,
@@ -64,7 +65,7 @@ pub fn act<T: LockFiles>(
     act_as(house, &sent)
 }
 
-/// Performs the act of a form, if a diary can name its user.
+/// Performs the act of the form `sent`, if a diary can name its user. Else it fails with `NoName`.
 fn act_as<T: LockFiles>(house: &House<'_, T>, sent: &Sent<'_>) -> Result<Vec<u8>, Trouble>
     ensures { (turn : Option Turn) × ActsIf (may_act house.now.user.now)
         (stamp_on house.now.operator.now.today house.now.user.now) (sent_form sent.now) turn (said result) }
@@ -83,7 +84,8 @@ fn may_act(user: &str) -> bool
     user.is_empty() || is_name(user)
 }
 
-/// Lets a form have its turn at its desk, under the lock of the desk's file.
+/// Lets the form `sent` have its turn at its desk, under the lock of the file, and returns the reply. Fails if the desk
+/// cannot be opened, or takes loans of another group.
 fn take_turn<T: LockFiles>(house: &House<'_, T>, sent: &Sent<'_>) -> Result<Vec<u8>, Trouble>
     ensures { (turn : Option Turn) × ActsIn (stamp_on house.now.operator.now.today house.now.user.now) (sent_form sent.now)
         turn (said result) }
@@ -95,7 +97,7 @@ fn take_turn<T: LockFiles>(house: &House<'_, T>, sent: &Sent<'_>) -> Result<Vec<
     tell(house, sent.place, answered)
 }
 
-/// Refuses a loan of another group if its desk is one of a shelf. There the name of a file is that for its group.
+/// Fails with `OtherGroup` if the desk of `place` is one of a shelf, but not that of the loan's group.
 fn refuse_other_group<T: Files>(
     house: &House<'_, T>,
     place: &Place<'_>,
@@ -152,8 +154,8 @@ fn slices(alloc: Global, words: &[Vec<u8>]) -> Result<Vec<&[u8]>, OutOfMemory>
     Ok(slices)
 }
 
-/// Performs the action of `form` at `desk`. If it is done, `line` is entered in the diary beside `file` before the save. A
-/// diary that fails stops no form.
+/// Performs the action of `form` at `desk`. If it is done, `line` is entered in the diary beside `file` before the
+/// save. A diary that fails stops no form.
 fn perform<T: Files, S: Store>(
     house: &House<'_, T>,
     file: &str,
@@ -168,7 +170,7 @@ fn perform<T: Files, S: Store>(
     of_post(post(house.alloc, desk, form, &mut entry))
 }
 
-/// Returns what came of a form, or the fault of its desk.
+/// Returns the answer to a form, or the fault of its desk as a trouble.
 fn of_post(posted: Result<Posted, DeskFault>) -> Result<Posted, Trouble>
     ensures { result ≡ of_post posted }
 {
@@ -178,7 +180,8 @@ fn of_post(posted: Result<Posted, DeskFault>) -> Result<Posted, Trouble>
     }
 }
 
-/// Returns the reply to a form at `place` of which `answered` came.
+/// Returns the reply to a form in the loan at `place`. `answered` is the answer to the form, or the trouble of its
+/// desk.
 fn tell<T: Files>(
     house: &House<'_, T>,
     place: &Place<'_>,
@@ -192,8 +195,8 @@ fn tell<T: Files>(
     }
 }
 
-/// Returns the reply to a form of which `posted` came. One that was done leads to the page of its loan. Else the page of the
-/// loan is shown as it is now.
+/// Returns the reply to a form whose answer is `posted`. If the form was done, the reply leads to the page of its loan.
+/// Else the reply shows the loan as it is now.
 fn tell_posted<T: Files>(
     house: &House<'_, T>,
     place: &Place<'_>,
@@ -234,7 +237,7 @@ fn status_of(posted: Posted) -> Status
     }
 }
 
-/// Returns the notice that says why a form was not done, by what came of it: `posted`.
+/// Returns the notice that says why a form was not done, whose answer is `posted`.
 fn notice_of(alloc: Global, posted: Posted) -> Result<String, OutOfMemory>
     ensures { IfOk result (λ notice. IsNotice posted (string_bytes notice)) }
 {

@@ -15,8 +15,8 @@ use std::io;
 use std::io::Write;
 use std::rt::Files;
 
-/// Returns the line of a diary that names an action of the loan `txn`, as the next message after `issued` messages. It is
-/// empty if there is no action.
+/// Returns the line of a diary that names an action of the loan `txn`, as the next message after `issued` messages. It
+/// is empty if there is no action.
 pub fn turn_line<T>(
     house: &House<'_, T>,
     txn: &TxnId,
@@ -112,7 +112,7 @@ impl<T: Files> Write for TurnDiary<'_, T> {
     }
 }
 
-/// Writes all of `bytes` to `diary`, and then appends them to `entered`. If one of them fails, `entered` keeps its content.
+/// Writes all of `bytes` to `diary`, and then appends them to `entered`. If either fails, `entered` keeps its content.
 fn write_and_note<D: Write>(diary: &mut D, entered: &mut Vec<u8>, bytes: &[u8]) -> io::Result<usize>
     ensures bound { WritesAtMost result bytes.now }
     ensures noted { WriteAppends (Some entered.old.items) (Some entered.new.items) result bytes.now }

@@ -1,4 +1,4 @@
-//! What a request is answered with, and the desk that it names.
+//! The files, the memory and the rules with which a request is answered, and the desk that it names.
 
 ghost use Rattle.std.specs.Prelude.{◌≡◌, [], Some, None, bytes_eq, find, map, option_copied, option_map, string_bytes, MatchResult};
 ghost use Rattle.ill_browser.specs.Wanted.{loan_asked};
@@ -25,13 +25,13 @@ pub struct House<'a, T> {
     pub operator: &'a Operator<'a>,
     /// The paths of the desks.
     pub files: &'a [String],
-    /// The name of the user. None is empty.
+    /// The name of the user. It is empty if nobody is named.
     pub user: &'a str,
 }
 
 impl<'a, T> House<'a, T> {
-    /// Returns the loan at the path of its desk. The text for the desk is compared with the operator's paths, and opens no
-    /// file.
+    /// Returns the loan, with the path of its desk. The text for the desk is compared with the paths of the operator's
+    /// desks, and opens no file. If it is none of them, the trouble is `NoDesk`.
     pub fn place<'b>(&'b self, loan: &'b LoanName) -> Result<Place<'b>, Trouble>
         ensures { MatchResult result
             (λ place. (file_named (house_shown self.now).files loan.now.desk.items ≡ Some loan.now.desk.items)
@@ -47,7 +47,7 @@ impl<'a, T> House<'a, T> {
         }
     }
 
-    /// Returns a machine that writes into memory, and no line about what could not be done.
+    /// Returns a machine whose output is in memory. Lines about what could not be done go nowhere.
     pub fn machine(&self) -> Machine<'a, T, Vec<u8>, Sink>
         ensures { result.writer.items ≡ [] }
     {

@@ -1,7 +1,7 @@
 //! The program `ill-web`: the desks of a library in a browser. A web server runs it for each request (CGI, RFC 3875).
 //!
-//! A script of the operator runs it, with the origin of the pages, the day and the desks. Nothing of a request becomes an
-//! argument.
+//! A script of the operator runs it, with the origin of the pages, the day and the desks. Nothing of a request becomes
+//! an argument.
 #![tactic(auto)]
 
 mod act;
@@ -35,7 +35,8 @@ usage: ill-web --origin ORIGIN --today DAY [--open] PATH..
        ill-web --try FILE
 ";
 
-/// Answers the request that the environment of this process describes, and returns the exit status.
+/// Answers the request that the environment of this process describes, and returns the exit status. With `--try` it
+/// writes how to look at a desk instead. If the arguments are no such line, it writes the usage, and returns 2.
 fn perform(rt: &HostRuntime) -> io::Result<u8> {
     let alloc = rt.alloc();
     let arguments: Vec<String> = env::args(rt)?.collect(alloc)?;
@@ -56,7 +57,7 @@ fn perform(rt: &HostRuntime) -> io::Result<u8> {
     }
 }
 
-/// Answers the request that the environment describes, by the rules of `operator`.
+/// Answers the request that the environment describes, by the rules of `operator`, and returns the exit status.
 fn visit(rt: &HostRuntime, operator: &Operator<'_>) -> io::Result<u8> {
     let method = variable(rt, "REQUEST_METHOD")?;
     let path = variable(rt, "PATH_INFO")?;
@@ -83,8 +84,8 @@ fn visit(rt: &HostRuntime, operator: &Operator<'_>) -> io::Result<u8> {
     Ok(serve(rt, rt.alloc(), request, &mut rt.stdin(), &mut rt.stdout()))
 }
 
-/// Returns the text of a variable. One that is not there is empty, and one that is no UTF-8 is `-`, which no variable may
-/// be.
+/// Returns the text of the variable `name`. It is empty if the variable is not there. It is `-` if the variable is no
+/// UTF-8, since no variable may have this text.
 fn variable(rt: &HostRuntime, name: &str) -> io::Result<String> {
     match env::var(rt, name) {
         Ok(text) => Ok(text),

@@ -16,7 +16,8 @@ use ill_place::place::{DeskPlace, HostFiles};
 use ill_report::link::Place;
 use ill_saved::LockFiles;
 
-/// Keeps a note on a loan, and returns the reply. An empty text removes the note. What `ill note` refuses is refused.
+/// Keeps the note `words` on `loan`, and returns the reply. An empty text removes the note. What `ill note` refuses is
+/// refused.
 pub fn note_loan<T: LockFiles>(
     house: &House<'_, T>,
     loan: &LoanName,
@@ -28,7 +29,7 @@ pub fn note_loan<T: LockFiles>(
     note_at(house, &place, words)
 }
 
-/// Keeps a note on the loan at `place`, if it is one.
+/// Keeps the note `words` on the loan at `place`, if the text is a note. Else it fails with `NoNote`.
 fn note_at<T: LockFiles>(
     house: &House<'_, T>,
     place: &Place<'_>,
@@ -43,7 +44,7 @@ fn note_at<T: LockFiles>(
     }
 }
 
-/// Keeps a note on the loan at `place`.
+/// Keeps the note `words`, which was checked, on the loan at `place`, as `ill note` does.
 fn keep<T: LockFiles>(
     house: &House<'_, T>,
     place: &Place<'_>,

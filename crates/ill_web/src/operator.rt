@@ -11,13 +11,13 @@ pub struct Operator<'a> {
     pub origin: &'a str,
     /// The day.
     pub today: Day,
-    /// A form of nobody is taken.
+    /// Set if a form is taken though nobody is named who sent it.
     pub is_open: bool,
     /// The paths of desks and of folders of desks.
     pub paths: Vec<&'a str>,
 }
 
-/// The options so far.
+/// The options that were read so far.
 #[derive(Drop)]
 struct Options<'a> {
     origin: Option<&'a str>,
@@ -26,7 +26,8 @@ struct Options<'a> {
 }
 
 impl<'a> Operator<'a> {
-    /// Reads the words of a command line, the program's name first. Returns `None` if they are no such line.
+    /// Reads the words of a command line, the program's name first. Returns `None` if they lack an origin, a day or a
+    /// path, or the day is none.
     pub fn read(alloc: Global, words: &[&'a str]) -> Result<Option<Operator<'a>>, OutOfMemory> {
         let mut options = Options {
             origin: None,

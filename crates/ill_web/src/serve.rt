@@ -36,7 +36,8 @@ pub struct Request<'a> {
 /// The reply if there is no memory for another one.
 const NO_MEMORY: &[u8] = b"Status: 500 Internal Server Error\r\n\r\n";
 
-/// Answers `request`, whose body is read from `reader`, and returns the exit status: 0, or 3 if the reply was not written.
+/// Answers `request`, whose body is read from `reader`, and returns the exit status: 0, or 3 if the reply was not
+/// written.
 pub fn serve<T: LockFiles, R: Read, W: Write>(
     rt: &T,
     alloc: Global,
@@ -53,7 +54,7 @@ pub fn serve<T: LockFiles, R: Read, W: Write>(
     send_reply(writer, reply)
 }
 
-/// Returns the reply in `answered`, or the one that tells its trouble.
+/// Returns the reply in `answered`. If `answered` is a trouble, it returns the reply that tells the trouble.
 fn reply_of(
     alloc: Global,
     operator: &Operator<'_>,
@@ -80,7 +81,7 @@ fn trouble_reply(
     page_reply(alloc, told.status, &page)
 }
 
-/// Writes a reply, or that there was no memory for it. Returns the exit status.
+/// Writes a reply, or that there was no memory for it. Returns the exit status: 0, or 3 if the writing failed.
 fn send_reply<W: Write>(writer: &mut W, reply: Result<Vec<u8>, OutOfMemory>) -> u8
     ensures { Sends (sent_of reply) (W.contents writer.old) result (W.contents writer.new) }
 {
@@ -90,7 +91,7 @@ fn send_reply<W: Write>(writer: &mut W, reply: Result<Vec<u8>, OutOfMemory>) -> 
     }
 }
 
-/// Writes `bytes`, and returns the exit status.
+/// Writes `bytes`, and returns the exit status: 0, or 3 if the writing failed.
 fn send<W: Write>(writer: &mut W, bytes: &[u8]) -> u8
     ensures { Sends bytes.now (W.contents writer.old) result (W.contents writer.new) }
 {

@@ -52,7 +52,7 @@ pub fn show_desks<T: Files>(house: &House<'_, T>, find: Option<&str>) -> Result<
     Ok(page_reply(house.alloc, Status::Good, &page)?)
 }
 
-/// Appends the part of each desk, or its fault.
+/// Appends the part of each desk of `house` to `page`. A desk that cannot be read has a part with its fault.
 fn push_files<T: Files>(
     house: &House<'_, T>,
     page: &mut Vec<u8>,
@@ -68,7 +68,7 @@ fn push_files<T: Files>(
     Ok(())
 }
 
-/// Appends the part of the desk in `file`, or its fault.
+/// Appends the part of the desk in `file` to `page`. If the desk cannot be read, the part has its fault.
 fn push_file<T: Files>(
     house: &House<'_, T>,
     page: &mut Vec<u8>,
@@ -144,7 +144,8 @@ pub fn show_loan<T: Files>(house: &House<'_, T>, loan: &LoanName) -> Result<Vec<
     loan_reply(house, &place, Told::nothing())
 }
 
-/// Returns the reply with the page of the loan at `place`, and what it tells beside.
+/// Opens the desk of `place`, and returns the reply with the page of the loan. The reply has the status and the notice
+/// of `told`.
 pub fn loan_reply<T: Files>(
     house: &House<'_, T>,
     place: &Place<'_>,
@@ -158,7 +159,8 @@ pub fn loan_reply<T: Files>(
     reply
 }
 
-/// Returns the reply with the page of the loan at `place`, whose desk is `desk`, and what it tells beside.
+/// Returns the reply with the page of the loan at `place`, as `desk` holds it. The reply has the status and the notice
+/// of `told`.
 fn reply_of<T: Files, S: Store>(
     house: &House<'_, T>,
     place: &Place<'_>,
@@ -183,7 +185,8 @@ fn reply_of<T: Files, S: Store>(
     Ok(page_reply(house.alloc, told.status, &page)?)
 }
 
-/// Returns the reply about a loan that a desk does not hold: the notice, or that it has no such loan.
+/// Returns the reply about a loan that a desk does not hold: a page with the notice of `told` alone. If the notice is
+/// empty, it fails with `NoSuchTransaction`.
 fn no_loan<T>(house: &House<'_, T>, told: Told<'_>) -> Result<Vec<u8>, Trouble>
     ensures { TellsNone (length told.entry.notice.now == 0) house.now.operator.now.today (telling told.entry) (said result) }
 {
@@ -194,7 +197,7 @@ fn no_loan<T>(house: &House<'_, T>, told: Told<'_>) -> Result<Vec<u8>, Trouble>
     Ok(page_reply(house.alloc, told.status, &page)?)
 }
 
-/// Returns the lines of all that is known of a loan, as `ill loan` writes them.
+/// Reads the files beside `desk`, and returns all that is known of the loan at `place`, as `ill loan` writes it.
 fn lines_of<T: Files, S: Store>(
     house: &House<'_, T>,
     place: &Place<'_>,
@@ -215,7 +218,7 @@ fn lines_of<T: Files, S: Store>(
     written_lines(house.alloc, desk, place, &beside)
 }
 
-/// Returns the lines of all that is known of a loan, by the files beside its desk.
+/// Returns the lines of all that is known of the loan at `place`. `beside` has what the files beside its desk have.
 fn written_lines<S: Store>(
     alloc: Global,
     desk: &Desk<S>,
@@ -257,8 +260,8 @@ fn slip_reply<T: LockFiles>(house: &House<'_, T>, place: &Place<'_>) -> Result<V
     Ok(page_reply(house.alloc, Status::Good, &machine.writer)?)
 }
 
-/// Returns the reply with the figures of all desks between two days. A desk that cannot be read has none, and a notice
-/// says so.
+/// Returns the reply with the figures of all desks from the day `from` to the day `to`. A desk that cannot be read has
+/// no figures, and a notice says so. If `to` is before `from`, the trouble is `NoSpan`.
 pub fn show_figures<T: Files>(house: &House<'_, T>, from: Day, to: Day) -> Result<Vec<u8>, Trouble>
     ensures { ShowsFigures house.now.operator.now.today (house_shown house.now).files from to (said result) }
 {

@@ -16,7 +16,7 @@ pub struct Told<'a> {
 }
 
 impl Told<'_> {
-    /// Returns a reply that tells nothing beside its page.
+    /// Returns the status `Good` with an empty notice, for a page that was asked for.
     pub fn nothing<'a>() -> Told<'a>
         ensures { telling result ≡ tells Good [] }
     {

@@ -1,4 +1,4 @@
-//! Why a request does not get what it asks for, and what a reader is told then.
+//! The troubles for which a request does not get what it asks for, and what a reader is told of each.
 
 ghost use Rattle.std.specs.Prelude.{◌≡◌};
 ghost use Rattle.ill_web.specs.Troubles.{failed, no_memory, refused, telling, tells, trouble_told};
@@ -15,14 +15,14 @@ use ill_saved::DeskFault;
 use ill_text::fault::ToolFault;
 use ill_values::OutOfMemory;
 
-/// Why a request does not get what it asks for.
+/// The trouble for which a request does not get what it asks for.
 #[derive(Clone, Copy)]
 pub enum Trouble {
     /// The request was refused.
     Refused(VisitFault),
-    /// A desk could not be opened, or not saved.
+    /// A command at a desk failed: the desk could not be opened or saved, or has no such loan. Or memory ran out.
     Desk(ToolFault),
-    /// The operator names no desk so.
+    /// The text for the desk is no path of a desk of the operator.
     NoDesk,
     /// A diary cannot name the user.
     NoName,
@@ -103,7 +103,7 @@ fn refused(fault: VisitFault) -> Told<'static>
     }
 }
 
-/// Returns what is told of a desk with this fault.
+/// Returns what is told if a command at a desk failed with `fault`.
 fn failed(fault: ToolFault) -> Told<'static>
     ensures { telling result ≡ failed fault }
 {

@@ -44,7 +44,7 @@ pub none_said : (m : ArgMatches) (id : List ℕ) (argument : Argument) (refusal 
 none_said m id argument refusal named is right =
     subst (λ (nothing : Bool). IsRefusal nothing refusal) (sym (ap is_none (text_said m id argument None named is))) right
 
--- If `word` is the text of `argument`, `day_in` returns the day of `read`, which `read_day` returns for its bytes.
+-- If `word` is the text of `argument`, `day_in` returns the day of `read`, which `read_day` returns for `word`.
 -- `day_in` is None if `read` is a fault.
 pub day_read : (m : ArgMatches) (id word bytes : List ℕ) (argument : Argument) (read : Result Date DayFault)
     → id ≡ id_of argument → Some word ≡ first_value (found_of m) id → bytes ≡ word
@@ -53,7 +53,8 @@ day_read m id word bytes argument read named is same reads =
     ap day_said (text_said m id argument (Some word) named is)
     ∙ ap (λ (read : Result Date DayFault). option_map Some (result_ok read)) (sym (reads ∙ ap read_day same))
 
--- If `word` is the text of `--state`, `state_in` returns the state `read`, which `state_named` returns for its bytes.
+-- If `word` is the text of `--state`, `state_in` returns the state `read`, which `state_named` returns for `word`.
+-- `state_in` is None if `read` is None: `word` names no state.
 pub state_read : (m : ArgMatches) (id word bytes : List ℕ) (read : Option State) → id ≡ id_of InState
     → Some word ≡ first_value (found_of m) id → bytes ≡ word
     → read ≡ state_named bytes → state_in (rows_of (found_of m)) ≡ option_map Some read
@@ -61,14 +62,15 @@ state_read m id word bytes read named is same reads =
     ap state_said (text_said m id InState (Some word) named is)
     ∙ ap (λ (read : Option State). option_map Some read) (sym (reads ∙ ap state_named same))
 
--- If `word` is the text of `--ahead`, `ahead_in` returns `read`, which `number_of` returns for its bytes.
+-- If `word` is the text of `--ahead`, `ahead_in` returns `read`, which `number_of` returns for `word`.
 pub ahead_read : (m : ArgMatches) (id word bytes : List ℕ) (read : Option ℕ) → id ≡ id_of Ahead
     → Some word ≡ first_value (found_of m) id → bytes ≡ word
     → read ≡ number_of bytes → ahead_in (rows_of (found_of m)) ≡ read
 ahead_read m id word bytes read named is same reads =
     ap days_said (text_said m id Ahead (Some word) named is) ∙ sym (reads ∙ ap number_of same)
 
--- If `word` is the text of `--last`, `last_in` returns the number `read`, which `number_of` returns for its bytes.
+-- If `word` is the text of `--last`, `last_in` returns the number `read`, which `number_of` returns for `word`.
+-- `last_in` is None if `read` is None: `word` is no number.
 pub last_read : (m : ArgMatches) (id word bytes : List ℕ) (read : Option ℕ) → id ≡ id_of Last
     → Some word ≡ first_value (found_of m) id → bytes ≡ word
     → read ≡ number_of bytes → last_in (rows_of (found_of m)) ≡ option_map Some read
@@ -76,7 +78,8 @@ last_read m id word bytes read named is same reads =
     ap number_said (text_said m id Last (Some word) named is)
     ∙ ap (λ (read : Option ℕ). option_map Some read) (sym (reads ∙ ap number_of same))
 
--- If `word` is the text of `--due-before`, `due_in` returns the day `read`, which `day_or_days` returns for its bytes.
+-- If `word` is the text of `--due-before`, `due_in` returns the day `read`, which `day_or_days` returns for `word`.
+-- `due_in` is None if `read` is None: `word` says no day.
 pub due_read : (m : ArgMatches) (id word bytes : List ℕ) (today : Option Date) (read : Option Date) → id ≡ id_of DueBefore
     → Some word ≡ first_value (found_of m) id → bytes ≡ word
     → read ≡ day_or_days today bytes → due_in today (rows_of (found_of m)) ≡ option_map Some read
@@ -146,7 +149,8 @@ pub said_at : {A B : Type 0} (first : Option A) (value : A) (rest : A → Option
     → first ≡ Some value → rest value ≡ result → (first >>= rest) ≡ result
 said_at {A} first value rest result is right = subst (λ (said : Option A). (said >>= rest) ≡ result) (sym is) right
 
--- If `first` is `value`, a `refusal` that is justified for `second` is justified for all, which `next` makes of both.
+-- If `first` is `value`, a `refusal` that is justified for `second` is justified for the chain of all three: `first`,
+-- then `second`, then `next` of both values.
 pub refused_after : {A B C : Type 0} (first : Option A) (value : A) (second : Option B) (next : A → B → Option C)
     (refusal : Refusal)
     → first ≡ Some value
@@ -155,8 +159,8 @@ refused_after {A} first value second next refusal is right =
     subst (λ (first : Option A). IsRefusal (is_none (first >>= λ value. second >>= next value)) refusal) (sym is)
     (refused_on second (next value) refusal right)
 
--- If `first` is `a` and `second` is `b`, a `refusal` that is justified for `third` is justified for all. `next` makes
--- all of the three.
+-- If `first` is `a` and `second` is `b`, a `refusal` that is justified for `third` is justified for the chain. The
+-- chain is `first`, then `second`, then `third`, then `next` of the three values.
 pub refused_third : {A B C D : Type 0} (first : Option A) (a : A) (second : Option B) (b : B) (third : Option C)
     (next : A → B → C → Option D) (refusal : Refusal)
     → first ≡ Some a
@@ -172,8 +176,8 @@ pub read_after : {A B C : Type 0} (first : Option A) (a : A) (next : A → Optio
 read_after first a next of result is right =
     subst (λ read. ReadsValue of (read >>= next) result) (sym is) right
 
--- `met` says that `--` is the last of the first `first` words, which stand before `action`. Then it says so of the
--- texts of `words` before the texts of `action`.
+-- `first` is the number of the words before `action`. `met` is true if and only if the last of them is `--`. Then
+-- `end_with_dashes` returns `met` for the texts of `words` before the texts of `action`.
 dashes_met : (words action : List (Bor (List ℕ))) (first : ℕ) (met : Bool) → first ≡ length words - length action
     → met ≡ end_with_dashes (map (λ word. word.now) (take first words))
     → end_with_dashes (take (length (map (λ word. word.now) words) - length (map (λ word. word.now) action))
@@ -191,8 +195,8 @@ any_text : (test : List ℕ → Bool) (words : List (Bor (List ℕ)))
 any_text test [] = refl
 any_text test (word ∷ words) = ap (λ (rest : Bool). test word.now || rest) (any_text test words)
 
--- `met` says that `--` is the last of the first `first` words, which stand before `action`. Then `has_option` is true
--- if and only if `met` is false and a word of `action` is an option.
+-- `first` is the number of the words before `action`. `met` is true if and only if the last of them is `--`. Then
+-- `has_option` is true if and only if `met` is false and a word of `action` is an option.
 pub options_met : (words action : List (Bor (List ℕ))) (first : ℕ) (met : Bool) → first ≡ length words - length action
     → met ≡ end_with_dashes (map (λ word. word.now) (take first words))
     → has_option (map (λ word. word.now) words) (map (λ word. word.now) action)

@@ -64,7 +64,7 @@ Found = List Row
 abbrev pub text_of : Argument → Found → Option (List ℕ)
 text_of argument found = first_of (id_of argument) found
 
--- Returns the role in the arguments, if it is one.
+-- Returns the role that the argument `Role` names, or None if it names no role.
 abbrev pub role_of : Found → Option Role
 role_of found = text_of arguments.Role found >>= who_named
 
@@ -101,8 +101,8 @@ words_if false words = None
 abbrev pub note_words_of : Found → Option (List (List ℕ))
 note_words_of found = texts_of NoteWords found >>= λ words. words_if (is_note (note_text words)) words
 
--- Returns the day that an optional word encodes, with hyphens or without. It is Some None without a word, and None if the
--- word is no day.
+-- Returns the day that an optional word encodes, with hyphens or without. It is Some None without a word, and None if
+-- the word is no day.
 abbrev pub day_said : Option (List ℕ) → Option (Option Date)
 day_said None = Some None
 day_said (Some word) = option_map Some (day_of_text word)
@@ -111,8 +111,8 @@ day_said (Some word) = option_map Some (day_of_text word)
 abbrev pub day_in : Argument → Found → Option (Option Date)
 day_in argument found = day_said (text_of argument found)
 
--- Returns the name that an optional word encodes. It is Some None without a word, and None if the word is no name. None too
--- if a name is given without a day.
+-- Returns the name that an optional word encodes. It is Some None without a word, and None if the word is no name. None
+-- too if a name is given without a day.
 abbrev pub name_said : (has_day : Bool) → Option (List ℕ) → Option (Option (List ℕ))
 name_said has_day None = Some None
 name_said has_day (Some word) = option_map Some (text_if (has_day && is_name word) word)
@@ -135,7 +135,7 @@ stamp_on (Some day, by) = Some (record { day = day; by = by })
 abbrev pub stamp_of : Found → Option (Option Stamped)
 stamp_of found = option_map stamp_on (day_and_name_of NightDay found)
 
--- Returns the stamp, unless there is one and no message is kept.
+-- Returns the optional stamp. It is None if there is a stamp and `is_kept` is false: no message is kept.
 abbrev pub stamp_unless : (is_kept : Bool) → Option Stamped → Option (Option Stamped)
 stamp_unless is_kept None = Some None
 stamp_unless true (Some stamp) = Some (Some stamp)
@@ -145,7 +145,7 @@ stamp_unless false (Some stamp) = None
 abbrev pub stamp_if : (is_kept : Bool) → Found → Option (Option Stamped)
 stamp_if is_kept found = stamp_of found >>= stamp_unless is_kept
 
--- Returns the day of an argument that must be given, if it is one.
+-- Returns the day of an argument that must be given. It is None if the argument is missing or is no day.
 abbrev pub day_given : Argument → Found → Option Date
 day_given argument found = text_of argument found >>= day_of_text
 
@@ -163,8 +163,8 @@ state_said (Some word) = option_map Some (state_named word)
 abbrev pub state_in : Found → Option (Option State)
 state_in found = state_said (text_of InState found)
 
--- Returns the number that an optional word encodes, from 1 to 255. It is Some None without a word, and None if the word is
--- no number.
+-- Returns the number that an optional word encodes, from 1 to 255. It is Some None without a word, and None if the word
+-- is no number.
 abbrev pub number_said : Option (List ℕ) → Option (Option ℕ)
 number_said None = Some None
 number_said (Some word) = option_map Some (number_of word)
@@ -173,7 +173,7 @@ number_said (Some word) = option_map Some (number_of word)
 abbrev pub last_in : Found → Option (Option ℕ)
 last_in found = number_said (text_of Last found)
 
--- Returns the number of a message in the arguments, if it is one.
+-- Returns the number of a message in the arguments, from 1 to 255. It is None if the argument is no such number.
 abbrev pub number_of_message : Found → Option ℕ
 number_of_message found = text_of Number found >>= number_of
 
@@ -200,7 +200,8 @@ days_said (Some word) = number_of word
 abbrev pub ahead_in : Found → Option ℕ
 ahead_in found = days_said (text_of Ahead found)
 
--- Returns the day that is a number of days after `today`, from 1 to 255.
+-- Returns the day that is as many days after `today` as `digits` say. It is None if they are no number from 1 to 255,
+-- or if the calendar has no such day.
 abbrev pub days_on : Date → List ℕ → Option Date
 days_on today digits = number_of digits >>= λ days. result_ok (day_after days today)
 
@@ -211,7 +212,8 @@ day_or_days (Some today) [] = day_of_text []
 day_or_days (Some today) (byte ∷ digits) =
     if byte == 0x2B then days_on today digits else day_of_text (byte ∷ digits)
 
--- Returns the day of an optional word, as `day_or_days` does. It is Some None without a word.
+-- Returns the day of an optional word, as `day_or_days` does. It is Some None without a word, and None if the word says
+-- no day.
 abbrev pub due_said : Option Date → Option (List ℕ) → Option (Option Date)
 due_said today None = Some None
 due_said today (Some word) = option_map Some (day_or_days today word)
@@ -239,7 +241,8 @@ wanted_on today since found = do
     since = since;
   })
 
--- Returns the conditions on the loans to list, on the day that is given, if one is.
+-- Returns the conditions on the loans to list, if each argument is valid. The day of the work and the day of the news
+-- are optional arguments.
 abbrev pub wanted_of : Found → Option Wanted
 wanted_of found = day_in OnDay found >>= λ today. day_in Since found >>= λ since. wanted_on today since found
 
@@ -247,18 +250,19 @@ wanted_of found = day_in OnDay found >>= λ today. day_in Since found >>= λ sin
 abbrev pub form_of : Found → Form
 form_of found = if is_set Json found then forms.Json else forms.Lines
 
--- Returns the outlet of messages: a folder, or None for the output. Exactly one of the flag and the folder
--- must be given.
+-- Returns the outlet of messages: Some of a folder, or Some None for the output. It is None unless exactly one of two
+-- is given: the folder, or the flag for the output (the Bool).
 abbrev pub outlet : Bool → Option (List ℕ) → Option (Option (List ℕ))
 outlet false (Some folder) = Some (Some folder)
 outlet true None = Some None
 outlet is_stream folder = None
 
--- Returns the outlet in the arguments, if there is exactly one.
+-- Returns the outlet in the arguments, as `outlet` does.
 abbrev pub outlet_of : Found → Option (Option (List ℕ))
 outlet_of found = outlet (is_set Stream found) (text_of OutFolder found)
 
--- Returns the key of letters. It is Some None if none is given, and None if one is given for messages that are streamed.
+-- Returns the key of letters. It is Some None if none is given, and None if one is given for messages that are
+-- streamed.
 abbrev pub key_if : (is_streamed : Bool) → Option (List ℕ) → Option (Option (List ℕ))
 key_if true (Some key) = None
 key_if true None = Some None
@@ -297,9 +301,10 @@ deed_by false false = Some deeds.Make
 abbrev pub deed_of : Found → Option KeyDeed
 deed_of found = deed_by (is_set ShowKey found) (is_set ReadKey found)
 
--- ---- the commands
+-- ---- the requests of the commands
 
--- The request of a command line, with its arguments as texts and values.
+-- The request of a command line, with its arguments as texts and values. `Request` in `src/request.rt` has the same
+-- variants, and says of each field what it is.
 pub data Asked : Type 0 where
   Show : (form : Form) → Asked
   Check : Asked
@@ -363,8 +368,8 @@ asked (requests.Report paths today since) = Report (map (λ path. path.now) path
 asked (requests.Retire file group) = Retire file.now group.now
 asked (requests.Verify file form) = Verify file.now form
 
--- Returns the file of the desk that a request may change, from which it sends, or beside which it keeps a note. Or it
--- returns the file of a key.
+-- Returns the file of the desk that a request may change or from which it sends. `Note` keeps a note beside this file.
+-- Of `Key` it returns the file of the key, and of each other request None.
 abbrev pub desk_at_stake : Asked → Option (List ℕ)
 desk_at_stake (New file role) = Some file
 desk_at_stake (Act file asking by is_long is_new_group) = Some file
@@ -518,9 +523,10 @@ unless_option words other = Some other
 abbrev pub said_free : (words : List (List ℕ)) → Option Asked → Option Asked
 said_free words said = said >>= unless_option words
 
--- ---- the reading of the words
+-- ---- the results of the reading: values and justified refusals
 
--- The refusal is justified: the words have no request (`is_nothing`), or memory ran out.
+-- The refusal is justified: the arguments say nothing valid (`is_nothing`), or memory ran out. No other fault is
+-- justified.
 abbrev pub IsRefusal : Bool → Refusal → Type 0
 IsRefusal is_nothing (Usage error) = is_nothing ≡ true
 IsRefusal is_nothing (Fault Arguments) = is_nothing ≡ true

@@ -49,7 +49,7 @@ name_read word = find (λ name. bytes_eq (word_of name) word)
     (New ∷ Act ∷ names.List ∷ News ∷ Loan ∷ Note ∷ Slip ∷ Status ∷ Report ∷ Figures ∷ Take ∷ Send ∷ Inbox ∷ Outbox ∷ Exchange
     ∷ Key ∷ Verify ∷ Show ∷ Check ∷ Simulate ∷ SimulateDesks ∷ Retire ∷ [])
 
--- Returns the name that `clap` has for an argument.
+-- Returns the name that `clap` has for an argument. Arguments of different commands may have the same name.
 abbrev pub id_of : Argument → List ℕ
 id_of NewFile = codes "FILE"
 id_of File = codes "FILE"
@@ -103,7 +103,7 @@ id_of ShowKey = codes "show"
 id_of ReadKey = codes "read"
 id_of Explain = codes "explain"
 
--- All options of the program.
+-- All options of the program, also those that `clap` adds.
 abbrev pub options : List (List ℕ)
 options =
     codes "--today" ∷ codes "--by" ∷ codes "--seen" ∷ codes "--dry-run" ∷ codes "--ahead" ∷ codes "--due-before"

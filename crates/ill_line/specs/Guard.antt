@@ -14,6 +14,6 @@ IsGuardedAt file Arguments = IsSomeAnd (path_file_name file) IsNamedOnShelf
 IsGuardedAt file fault = IsOpenFault fault
 
 -- The guard may answer a request with the fault. It lets each request through that changes no desk, sends from none,
--- and keeps no note.
+-- keeps no note and names no file of a key.
 abbrev pub IsGuarded : Asked → ToolFault → Type 0
 IsGuarded asked fault = IsSomeAnd (desk_at_stake asked) (λ file. IsGuardedAt file fault)

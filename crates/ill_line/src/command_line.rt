@@ -69,7 +69,7 @@ pub(crate) const NAMES: [Name; 22] = [
     Name::Retire,
 ];
 
-/// The commands on a shelf.
+/// The commands on a shelf, in the order of the help.
 pub(crate) const SHELF_NAMES: [Name; 12] = [
     Name::New,
     Name::Act,
@@ -388,7 +388,7 @@ pub enum Argument {
     Overdue,
     /// Set if a responder ends each request whose expiry date is past.
     Expire,
-    /// The file of a copy.
+    /// The file to which a night copies its desk before it sends. On a shelf it is a folder of copies.
     Copy,
     /// The file that is written anew at the end of a run, as a sign of life.
     Beat,
@@ -402,7 +402,7 @@ pub enum Argument {
     Today,
     /// The name of the person who gives a command.
     By,
-    /// What was shown of the loan before an action.
+    /// The text with which the loan was shown. The action is done only if the loan still stands so.
     Seen,
     /// Set if an action is only tried.
     DryRun,
@@ -454,7 +454,7 @@ pub enum Argument {
     Csv,
     /// The day from which on news are shown.
     Since,
-    /// The number of messages that are shown.
+    /// The number of messages that are shown: the last ones.
     Last,
     /// Set if a shelf may begin a desk for the group of a loan.
     NewGroup,
@@ -468,8 +468,8 @@ pub enum Argument {
     ShowKey,
     /// Set if a key is read from the input.
     ReadKey,
-    /// Set if more is said of a fault. Each command has it, and it is no global option of `clap`: of matches with one the
-    /// contracts of `clap` say nothing.
+    /// Set if more is said of a fault. Each command has it, and it is no global option of `clap`: of matches with one
+    /// the contracts of `clap` say nothing.
     Explain,
 }
 
@@ -643,7 +643,8 @@ impl Argument {
         }
     }
 
-    /// Returns the word that stands for it, or for its value, if it has one. `is_on_shelf` is true of a command on a shelf.
+    /// Returns the word that stands for it, or for its value, if it has one. `is_on_shelf` is true of a command on a
+    /// shelf.
     pub(crate) fn value<'a>(self, is_on_shelf: bool) -> Option<&'a str> {
         match self.value_on_shelf() {
             Some(value) if is_on_shelf => Some(value),

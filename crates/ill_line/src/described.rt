@@ -75,7 +75,8 @@ fn push_arguments(
     Ok(())
 }
 
-/// Appends an argument of a command. An argument of no command is one of the program, and of each command.
+/// Appends `argument`, an argument of the command `entry`. Without a command it is one of the program and of each
+/// command.
 fn push_argument(
     text: &mut Vec<u8>,
     entry: Option<&Entry<'_>>,

@@ -14,7 +14,7 @@ pub struct Entry<'a> {
     pub about: &'a str,
     /// The text of its help.
     pub help: &'a str,
-    /// The example below its help.
+    /// The example below its help, if it has one.
     pub example: Option<&'a str>,
     /// The arguments of the command, in their order.
     pub arguments: &'a [Argument],

@@ -6,7 +6,7 @@ use crate::help;
 use clap::{Command, Error};
 use std::alloc::Global;
 
-/// Returns the command line of `ill`.
+/// Returns the parser of the command line of `ill`, with all commands.
 pub fn command<'a>(alloc: Global) -> Result<Command<'a>, Error> {
     let mut command = Command::new(alloc, "ill")
         .about(ABOUT)
@@ -20,7 +20,7 @@ pub fn command<'a>(alloc: Global) -> Result<Command<'a>, Error> {
     Ok(command.subcommand(shelf(alloc)?)?)
 }
 
-/// Returns the command line of the commands on a shelf.
+/// Returns the parser of `ill shelf`, with the commands on a shelf.
 fn shelf<'a>(alloc: Global) -> Result<Command<'a>, Error> {
     let mut command = subcommand(alloc, &Entry::SHELF)?.subcommand_required(true);
     for name in &SHELF_NAMES {
@@ -29,7 +29,7 @@ fn shelf<'a>(alloc: Global) -> Result<Command<'a>, Error> {
     Ok(command)
 }
 
-/// Returns the command line of a command.
+/// Returns the parser of the command `entry`: its help, its arguments and `--explain`.
 fn subcommand<'a>(alloc: Global, entry: &Entry<'a>) -> Result<Command<'a>, Error> {
     let mut command = Command::new(alloc, entry.word)
         .about(entry.about)
@@ -42,7 +42,7 @@ fn subcommand<'a>(alloc: Global, entry: &Entry<'a>) -> Result<Command<'a>, Error
     Ok(command.arg(Argument::Explain.arg(alloc, false))?)
 }
 
-/// Returns the command line of a command with these arguments after its others.
+/// Returns the parser `command` with `arguments` after its others. `is_on_shelf` is true if it is a command on a shelf.
 fn with_arguments<'a>(
     alloc: Global,
     mut command: Command<'a>,

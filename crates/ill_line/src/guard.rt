@@ -14,7 +14,9 @@ use std::alloc::Global;
 use std::path::Path;
 use std::rt::Files;
 
-/// Refuses a request that would change a desk of a shelf, send from it, or keep a note beside it. Opens nothing.
+/// Refuses a request that would change a desk of a shelf, send from it, or keep a note beside it. Refuses also a key
+/// with the name of such a desk. Fails if the folder of the file cannot be looked at, or memory runs out. Opens
+/// nothing.
 pub fn refuse_desk_of_shelf<T: Files>(
     rt: &T,
     alloc: Global,
@@ -28,7 +30,7 @@ pub fn refuse_desk_of_shelf<T: Files>(
     }
 }
 
-/// Refuses `file` if it has the name of a desk of a shelf, and a shelf is in its folder.
+/// Refuses `file` with `Arguments` if its name is that of a desk of a shelf, and its folder is a shelf.
 fn refuse_on_shelf<T: Files>(rt: &T, alloc: Global, file: &str) -> Result<(), ToolFault>
     ensures { IfErr result (IsGuardedAt file.now) }
 {
@@ -41,7 +43,7 @@ fn refuse_on_shelf<T: Files>(rt: &T, alloc: Global, file: &str) -> Result<(), To
     Ok(())
 }
 
-/// Returns true if there is a shelf in `folder`.
+/// Returns true if there is a shelf in `folder`. Fails if the folder cannot be looked at, or memory runs out.
 fn has_shelf<T: Files>(rt: &T, alloc: Global, folder: &str) -> Result<bool, ToolFault>
     ensures { IfErr result IsOpenFault }
 {

@@ -35,7 +35,7 @@ use ill_values::{Day, Number, TextFault, TxnId};
 use ill_words::words::{number, who};
 use std::alloc::{AllocError, Global};
 
-/// The request of a command line.
+/// The request of a command line, for one desk or for a shelf. On a shelf `file` is the path of its folder.
 #[derive(Drop)]
 pub enum Request<'a> {
     /// Show each APDU of the input: `ill show`.
@@ -126,7 +126,7 @@ pub enum Request<'a> {
     Key {
         /// The path of the file of the key.
         file: &'a str,
-        /// What is done.
+        /// The deed: the key is made, shown or read.
         deed: KeyDeed,
     },
     /// Give the bytes of a message: `ill send`.
@@ -227,8 +227,8 @@ pub enum Request<'a> {
 }
 
 impl<'a> Request<'a> {
-    /// Returns the file of the desk that the request may change, from which it sends, or beside which it keeps a note. Or
-    /// it returns the file of a key.
+    /// Returns the file of the desk that the request may change or from which it sends. `Note` keeps a note beside this
+    /// file. Of `Key` it returns the file of the key, and of each other request None.
     pub fn desk_at_stake(&self) -> Option<&'a str>
         ensures { option_map (λ file. file.now) result ≡ desk_at_stake (asked self.now) }
     {
@@ -247,7 +247,7 @@ impl<'a> Request<'a> {
     }
 }
 
-/// The reason why words are no request.
+/// The reason why words are not read as a request.
 #[derive(Drop)]
 pub enum Refusal {
     /// The words are no command, or ask for help. `clap` has the text.
@@ -256,6 +256,7 @@ pub enum Refusal {
     Fault(ToolFault),
 }
 
+/// An error of `clap` is a refusal of the words.
 impl From<Error> for Refusal {
     ghost from_gives = { λ error refusal. refusal ≡ Usage error };
 
@@ -264,6 +265,7 @@ impl From<Error> for Refusal {
     }
 }
 
+/// A fault of an argument, or of memory, is a refusal.
 impl From<ToolFault> for Refusal {
     ghost from_gives = { λ fault refusal. refusal ≡ Fault fault };
 
@@ -272,6 +274,7 @@ impl From<ToolFault> for Refusal {
     }
 }
 
+/// A refused allocation is the refusal that memory ran out.
 impl From<AllocError> for Refusal {
     ghost from_gives = { λ _ refusal. refusal ≡ Fault OutOfMemory };
 
@@ -285,7 +288,7 @@ impl From<AllocError> for Refusal {
 pub enum Call<'a> {
     /// A request to one desk, or to none.
     Desk(Request<'a>),
-    /// A request to a shelf: `ill shelf`.
+    /// A request to a shelf: `ill shelf`. Its `file` is the path of the shelf's folder.
     Shelf(Request<'a>),
     /// A request for the command line itself, as objects of JSON: `ill help --json`.
     Help,
@@ -294,7 +297,7 @@ pub enum Call<'a> {
 /// The word after which no word is an option.
 pub const DASHES: &str = "--";
 
-/// Reads the words of a command line. The first word is the name of the program.
+/// Returns the call that the words of a command line ask for. The first word is the name of the program.
 pub fn read_words<'a>(alloc: Global, words: &'a [&'a str]) -> Result<Call<'a>, Refusal>
     ensures { asks_for_help (map (λ word. word.now) words.now) ≡ true → result ≡ Ok Help }
 {
@@ -304,8 +307,8 @@ pub fn read_words<'a>(alloc: Global, words: &'a [&'a str]) -> Result<Call<'a>, R
     parsed(alloc, words)
 }
 
-/// Returns true if `words` ask for the command line itself. No help tells of them: only the tools of this repository ask
-/// for it.
+/// Returns true if `words` ask for the command line itself. No help tells of them: only the tools of this repository
+/// ask for it.
 fn asks_for_help(words: &[&str]) -> bool
     ensures { result ≡ asks_for_help (map (λ word. word.now) words.now) }
 {
@@ -315,7 +318,8 @@ fn asks_for_help(words: &[&str]) -> bool
     }
 }
 
-/// Returns the request of the command that `clap` finds in the words of a command line.
+/// Returns the request of the command that `clap` finds in the words of a command line. After the word `shelf` it is a
+/// request to a shelf.
 fn parsed<'a>(alloc: Global, words: &'a [&'a str]) -> Result<Call<'a>, Refusal> {
     let matches = command(alloc)?.try_get_matches_from(words)?;
     match matches.subcommand() {
@@ -324,8 +328,8 @@ fn parsed<'a>(alloc: Global, words: &'a [&'a str]) -> Result<Call<'a>, Refusal> 
     }
 }
 
-/// Returns the request of the command in `matches`. `words` are the whole command line. An action and a note may have no
-/// option of the program among their words.
+/// Returns the request of the command in `matches`. `words` are the whole command line. An action and a note may have
+/// no option of the program among their words.
 fn read<'a>(alloc: Global, words: &[&str], matches: &ArgMatches<'a>) -> Result<Request<'a>, Refusal>
     ensures { ReadsValue asked (said_free (map (λ word. word.now) words.now) (asked_in (subcommand_rows_of matches.now))) result }
 {
@@ -350,8 +354,8 @@ fn has_option_of(words: &[&str], request: &Request<'_>) -> bool
     }
 }
 
-/// Returns true if an option of the program is in `action`, with which `words` end. If `--` stands right before `action`,
-/// none is an option.
+/// Returns true if an option of the program is in `action`, with which `words` end. If `--` stands right before
+/// `action`, none is an option.
 pub fn has_option(words: &[&str], action: &[&str]) -> bool
     ensures { result ≡ has_option (map (λ word. word.now) words.now) (map (λ word. word.now) action.now) }
 {
@@ -376,7 +380,7 @@ fn end_with_dashes(words: &[&str]) -> bool
     }
 }
 
-/// Returns the request of the command in `matches`.
+/// Returns the request of the command in `matches`, whatever words an action or a note has.
 fn found<'a>(alloc: Global, matches: &ArgMatches<'a>) -> Result<Request<'a>, Refusal>
     ensures { ReadsValue asked (asked_in (subcommand_rows_of matches.now)) result }
 {
@@ -441,7 +445,8 @@ fn new_request<'a>(alloc: Global, matches: &ArgMatches<'a>) -> Result<Request<'a
     Ok(Request::New { file, role })
 }
 
-/// Returns the path of a new desk or shelf, or of a key. None may have the ending of a file beside a desk.
+/// Returns the path of a new desk or shelf, or of a key, in `argument`. Refuses a path with the ending of a file beside
+/// a desk.
 fn new_file<'a>(
     alloc: Global,
     matches: &ArgMatches<'a>,
@@ -582,8 +587,8 @@ fn outbox_request<'a>(alloc: Global, matches: &ArgMatches<'a>) -> Result<Request
     Ok(Request::Outbox { file, folder, key })
 }
 
-/// Returns the path of the key of the letters that leave, if one is given. None may be given for messages that go to the
-/// output.
+/// Returns the path of the key of the letters that leave, if one is given. None may be given for messages that go to
+/// the output.
 fn key_of_outlet<'a>(matches: &ArgMatches<'a>) -> Result<Option<&'a str>, Refusal>
     ensures { ReadsValue (λ key. option_map (λ text. text.now) key) (key_of_outlet (rows_of (found_of matches.now))) result }
 {
@@ -692,7 +697,7 @@ fn key_request<'a>(alloc: Global, matches: &ArgMatches<'a>) -> Result<Request<'a
     }
 }
 
-/// Returns what `ill key` does, by its flags. They may not both be set.
+/// Returns what `ill key` does, by its flags. Returns None if both are set.
 fn key_deed(is_shown: bool, is_read: bool) -> Option<KeyDeed>
     ensures { result ≡ deed_by is_shown is_read }
 {
@@ -901,7 +906,7 @@ fn loan(alloc: Global, matches: &ArgMatches<'_>) -> Result<TxnId, Refusal>
     }
 }
 
-/// Returns the conditions on the loans to list.
+/// Returns the conditions on the loans to list, with the days of the options `--today` and `--since`.
 fn wanted(matches: &ArgMatches<'_>) -> Result<Wanted, Refusal>
     ensures { ReadsValue (λ wanted. wanted) (wanted_of (rows_of (found_of matches.now))) result }
 {
@@ -910,7 +915,8 @@ fn wanted(matches: &ArgMatches<'_>) -> Result<Wanted, Refusal>
     wanted_on(matches, &today, &since)
 }
 
-/// Returns the conditions on the loans to list on the day `today`, if it is given. News are told from the day `since` on.
+/// Returns the conditions on the loans to list on the day `today`, if it is given. News are told from the day `since`
+/// on.
 fn wanted_on(
     matches: &ArgMatches<'_>,
     today: &Option<Day>,
@@ -984,7 +990,8 @@ fn day_or_days(word: &[u8], today: Option<Day>) -> Option<Day>
     }
 }
 
-/// Returns the day that lies a number of days after `today`, if `digits` are one and the calendar has it.
+/// Returns the day that lies as many days after `today` as `digits` say. Returns None if they are no number from 1 to
+/// 255, or the calendar has no such day.
 fn days_on(today: Day, digits: &[u8]) -> Option<Day>
     ensures { result ≡ days_on today digits.now }
 {
@@ -1062,7 +1069,7 @@ fn is_set(matches: &ArgMatches<'_>, flag: Argument) -> bool
     }
 }
 
-/// Returns the number of a message.
+/// Returns the number of the message in the arguments. Refuses a number that is not from 1 to 255.
 fn message_number(alloc: Global, matches: &ArgMatches<'_>) -> Result<Number, Refusal>
     ensures { ReadsValue (λ number. number) (number_of_message (rows_of (found_of matches.now))) result }
 {
@@ -1101,7 +1108,8 @@ fn text<'a>(alloc: Global, matches: &ArgMatches<'a>, argument: Argument) -> Resu
     }
 }
 
-/// Returns the refusal of matches that lack a required argument. `clap` lets no such matches through.
+/// Returns the refusal of matches that lack a command or a required argument. `clap` lets no such matches through. The
+/// refusal is out of memory if memory for its text is refused.
 fn unknown(alloc: Global) -> Refusal
     ensures { IsRefusal true result }
 {
@@ -1115,7 +1123,7 @@ fn unknown(alloc: Global) -> Refusal
     }
 }
 
-/// Returns the transaction id with these qualifiers.
+/// Returns the transaction id with these qualifiers. Fails with `Arguments` if a qualifier is invalid.
 pub fn id(alloc: Global, group: &str, transaction: &str) -> Result<TxnId, ToolFault>
     ensures { GivesId (txn_id_of group.now transaction.now) result }
 {

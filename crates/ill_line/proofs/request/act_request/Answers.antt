@@ -2,6 +2,6 @@
 use Rattle.ill_line.proofs.RequestLemmas.{refused_at, refused_on}
 use Rattle.ill_line.proofs.request.act_request.Goals as goal
 
--- The path was read. A justified refusal of the day or of the name is one of the request.
+-- The path was read. A justified refusal of the day or of the name is a justified refusal of the request.
 pub returns-in-Err : goal.returns-in-Err
 returns-in-Err c = refused_at _ _ _ _ c.in_ok-file.ensures (refused_on _ _ _ c.in-Err.ensures)

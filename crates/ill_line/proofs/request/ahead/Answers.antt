@@ -13,11 +13,12 @@ returns-in-Some-number c =
     c.as_bytes.ensures.value c.in-Some-number.ensures
     ∙ ap Some (sym (c.into.ensures ∙ c.get.ensures.value))
 
--- Proves the contract of `ahead` if the word is no number. By `ahead_read` the argument has none.
+-- Proves the contract of `ahead` if the word is no number. By `ahead_read`, `ahead_in` is None, so the refusal is
+-- justified.
 pub returns-in-None-number : goal.returns-in-None-number
 returns-in-None-number c = ap is_none
     (ahead_read c.args.matches.now _ _ _ None c.id.ensures c.in-Some.ensures c.as_bytes.ensures.value c.in-None-number.ensures)
 
--- Proves the contract of `ahead` if the argument has no word. By `text_said` its number is `SOON`.
+-- Proves the contract of `ahead` if the option is not given. By `text_said`, `ahead_in` is then the number `SOON`.
 pub returns-in-None : goal.returns-in-None
 returns-in-None c = ap days_said (text_said c.args.matches.now _ Ahead None c.id.ensures c.in-None.ensures)

@@ -10,11 +10,11 @@ pub returns-in-Ok : goal.returns-in-Ok
 returns-in-Ok c = day_read c.args.matches.now _ _ _ c.args.argument (Ok c.in-Ok.day) c.id.ensures c.in-Some.ensures
     c.as_bytes.ensures.value c.in-Ok.ensures
 
--- Proves the contract of `day` if the word is no day. By `day_read` the argument has none.
+-- Proves the contract of `day` if the word is no day. By `day_read`, `day_in` is None: the refusal is justified.
 pub returns-in-Err : goal.returns-in-Err
 returns-in-Err c = ap is_none (day_read c.args.matches.now _ _ _ c.args.argument (Err c.in-Err.field-0) c.id.ensures
     c.in-Some.ensures c.as_bytes.ensures.value c.in-Err.ensures)
 
--- Proves the contract of `day` if the argument has no word. By `text_said` its day is left out.
+-- Proves the contract of `day` if the option is not given. By `text_said`, `day_in` is then Some None.
 pub returns-in-None : goal.returns-in-None
 returns-in-None c = ap day_said (text_said c.args.matches.now _ c.args.argument None c.id.ensures c.in-None.ensures)

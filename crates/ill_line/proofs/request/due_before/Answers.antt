@@ -11,12 +11,13 @@ pub returns-in-Some-day_or_days : goal.returns-in-Some-day_or_days
 returns-in-Some-day_or_days c = due_read c.args.matches.now _ _ _ c.args.today (Some c.in-Some-day_or_days.day) c.id.ensures
     c.in-Some.ensures c.as_bytes.ensures.value c.in-Some-day_or_days.ensures
 
--- Proves the contract of `due_before` if the word is no day. By `due_read` the argument has none.
+-- Proves the contract of `due_before` if the word says no day. By `due_read`, `due_in` is None, so the refusal is
+-- justified.
 pub returns-in-None-day_or_days : goal.returns-in-None-day_or_days
 returns-in-None-day_or_days c = ap is_none
     (due_read c.args.matches.now _ _ _ c.args.today None c.id.ensures c.in-Some.ensures c.as_bytes.ensures.value
     c.in-None-day_or_days.ensures)
 
--- Proves the contract of `due_before` if the argument has no word. By `text_said` its day is left out.
+-- Proves the contract of `due_before` if the option is not given. By `text_said`, `due_in` is then Some None.
 pub returns-in-None : goal.returns-in-None
 returns-in-None c = ap (due_said c.args.today) (text_said c.args.matches.now _ DueBefore None c.id.ensures c.in-None.ensures)

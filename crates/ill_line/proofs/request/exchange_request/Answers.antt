@@ -2,7 +2,7 @@
 use Rattle.ill_line.proofs.RequestLemmas.{refused_at, refused_on}
 use Rattle.ill_line.proofs.request.exchange_request.Goals as goal
 
--- The paths were read. A justified refusal of the deeds or of the stamp is one of the request.
+-- The paths were read. A justified refusal of the deeds or of the stamp is a justified refusal of the request.
 pub returns-in-Err : goal.returns-in-Err
 returns-in-Err c =
     refused_at _ _ _ _ c.in_ok-file.ensures (refused_at _ _ _ _ c.in_ok-incoming.ensures

@@ -4,7 +4,7 @@ use Rattle.ill_line.specs.Asked.{is_true}
 use Rattle.ill_line.proofs.RequestLemmas.{text_said}
 use Rattle.ill_line.proofs.request.is_set.Goals as goal
 
--- Proves the contract of `is_set` if the flag has a text. The flag is set exactly if this is `true`.
+-- Proves the contract of `is_set` if the flag has a text. The flag is set if and only if this text is `true`.
 pub returns-in-Some : goal.returns-in-Some
 returns-in-Some c = c.eq.ensures
     ∙ sym (ap is_true (text_said c.args.matches.now c.id.result.now c.args.flag (Some c.in-Some.text.now) c.id.ensures

@@ -11,11 +11,11 @@ pub returns-in-Some-number : goal.returns-in-Some-number
 returns-in-Some-number c = last_read c.args.matches.now _ _ _ (Some c.in-Some-number.last) c.id.ensures c.in-Some.ensures
     c.as_bytes.ensures.value c.in-Some-number.ensures
 
--- Proves the contract of `last` if the word is no number. By `last_read` the argument has none.
+-- Proves the contract of `last` if the word is no number. By `last_read`, `last_in` is None: the refusal is justified.
 pub returns-in-None-number : goal.returns-in-None-number
 returns-in-None-number c = ap is_none
     (last_read c.args.matches.now _ _ _ None c.id.ensures c.in-Some.ensures c.as_bytes.ensures.value c.in-None-number.ensures)
 
--- Proves the contract of `last` if the argument has no word. By `text_said` its number is left out.
+-- Proves the contract of `last` if the option is not given. By `text_said`, `last_in` is then Some None.
 pub returns-in-None : goal.returns-in-None
 returns-in-None c = ap number_said (text_said c.args.matches.now _ Last None c.id.ensures c.in-None.ensures)

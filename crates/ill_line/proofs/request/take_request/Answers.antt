@@ -8,7 +8,7 @@ use Rattle.ill_line.specs.Asked.{IsRefusal, stamp_if}
 use Rattle.ill_line.proofs.RequestLemmas.{refused_at, refused_on, said_at}
 use Rattle.ill_line.proofs.request.take_request.Goals as goal
 
--- The path was read. A justified refusal of the stamp is one of the request.
+-- The path was read. A justified refusal of the stamp is a justified refusal of the request.
 pub returns-in-Err : goal.returns-in-Err
 returns-in-Err c = refused_at _ _ _ _ c.in_ok-file.ensures (refused_on _ _ _
     (subst (λ (is_kept : Bool). IsRefusal (is_none (stamp_if is_kept (rows_of (found_of c.args.matches.now)))) c.in-Err.refusal)

@@ -39,7 +39,8 @@ fn role_at<T: Files>(rt: &T, alloc: Global, file: &str) -> Option<Role> {
     Some(desk.sides().role())
 }
 
-/// Appends the lines about `words`, which name no action of `role`. The first is the verb, the others are its parts.
+/// Appends the lines about `words`, which name no action of `role` on the day `today`. The first is the verb, the
+/// others are its parts. Appends nothing if there are no words.
 fn tell_words(
     alloc: Global,
     text: &mut String,
@@ -92,7 +93,7 @@ fn tell_no_verb(
     }
 }
 
-/// Appends a line about a verb that only the other role has, and the verbs of this one.
+/// Appends a line about the verb of `form`, which only the other role has. A line with the verbs of `role` follows.
 fn tell_other_role(text: &mut String, role: Role, form: Form) -> Result<(), OutOfMemory> {
     let verb = form.verb;
     let other = form.role.name();
@@ -185,7 +186,7 @@ fn tell_no_result(text: &mut String, part: &str) -> Result<(), OutOfMemory> {
     )
 }
 
-/// Appends that `part` is neither a day nor none.
+/// Appends that `part` is neither a day nor the word `none`, and the reason why it is no day.
 fn tell_no_wish(text: &mut String, form: Form, part: &str) -> Result<(), OutOfMemory> {
     if let Err(fault) = Day::read(part.as_bytes()) {
         tell_no_day(text, part, fault)?;
@@ -193,7 +194,7 @@ fn tell_no_wish(text: &mut String, form: Form, part: &str) -> Result<(), OutOfMe
     writeln!(text, "  `none` stands for no day: the form is {form}.")
 }
 
-/// Appends the reason why `part` is no day on which an item may be due.
+/// Appends the reason why `part` is no due date: neither a day, nor `+` and a number of days after `today`.
 fn tell_no_due(
     text: &mut String,
     form: Form,
@@ -214,8 +215,8 @@ fn tell_no_due(
     }
 }
 
-/// Appends the reason why `part` names no day: a `+`, and then `days`. Its digits are wrong, or the day is past the end
-/// of the calendar.
+/// Appends the reason why `part` names no day. It is a `+`, and then `days`. Its digits are wrong, or the day is past
+/// the end of the calendar.
 fn tell_no_days(
     text: &mut String,
     today: Option<Day>,
@@ -236,7 +237,8 @@ fn tell_no_days(
     )
 }
 
-/// Appends the lines about the wrong parts of a Renew-Answer: `word`, which is yes or no, and `due`.
+/// Appends the lines about the wrong parts of a Renew-Answer: `word`, which should be yes or no, and the due date
+/// `due`, if there is a second part.
 fn tell_grant(
     text: &mut String,
     form: Form,
@@ -265,7 +267,8 @@ pub fn tell_note(
     tell_text(alloc, text, "note", words.unwrap_or_default())
 }
 
-/// Appends the reason why `words` are no text of this name: no item, or no note.
+/// Appends the reason why `words`, joined by spaces, are no `name`: no item, or no note. Appends nothing if they are
+/// one, or are empty.
 fn tell_text(
     alloc: Global,
     text: &mut String,
@@ -281,7 +284,7 @@ fn tell_text(
     }
 }
 
-/// Appends the size of a text of this name, which has too many bytes.
+/// Appends that a `name`, an item or a note, has `size` bytes and so too many.
 fn tell_too_long(text: &mut String, name: &str, size: usize) -> Result<(), OutOfMemory> {
     match name {
         "note" => writeln!(text, "  The note has {size} bytes: it has 200 at most."),
@@ -289,7 +292,8 @@ fn tell_too_long(text: &mut String, name: &str, size: usize) -> Result<(), OutOf
     }
 }
 
-/// Appends the place of the first byte of `whole`, a text of this name, that is a control character.
+/// Appends the place, counted from 1, of the first control character in `whole`, the text of a `name`: an item or a
+/// note.
 fn tell_control(text: &mut String, name: &str, whole: &str) -> Result<(), OutOfMemory> {
     let shown = Shown::of(whole);
     for (place, byte) in (1_u64..).zip(whole.bytes()) {

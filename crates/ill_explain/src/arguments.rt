@@ -14,8 +14,8 @@ use ill_values::{OutOfMemory, TextFault, TxnId};
 use ill_words::words::{number, who};
 use std::alloc::Global;
 
-/// Appends a line about each wrong argument of a command. If each is right alone, it appends the lines about all
-/// together.
+/// Appends a line about each wrong argument of the command `name`. If `text` is then still empty, it appends the lines
+/// about arguments that are wrong together.
 pub fn tell_arguments<T: LockFiles>(
     rt: &T,
     alloc: Global,
@@ -150,7 +150,8 @@ fn tell_qualifier(
     }
 }
 
-/// Appends a line about the first byte of `word` that a qualifier may not have.
+/// Appends two lines about the first byte of `word` that a qualifier may not have. `name` says which one: group or
+/// transaction.
 fn tell_bad_byte(text: &mut String, name: &str, word: &str) -> Result<(), OutOfMemory> {
     let shown = Shown::of(word);
     for (place, byte) in (1_u64..).zip(word.bytes()) {

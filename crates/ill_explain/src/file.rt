@@ -19,8 +19,8 @@ const LOCK: &str = ".lck";
 /// The number of bytes at the beginning of each record, which give its version.
 const MARK: u32 = 4;
 
-/// Appends the cause of `fault`, a fault of a desk. The desk is the first one of the command that fails, or else its
-/// FILE.
+/// Appends the cause of `fault`, a fault of a desk. The desk is the first one at the command's PATHs that cannot be
+/// opened, or else its FILE. Without both it appends that a name is no UTF-8.
 pub fn tell_desk_fault<T: LockFiles>(
     rt: &T,
     alloc: Global,
@@ -42,7 +42,8 @@ pub fn tell_desk_fault<T: LockFiles>(
     }
 }
 
-/// Appends the cause of a fault of the desk in the file at `path`.
+/// Appends the cause of `fault`, a fault of the desk in the file at `path`. `has_mails` is true if the command has a
+/// folder of mails. Appends nothing for a fault whose own line says enough.
 pub fn tell_fault_at<T: LockFiles>(
     rt: &T,
     text: &mut String,
@@ -219,7 +220,7 @@ pub fn tell_reserved(text: &mut String, path: &str) -> Result<bool, OutOfMemory>
     Ok(false)
 }
 
-/// Appends the kind of thing that is at `path` instead of a file.
+/// Appends the kind of thing that is at `path` instead of a file. `found` is the system's answer on it.
 fn tell_kind<T: LockFiles>(
     rt: &T,
     text: &mut String,
@@ -242,7 +243,8 @@ fn tell_kind<T: LockFiles>(
     writeln!(text, "  {shown} is no regular file.")
 }
 
-/// Appends the reason why the file at `path` could not be used.
+/// Appends the reason why the regular file at `path` was not read or saved. If it can be opened now, `tell_unsaved`
+/// finds the reason.
 fn tell_closed<T: LockFiles>(
     rt: &T,
     alloc: Global,
@@ -259,7 +261,8 @@ fn tell_closed<T: LockFiles>(
     }
 }
 
-/// Appends the reason why no file was found at `path`.
+/// Appends the reason why no file was found at `path`: the system's error was of this `kind`. If the folder is there
+/// and may be entered, `tell_unsaved` finds the reason.
 fn tell_not_found<T: LockFiles>(
     rt: &T,
     alloc: Global,
@@ -280,7 +283,8 @@ fn tell_not_found<T: LockFiles>(
     tell_unsaved(rt, alloc, text, path)
 }
 
-/// Appends that another command holds the file at `path`, or else that nothing can be saved there.
+/// Appends that another command holds the file at `path`. If none does, it appends that the file, or one beside it,
+/// cannot be read or written.
 fn tell_unsaved<T: LockFiles>(
     rt: &T,
     alloc: Global,

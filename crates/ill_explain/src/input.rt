@@ -19,7 +19,7 @@ pub struct Passed {
 }
 
 impl Passed {
-    /// Returns these messages and one more, of `size` bytes.
+    /// Returns these messages and one more, of `size` bytes. Both counts stop at their maximum.
     fn and(self, size: usize) -> Passed
         ensures messages { result.messages ≡ min (self.messages + 1) (2 ^ 64 - 1) }
         ensures bytes { result.bytes ≡ min (self.bytes + size) (2 ^ 64 - 1) }
@@ -43,7 +43,7 @@ pub struct Watched<'a, R> {
 }
 
 impl<'a, R> Watched<'a, R> {
-    /// Returns a reader that gives the bytes of `reader`.
+    /// Returns a reader that gives the bytes of `reader`. It counts their messages if `is_counting` is true.
     pub fn new(alloc: Global, reader: &'a mut R, is_counting: bool) -> Watched<'a, R> {
         let feed = if is_counting {
             Some(Feed::new(alloc))
@@ -86,6 +86,7 @@ impl<'a, R> Watched<'a, R> {
     }
 }
 
+/// Reads from the watched reader, and counts the messages in the bytes that it gives.
 impl<R: Read> Read for Watched<'_, R> {
     fn read(&mut self, buffer: &mut [u8]) -> io::Result<usize> {
         let count = self.reader.read(buffer)?;
@@ -129,7 +130,7 @@ fn tell_place(text: &mut String, passed: Passed) -> Result<(), OutOfMemory> {
     )
 }
 
-/// Appends that the line `line` of a script is no event, and the help that lists the events.
+/// Appends that the line `line` of a script is no event. It adds that the help of the command `name` lists the events.
 pub fn tell_bad_line(text: &mut String, name: Name, line: u32) -> Result<(), OutOfMemory> {
     let command = name.word();
     writeln!(

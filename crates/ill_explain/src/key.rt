@@ -61,7 +61,8 @@ pub fn tell_key_not_made(
     )
 }
 
-/// Returns the path of the file of the key.
+/// Returns the path of the file of the key: the KEYFILE of `ill key`, or the value of `--key`. Without both it is
+/// empty.
 fn path_of<'a>(matches: &ArgMatches<'a>) -> &'a str {
     matches
         .get_str(Argument::KeyFile.id())

@@ -44,8 +44,8 @@ struct Failed<'a, 'b> {
 }
 
 impl Failed<'_, '_> {
-    /// Returns the good messages before the place at which the command stopped. In a sealed letter this place is
-    /// unknown.
+    /// Returns the good messages before the place at which the command stopped. Returns None with the option `--key`:
+    /// in a sealed letter this place is unknown.
     fn passed_on(&self) -> Option<Passed> {
         match self.matches.get_str(Argument::Key.id()) {
             Some(_) => None,
@@ -54,7 +54,8 @@ impl Failed<'_, '_> {
     }
 }
 
-/// Writes the reasons for `fault` of a command line, if its words ask for them.
+/// Writes the reasons for `fault` of a command line to `errors`, if its words ask for them. `passed` are the good
+/// messages of its input, if they were counted. Failures are ignored.
 pub fn explain<T: LockFiles, W: Write, E: Write>(
     machine: &mut Machine<'_, T, W, E>,
     words: &[&str],
@@ -69,8 +70,8 @@ pub fn explain<T: LockFiles, W: Write, E: Write>(
     }
 }
 
-/// Appends to `text` the lines about a fault of the command line with these words. Returns none if the words cannot be
-/// read again.
+/// Appends to `text` the lines about a fault of the command line with these words. Returns None if the words cannot be
+/// read again, or memory runs out.
 fn tell<T: LockFiles>(
     rt: &T,
     text: &mut String,
@@ -110,7 +111,8 @@ fn tell_first<T: LockFiles>(
     }
 }
 
-/// Appends to `text` the lines about a fault of a command, on a shelf or on one desk.
+/// Appends to `text` the lines about a fault of a command, on a shelf or on one desk. Only a fault of a desk has other
+/// lines on a shelf.
 fn tell_place<T: LockFiles>(
     rt: &T,
     text: &mut String,
@@ -126,7 +128,8 @@ fn tell_place<T: LockFiles>(
     }
 }
 
-/// Appends to `text` the lines about a fault of a command on one desk.
+/// Appends to `text` the lines about a fault of a command on one desk. On a shelf these are also the lines about each
+/// fault that is not of a desk.
 fn tell_fault<T: LockFiles>(
     rt: &T,
     text: &mut String,

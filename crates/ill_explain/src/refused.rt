@@ -1,5 +1,5 @@
-//! The lines about words that are refused before a file is opened: an option among those of an action, and the file of a
-//! desk of a shelf.
+//! The lines about words that are refused before a file is opened: an option among those of an action, and the file of
+//! a desk of a shelf.
 
 use crate::shown::Shown;
 use clap::ArgMatches;
@@ -29,7 +29,7 @@ pub fn tell_refused<T: Files>(
     }
 }
 
-/// Appends the lines about a request that the guard refuses, if it does.
+/// Appends the lines about `call` if it is a request for one desk that the guard refuses. Appends nothing else.
 fn tell_guarded<T: Files>(
     rt: &T,
     alloc: Global,

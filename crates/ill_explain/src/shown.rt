@@ -9,6 +9,7 @@ const MOST: usize = 200;
 /// long word.
 #[derive(Clone, Copy)]
 pub struct Shown<'a> {
+    /// The word as it was typed.
     word: &'a str,
 }
 
@@ -19,6 +20,8 @@ impl<'a> Shown<'a> {
     }
 }
 
+/// Writes the word in quotes. Of a word with more than `MOST` characters it writes the first `MOST`, and two full
+/// stops.
 impl fmt::Display for Shown<'_> {
     fn fmt<W: fmt::Write>(&self, f: &mut fmt::Formatter<W>) -> fmt::Result {
         let word = self.word;

@@ -12,11 +12,11 @@ use strsim::osa_distance;
 pub enum Parts {
     /// No part.
     Nothing,
-    /// A day or none, and the words of an item.
+    /// A day or the word `none`, and the words of an item.
     Item,
     /// Yes or no.
     YesOrNo,
-    /// A day or none.
+    /// A day, until which the borrower wishes to keep the item, or the word `none`.
     Wished,
     /// A result of an ILL-Answer.
     Result,
@@ -27,7 +27,7 @@ pub enum Parts {
 }
 
 impl Parts {
-    /// Returns the parts as the help writes them.
+    /// Returns the parts as the help writes them, after a space.
     fn form(self) -> &'static str {
         match self {
             Parts::Nothing => "",
@@ -54,11 +54,15 @@ impl Parts {
 /// The form of an action. It is displayed as a user types it.
 #[derive(Clone, Copy)]
 pub struct Form {
+    /// The verb, which is the first word.
     pub verb: Verb,
+    /// The role that has the verb.
     pub role: Role,
+    /// The parts after the verb.
     pub parts: Parts,
 }
 
+/// Writes the verb and its parts between backquotes.
 impl fmt::Display for Form {
     fn fmt<W: fmt::Write>(&self, f: &mut fmt::Formatter<W>) -> fmt::Result {
         let verb = self.verb.name();
@@ -85,7 +89,7 @@ const FORMS: [(Verb, Role, Parts); 14] = [
     (Verb::Expire, Role::Responder, Parts::Nothing),
 ];
 
-/// Returns the form of the verb `name`.
+/// Returns the form of the verb `name`, if `name` is a verb.
 pub fn form_of(name: &str) -> Option<Form> {
     for (verb, role, parts) in FORMS {
         if verb.name() == name {
@@ -109,7 +113,7 @@ pub fn names_of(alloc: Global, role: Role) -> Result<Vec<&'static str>, OutOfMem
 /// The greatest number of wrong, missing, extra or swapped letters in a word that is near a name.
 const NEAR: usize = 2;
 
-/// Returns the name that is nearest to `word`, if one is near.
+/// Returns the name that is nearest to `word`, if one is near. Of equally near names it returns the first.
 pub fn nearest<'a>(
     alloc: Global,
     names: &[&'a str],

@@ -17,8 +17,8 @@ not_begun : (txn : Qualifiers) (old before : Option (List ℕ)) → Simulates tx
 unfolding trace_from
 not_begun txn old before = ([], [], Consumes-nil old, Appends-nil before, λ more e. ([], ((script more).events, refl), refl))
 
--- If no transaction id is made of `id`, but `fault`, and `result` is that fault, `RunsSimulate` allows `result`. Nothing
--- was read or written.
+-- `GivesId` allows `fault` instead of a transaction id for `id`, and `result` is that fault. Then `RunsSimulate` allows
+-- `result`: nothing was read or written.
 pub fault_without_id : (id : Result Qualifiers TextFault) (old before : Option (List ℕ)) (fault : ToolFault)
     (result : Result ℕ ToolFault)
     → GivesId id (Err fault)

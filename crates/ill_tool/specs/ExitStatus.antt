@@ -40,7 +40,8 @@ status_of Read = 3
 status_of Write = 3
 status_of OutOfMemory = 3
 
--- Returns the exit status for the result of a command.
+-- Returns the exit status for the result of a command. Ok true means that all went well. Ok false means that the
+-- command or a message was refused, or that a message was in conflict.
 abbrev pub exit_status : Result Bool ToolFault → ℕ
 exit_status (Ok true) = 0
 exit_status (Ok false) = 1
@@ -51,7 +52,8 @@ abbrev pub IsFlushed : Result Bool ToolFault → Result Bool ToolFault → Type 
 IsFlushed done result = (result ≡ done) ⊎ (result ≡ Err Write)
 
 -- `clap` gave an error of this kind, and the exit status is `status`. The output went from `before` to `after`. Help
--- and the version go there. Words that are refused, or a lack of memory, leave it unchanged.
+-- and the version are written to it, or the writer fails. Words that are refused, or a lack of memory, leave it
+-- unchanged.
 abbrev pub TellsKind : ErrorKind → Option (List ℕ) → Option (List ℕ) → ℕ → Type 0
 TellsKind kinds.DisplayHelp before after status = (status ≡ 0) ⊎ (status ≡ 3)
 TellsKind kinds.DisplayVersion before after status = (status ≡ 0) ⊎ (status ≡ 3)

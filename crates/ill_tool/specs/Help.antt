@@ -4,7 +4,8 @@ use Rattle.ill_text.specs.Output.{WritesText}
 use Rattle.ill_text.specs.declared.fault.ToolFault.{ToolFault}
 use Rattle.ill_files.specs.Opening.{GoesWell}
 
--- A text was written: the output grew by it, or by a prefix of it. Texts of the help have no definition.
+-- Some text was written: the output grew by it or, if the result is a fault, by a prefix of it. No definition says
+-- which text it is.
 abbrev pub WritesHelp : Option (List ℕ) → Option (List ℕ) → Result (Unit {0}) ToolFault → Type 0
 WritesHelp before after result = (text : List ℕ) × WritesText before after text result
 

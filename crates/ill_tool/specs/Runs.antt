@@ -32,7 +32,7 @@ use Rattle.ill_line.specs.Guard.{IsGuarded}
 use Rattle.ill_shelf.specs.Home.{ActsAtHome, BeginsShelf, LoanAtHome, NotesAtHome, SendsAtHome, SlipAtHome}
 use Rattle.ill_shelf.specs.Shelf.{Headed, RetiresAtFile, TakesAtShelf, VisitsShelf, VisitsWith, is_lines}
 
--- A command read nothing. `Does` has its effect: its output goes from the first to the second, and it has this result.
+-- A command read nothing. `Does` holds for its output before the command, its output after the command, and its result.
 abbrev pub ReadsNothing : (Does : Option (List ℕ) → Option (List ℕ) → Result Bool ToolFault → Type 0) → Streams →
     Result Bool ToolFault → Streams → Type 0
 ReadsNothing Does old result new = (new.unread ≡ old.unread) × Does old.written new.written result
@@ -41,8 +41,8 @@ ReadsNothing Does old result new = (new.unread ≡ old.unread) × Does old.writt
 abbrev pub IsRefused : Streams → Result Bool ToolFault → Streams → Type 0
 IsRefused old result new = (new ≡ old) × (result ≡ Err Arguments)
 
--- A command has this result, and its streams went from `old` to `new`. `state` has the states of the stores of desks. Only a
--- shelf retires a group.
+-- The command of this request for one desk, or for none, has this result. Its streams went from `old` to `new`. `state`
+-- has the states of the stores of desks. Only a shelf retires a group.
 abbrev pub Runs : {S : Type 0} → (state : S → StoreState) → Asked → Streams → Result Bool ToolFault → Streams → Type 0
 Runs state (asks.Show form) old result new =
     GoesWell (RunsShow form old.unread new.unread old.written new.written) result
@@ -83,12 +83,13 @@ Runs state (asks.Verify file form) old result new =
     ReadsNothing (VerifiesFile (place_of state file) form) old result new
 Runs state (asks.Retire file group) old result new = IsRefused old result new
 
--- The guard refused a request for one desk, and nothing was read or written. Or its command has this result.
+-- The guard refused a request for one desk, and nothing was read or written. Or the command of the request has this
+-- result, as `Runs` says.
 abbrev pub RunsGuarded : {S : Type 0} → (state : S → StoreState) → Asked → Streams → Result Bool ToolFault → Streams → Type 0
 RunsGuarded state asked old result new = (IsErrAnd result (IsGuarded asked) × (new ≡ old)) ⊎ Runs state asked old result new
 
--- A command on a shelf. In a transaction it has the effect of the command for one desk, that of the group on this shelf. Its
--- streams went from `old` to `new`.
+-- The command of this request on a shelf has this result. Its streams went from `old` to `new`. For one transaction it
+-- has the effect of the command for one desk, at the desk of the group. A command that a shelf lacks is refused.
 abbrev pub RunsShelf : {S : Type 0} → (state : S → StoreState) → Asked → Streams → Result Bool ToolFault → Streams → Type 0
 RunsShelf state (asks.New folder role) old result new =
     ReadsNothing (BeginsShelf (shelf_of state folder) role) old result new
@@ -140,14 +141,14 @@ EndsCall call before status =
     (result : Result Bool ToolFault) × PerformsCall file_state call (streams_of None before) None result
     × (status ≡ exit_status result)
 
--- The reading of a command line ends with the exit status of what was asked for. A call ends with that of its result.
--- Words that `clap` refuses end as `TellsKind` says. A fault has its own status, or that of the flush before its line.
+-- A command line with this reading ends with the exit status `status`. A call ends as `EndsCall` says, and words that
+-- `clap` refuses end as `TellsKind` says. A fault has its own status, or the status of `Write` if the flush fails.
 abbrev pub EndsReading : Result Call Refusal → Option (List ℕ) → Option (List ℕ) → ℕ → Type 0
 EndsReading (Ok call) before after status = EndsCall call before status
 EndsReading (Err (Usage error)) before after status = TellsKind (kind_of error) before after status
 EndsReading (Err (Fault fault)) before after status = (status ≡ status_of fault) ⊎ (status ≡ status_of Write)
 
--- A command line has a reading, and ends with the exit status of that. Of `help --json` alone a clause says which reading
--- it has.
+-- A command line has some reading, and ends as `EndsReading` says of this reading. Only for `help --json` a contract
+-- says which reading it is.
 abbrev pub EndsLine : Option (List ℕ) → Option (List ℕ) → ℕ → Type 0
 EndsLine before after status = (reading : Result Call Refusal) × EndsReading reading before after status

@@ -36,7 +36,8 @@ RunsSimulate (Ok txn) old new before after result = GivesAnswerOf (Simulates txn
 RunsSimulate (Err fault) old new before after result =
     (result ≡ Err Arguments) × Consumes old new [] × Appends before after []
 
--- The command `simulate-desks`: a simulation of two desks.
+-- The command `simulate-desks`: a simulation of two desks. It reads the input from `old` to `new`, and the output grows
+-- from `before` to `after`.
 abbrev pub RunsSimulateDesks : Option (List ℕ) → Option (List ℕ) → Option (List ℕ) → Option (List ℕ) →
     Result ℕ ToolFault → Type 0
 RunsSimulateDesks old new before after result = GivesAnswerOf (SimulatesDesks old new before after) result

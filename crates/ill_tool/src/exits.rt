@@ -15,7 +15,8 @@ pub const BAD: u8 = 2;
 /// The exit status if a file, a stream or memory failed, or if mails are left.
 const FAILED: u8 = 3;
 
-/// Returns the exit status of a command that ended with `outcome`.
+/// Returns the exit status of a command that ended with `outcome`. `Ok(true)` means that all went well, and `Ok(false)`
+/// that something was refused or in conflict.
 pub fn exit_status(outcome: Result<bool, ToolFault>) -> u8
     ensures status { result ≡ exit_status outcome }
     ensures most { result ≤ 3 }

@@ -48,7 +48,7 @@ const FAULTS: [ToolFault; 29] = [
     ToolFault::OutOfMemory,
 ];
 
-/// Writes the command line, and the exit statuses with their faults, as objects of JSON.
+/// Writes the command line, and the exit statuses with their faults, as objects of JSON. Returns true.
 pub fn tell_command_line<T: LockFiles, W: Write, E: Write>(
     machine: &mut Machine<'_, T, W, E>,
 ) -> Result<bool, ToolFault>

@@ -1,4 +1,5 @@
-//! The commands of `ill`: a request is run, and ends with an exit status.
+//! The commands of `ill`: a request is run, and ends with an exit status. The crate exports the engines of the commands
+//! too, the types that these take and return, and laws on shelves and possible actions.
 #![tactic(auto)]
 
 mod exits;

@@ -110,7 +110,8 @@ pub fn run_line<T: LockFiles, R: Read, W: Write, E: Write>(
     }
 }
 
-/// Flushes the writer, writes the line of `fault`, which `words` have, and returns the exit status.
+/// Flushes the writer, writes the line of `fault`, which `words` have, and returns the exit status. If the writer
+/// fails, the line and the status are those of the fault `Write`.
 fn refuse<T: LockFiles, W: Write, E: Write>(
     machine: &mut Machine<'_, T, W, E>,
     words: &[&str],
@@ -139,8 +140,8 @@ fn answer_call<T: LockFiles, R: Read, W: Write, E: Write>(
     end_with_status(machine, words, done, reader.passed())
 }
 
-/// Writes the line of a fault, if `done` is one. The reason comes after it, if the words ask for that. It returns the
-/// exit status of `done`.
+/// Writes the line of a fault, if `done` is one. The reason comes after it, if the words ask for that. `passed` are the
+/// good messages of the input, if they were counted. Returns the exit status of `done`.
 fn end_with_status<T: LockFiles, W: Write, E: Write>(
     machine: &mut Machine<'_, T, W, E>,
     words: &[&str],
@@ -160,8 +161,8 @@ fn end_with_status<T: LockFiles, W: Write, E: Write>(
 /// The number of bytes in the buffer between a command and its output.
 const BUFFER: usize = 65_536;
 
-/// Performs a command, with a buffer before the writer, and returns true if all went well. The commands themselves read
-/// in pieces.
+/// Performs a command, with a buffer before the writer. Returns true if all went well, and false if something was
+/// refused or in conflict. The commands themselves read in pieces.
 fn perform<T: LockFiles, D: DeskFiles, R: Read, W: Write, E: Write>(
     machine: &mut Machine<'_, T, W, E>,
     files: &D,
@@ -184,7 +185,7 @@ fn perform<T: LockFiles, D: DeskFiles, R: Read, W: Write, E: Write>(
     finish_writing(buffered.writer, done)
 }
 
-/// Runs the command of a call: for one desk, on a shelf, or for the command line itself.
+/// Runs the command of a call: for one desk, on a shelf, or for the command line itself. Returns true if all went well.
 fn run_call<T: LockFiles, D: DeskFiles, R: Read, W: Write, E: Write>(
     machine: &mut Machine<'_, T, W, E>,
     files: &D,
@@ -215,7 +216,7 @@ fn finish_writing<W: Write>(
     flushed
 }
 
-/// Flushes a writer that has not failed, and returns `done`, or the fault of the writer.
+/// Flushes the writer, unless `done` says that it has failed. Returns `done`, or the fault `Write` if the flush fails.
 fn flush<W: Write>(writer: &mut W, done: Result<bool, ToolFault>) -> Result<bool, ToolFault>
     ensures { IsFlushed done result }
 {
@@ -228,7 +229,8 @@ fn flush<W: Write>(writer: &mut W, done: Result<bool, ToolFault>) -> Result<bool
     }
 }
 
-/// Runs the engine of a command for one desk, unless that is a desk of a shelf and is at stake.
+/// Runs the engine of a command for one desk, unless the guard refuses it: it would change a desk of a shelf, send from
+/// it or keep a note beside it. Returns true if all went well.
 fn run_guarded<T: LockFiles, D: DeskFiles, R: Read, W: Write, E: Write>(
     machine: &mut Machine<'_, T, W, E>,
     files: &D,
@@ -245,7 +247,8 @@ fn run_guarded<T: LockFiles, D: DeskFiles, R: Read, W: Write, E: Write>(
     run(machine, files, request, reader)
 }
 
-/// Runs the engine of a command. Lines that are not about a fault of the command go to `errors`.
+/// Runs the engine of a command for one desk, or for none. Returns true if all went well. Lines about what could not be
+/// done go to `errors`. The line of the returned fault is not among them.
 fn run<T: LockFiles, D: DeskFiles, R: Read, W: Write, E: Write>(
     machine: &mut Machine<'_, T, W, E>,
     files: &D,
@@ -407,7 +410,7 @@ fn mails_in<'a, 'b, 'c>(
     }
 }
 
-/// Runs the engine of a command on a shelf. Any command that a shelf lacks is refused.
+/// Runs the engine of a command on a shelf. Any command that a shelf lacks is refused. Returns true if all went well.
 fn run_on_shelf<T: LockFiles, D: DeskFiles, R: Read, W: Write, E: Write>(
     machine: &mut Machine<'_, T, W, E>,
     files: &D,
@@ -577,7 +580,7 @@ fn tell<W: Write, E: Write>(error: &Error, writer: &mut W, errors: &mut E) -> u8
     finish(help(error, writer), errors)
 }
 
-/// Writes the help that was asked for, and flushes it.
+/// Writes the help that was asked for, which is the text of `error`, and flushes it. Returns true.
 fn help<W: Write>(error: &Error, writer: &mut W) -> Result<bool, ToolFault>
     ensures { IsFlushed (Ok true) result }
 {

@@ -12,7 +12,9 @@ appends_nothing None = refl
 appends_nothing (Some bytes) = search rules
 
 -- Proves the contract of `perform`. The buffer is empty at first, so by `before` the command begins at the output of
--- `machine`. `after` is the output after the command: that of the inner writer, and then the buffer.
+-- `machine`. `begun` is the writer that the buffer gets, and `writer` the buffer after the command with the result
+-- `done`. `after` is the output then: the bytes of the inner writer, and then those of the buffer. `left` is the input
+-- before the command, and `rest` the input after it.
 pub returns : goal.returns
 returns g c =
     let done = c.run_call-done.result in

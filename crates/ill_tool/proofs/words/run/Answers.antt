@@ -1,5 +1,7 @@
 -- Answers the contract of `run` (`src/words.rt`), command by command. Each answer takes the contract of the called
--- function, and puts the request of the case (`is`) for its variant.
+-- function. The equation `is` of the case says that the request is of this variant.
+-- `acted`, `noted`, `sent` and `took` are the contract of the called function, on the request's own texts. `place` is
+-- the file of the desk.
 -- The streams are `old` before the command and `new` after it, with `before` and `after` as outputs. `left` is the
 -- input before the command, and `rest` the input after it.
 use Rattle.std.proofs.Common.{ℕ, Bool, Bor, List, map, refl, sym, subst}

@@ -1,7 +1,7 @@
 -- Answers the contract of `run_on_shelf` (`src/words.rt`), command by command, as `words/run/Answers.antt` does for
 -- `run`.
 -- The streams are `old` before the command and `new` after it, with `before` and `after` as outputs. `left` is the
--- input before the command, and `rest` the input after it.
+-- input before the command, and `rest` the input after it. `shelf` is the shelf in the folder of the request.
 use Rattle.std.proofs.Common.{ℕ, Bool, Bor, List, map, refl, sym, subst}
 use Rattle.std.specs.Prelude.{option_map}
 use Rattle.ill_line.specs.declared.request.Request.{Request}

@@ -29,7 +29,7 @@ fn nothing(rt: &HostRuntime) -> Option<File> {
     fs::open(rt, "/dev/null").ok()
 }
 
-/// Performs the command line of this process, and returns the exit status.
+/// Performs the command line of this process, and returns the exit status. Fails if its words cannot be collected.
 fn perform(rt: &HostRuntime) -> io::Result<u8> {
     let alloc = rt.alloc();
     let arguments: Vec<String> = env::args(rt)?.collect(alloc)?;

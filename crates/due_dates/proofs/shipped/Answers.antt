@@ -17,7 +17,9 @@ is_found : (side : Side) (left : List Side) → is_among (Shipped ∷ []) (state
     → side ∷ shipped left ≡ shipped (side ∷ left)
 is_found side left is = search (rules, is)
 
--- If the next side is SHIPPED, the turn appends it to the found ones. By `is_found` it was the first of those left.
+-- If the next side is SHIPPED, the turn appends it to the found ones. By `is_found` it was the first SHIPPED side of
+-- those left. `now` returns the side of a borrow, and `so_far` are the sides found before. `next` says that `side` is
+-- the first side left, and `is` that its state is SHIPPED.
 pub loop-side-preserved-in-Continue-1 : goal.loop-side-preserved-in-Continue-1
 loop-side-preserved-in-Continue-1 c =
     let side = c.in-Some.side in

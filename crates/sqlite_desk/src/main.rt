@@ -42,7 +42,7 @@ fn look_again(rt: &HostRuntime, loan: &TxnId) -> Result<()> {
     Ok(show_again(rt, Connection::open(rt, PATH)?, loan)?.close()?)
 }
 
-/// Begins the desk, which has no record before its first save, and asks. Returns the database.
+/// Begins the desk, which has no record before its first save, and asks for the book. Returns the connection.
 fn ask_first<S: Alter + Drop>(
     rt: &HostRuntime,
     conn: Connection<S>,
@@ -54,7 +54,7 @@ fn ask_first<S: Alter + Drop>(
     Ok(desk.close().into_connection())
 }
 
-/// Starts the desk from its record, and shows the loan. Returns the database.
+/// Starts the desk from its record, and shows the loan. Returns the connection.
 fn show_again<S: Alter + Drop>(
     rt: &HostRuntime,
     conn: Connection<S>,
@@ -73,7 +73,7 @@ fn ask<S: Store>(rt: &HostRuntime, desk: &mut Desk<S>, loan: &TxnId) -> Result<(
     Ok(desk.save(rt.alloc())?)
 }
 
-/// Prints the state of `loan`.
+/// Prints the transaction qualifier of `loan`, and its state at the desk.
 fn show<S: Store>(rt: &HostRuntime, desk: &Desk<S>, loan: &TxnId) -> Result<()> {
     let side = desk.sides().get(loan).context("the desk has no such loan")?;
     println!(rt; "{} {}", loan.transaction_str(), side.state())?;

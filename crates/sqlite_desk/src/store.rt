@@ -22,7 +22,7 @@ const SAVE: &str = "INSERT OR REPLACE INTO record (id, bytes) VALUES (1, ?1)";
 pub struct SqliteStore<S: Alter> {
     /// The connection to the database.
     conn: Connection<S>,
-    /// The number of calls that have failed.
+    /// The number of calls that have answered `Failed`. A lack of memory is not counted.
     failures: u64,
 }
 
@@ -33,7 +33,7 @@ impl<S: Alter + Drop> SqliteStore<S> {
         Ok(SqliteStore { conn, failures: 0 })
     }
 
-    /// Returns the database.
+    /// Returns the connection to the database.
     pub fn into_connection(self) -> Connection<S> {
         self.conn
     }
@@ -48,7 +48,7 @@ impl<S: Alter + Drop> SqliteStore<S> {
         }
     }
 
-    /// Returns the store's fault for `error`. Counts each failure.
+    /// Returns the store's fault for `error`, and counts it, unless memory ran out.
     fn fault(&mut self, error: Error) -> StoreFault
         ensures { CountsEach {X = ℕ} self.old.failures (Err result) self.new.failures }
     {
@@ -61,8 +61,8 @@ impl<S: Alter + Drop> SqliteStore<S> {
 }
 
 /// The state of this store is not honest, and its landed bytes are not stated. The contracts of `sqlite` hold only as
-/// long as the disk is clean, which may end at any call. An honest store is honest for good. Each failed call is
-/// counted.
+/// long as the disk is clean, which may end at any call. An honest store is honest for good. Each call that answers
+/// `Failed` is counted.
 impl<S: Alter + Drop> Store for SqliteStore<S> {
     ghost state = { λ s. record {
       path = None;
@@ -75,6 +75,7 @@ impl<S: Alter + Drop> Store for SqliteStore<S> {
     // The store promises nothing of the record that a loss of power leaves.
     ghost leaves = { λ _ _. Unit {0} };
 
+    /// Returns the record in the table, or `None` if it has none.
     fn load(&mut self, _alloc: Global) -> Result<Option<Vec<u8>>, StoreFault>
         ensures { CountsEach self.old.failures result self.new.failures }
     {
@@ -84,6 +85,7 @@ impl<S: Alter + Drop> Store for SqliteStore<S> {
         }
     }
 
+    /// Replaces the record in the table by `bytes`.
     fn save(&mut self, _alloc: Global, bytes: &[u8]) -> Result<(), StoreFault>
         ensures { CountsEach self.old.failures result self.new.failures }
     {

@@ -1,10 +1,11 @@
 -- Proves the contracts of the impl of `Store` for `SqliteStore` (`src/store.rt`).
--- Each call that fails counts its failure. The rest of a store's contract binds an honest store alone.
+-- Each call that answers `Failed` is counted. The rest of a store's contract binds an honest store alone, and this
+-- store is never honest.
 use Rattle.std.proofs.Common.{rules, refl}
 use Rattle.sqlite_desk.proofs.CountingLemmas.{counts, not_too_large}
 use Rattle.sqlite_desk.proofs.store.SqliteStoreStore.TheImpl.Goals as goal
 
--- Proves that `load` satisfies the contract of each store. By `counts` its failure is counted.
+-- Proves that `load` satisfies the contract of each store. By `counts` an answer `Failed` is counted.
 pub load-tells : goal.load-tells
 load-tells g c = record {
   loads = record {
@@ -20,8 +21,8 @@ load-tells g c = record {
   lasts = λ honest. search rules;
 }
 
--- Proves that `save` satisfies the contract of each store. By `counts` its failure is counted, and by `not_too_large`
--- it does not answer `TooLarge`.
+-- Proves that `save` satisfies the contract of each store. By `counts` an answer `Failed` is counted. By
+-- `not_too_large` the answer is not `TooLarge`.
 pub save-tells : goal.save-tells
 save-tells g c = record {
   saves = record {

@@ -44,7 +44,8 @@ fn take_answer(rt: &HostRuntime, loan: &TxnId) -> Result<()> {
     taken
 }
 
-/// Asks for the book. The desk gives the message only after the save.
+/// Asks for the book of `loan`, and saves the desk. Prints that the desk refuses the message before the save, and the
+/// message's size after it.
 fn ask<S: Store>(rt: &HostRuntime, desk: &mut Desk<S>, loan: &TxnId) -> Result<()> {
     let item = Item::new(rt.alloc(), b"A History of Maps")?;
     let request = Action::Wish(Wish::Request { expiry: None, item });

@@ -58,7 +58,8 @@ fn answer<S: Store>(rt: &HostRuntime, desk: &mut Desk<S>, today: Day, apdu: &Apd
     Ok(())
 }
 
-/// Takes `apdu`, acts on it if it is a new request, and saves both at once.
+/// Takes `apdu`, acts on it if it is a new request, and saves both at once. Fails if `apdu` is in conflict with the
+/// state of its loan.
 fn take<S: Store>(alloc: Global, desk: &mut Desk<S>, today: Day, apdu: &Apdu) -> Result<()> {
     match (desk.take(alloc, apdu)?, &apdu.body) {
         (Taking::Taken, Body::IllRequest { item, .. }) => {

@@ -12,6 +12,7 @@ use std::alloc::Global;
 pub struct Requests;
 
 impl AnswersCases for Requests {
+    /// Adds the answer to the request that `line` describes, on a line. Returns None if `line` is no case.
     fn answer(&mut self, alloc: Global, page: &mut Page, line: &str) -> Option<()> {
         push_request(alloc, page, line)?;
         page.line("");
@@ -19,7 +20,7 @@ impl AnswersCases for Requests {
     }
 }
 
-/// Adds the answer to the request that a line describes.
+/// Adds the answer to the request that a line describes. Returns None if it describes none.
 fn push_request(alloc: Global, output: &mut Page, line: &str) -> Option<()> {
     match parts(line) {
         ("look", words) => push_answer(alloc, output, Case::look(), words),
@@ -37,7 +38,8 @@ fn parts(line: &str) -> (&str, &str) {
     line.split_once(" ").unwrap_or((line, ""))
 }
 
-/// Adds the answer to a case with these other texts, and the number of bytes that were left.
+/// Adds the answer to `case` with the texts that `words` replace, and the number of bytes that were left. Returns None
+/// if a word names no text.
 fn push_answer<'a>(
     alloc: Global,
     output: &mut Page,
@@ -58,7 +60,8 @@ fn push_answer<'a>(
 ///
 /// To decode a value with `+`, the kit asks for the room of the whole value first. If that is refused, it asks for room
 /// for one byte. So a call may do without one growth for each such value, and for no other. Then its answer must be the
-/// same.
+/// same as with the growth. `left` counts the growths that calls may still do without. `before` is the page of the last
+/// call that did without one.
 fn answer_of(alloc: Global, case: &Case<'_>) -> Option<Page> {
     let mut left = case.spaced_fields();
     let mut before = None;
@@ -101,7 +104,8 @@ impl Call {
         matches!(&self.answer, Err(VisitFault::OutOfMemory))
     }
 
-    /// Ends the marks of the call, which may do without a refused growth or not. Returns true if one was refused.
+    /// Ends the marks of the call. Only if `may_do_without` is true, it may answer although a growth was refused.
+    /// Returns true if a growth was refused.
     fn is_refused(&self, alloc: Global, may_do_without: bool) -> bool {
         if may_do_without {
             is_refused_or_without(alloc, self.says_memory())
@@ -110,7 +114,8 @@ impl Call {
         }
     }
 
-    /// Returns the page of the answer. It tells if the call before, which did without a growth, had another one.
+    /// Returns the page of the answer. `before` is the page of an earlier call that did without a growth. If it has
+    /// another answer, the page says so.
     fn told(&self, alloc: Global, before: Option<&Page>) -> Option<Page> {
         let mut page = Page::new(alloc);
         match &self.answer {

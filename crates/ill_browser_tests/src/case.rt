@@ -9,7 +9,7 @@ const RULES: Rules<'static> = Rules {
     is_open: false,
 };
 
-/// A request with its rules. Each text that a case does not say is that of a form of this desk.
+/// A request with its rules. Each text that a case does not say is as in `look` or `post`.
 #[derive(Drop)]
 pub struct Case<'a> {
     /// The texts that the web server gives of the request.
@@ -21,7 +21,7 @@ pub struct Case<'a> {
 }
 
 impl<'a> Case<'a> {
-    /// Returns a request of a page.
+    /// Returns a request of a page. All its texts but the method are empty.
     pub fn look() -> Case<'a> {
         Case {
             visit: Visit {
@@ -39,7 +39,8 @@ impl<'a> Case<'a> {
         }
     }
 
-    /// Returns a form with this body.
+    /// Returns a form with this body, as anna sends it from a page of the desk. The body `-` is empty. `length` is the
+    /// text of its length.
     pub fn post(body: &'a str, length: &'a str) -> Case<'a> {
         Case {
             visit: Visit {
@@ -100,7 +101,7 @@ impl<'a> Case<'a> {
     }
 }
 
-/// Returns the number of bytes in a body, in digits.
+/// Returns the number of bytes in a body, in digits. The body `-` has none.
 pub fn length_text(alloc: Global, body: &str) -> Option<String> {
     let size = if body == "-" { 0 } else { body.len() };
     format!(in alloc; "{size}").ok()

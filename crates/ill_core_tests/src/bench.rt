@@ -25,7 +25,8 @@ pub struct Bench {
 }
 
 /// The outcome of a row in one state. The first text is the new state if the event was performed or taken, and else the
-/// letter of the answer. The second text is the letter of the answer to a second copy of a taken message.
+/// letter of the answer. The second text is the letter of the answer to a second copy of a taken message. It is `!` if
+/// the side differs from its record.
 type Cell = (&'static str, &'static str);
 
 /// The fields of a row.
@@ -85,7 +86,8 @@ impl Bench {
         }
     }
 
-    /// Reads the fields after the past of a row or of a ruler. A ruler has one more field.
+    /// Sets up the ruler, or adds the cells of the row, whose fields after `past` are `rest`. A ruler has one field
+    /// more than a row. `name` is its role.
     fn push_fields(&mut self, page: &mut Page, name: &str, past: &str, rest: &str) {
         let (event, rest) = rest.split_once('|').unwrap_or((rest, ""));
         let (effect, columns) = rest.split_once('|').unwrap_or((rest, ""));
@@ -106,7 +108,7 @@ impl Bench {
         self.columns = columns;
     }
 
-    /// Sets the role and the columns of the rows that follow.
+    /// Sets the role and the columns of the rows that follow. Returns None if memory runs out.
     fn rule(&mut self, role: &str, columns: &str) -> Option<()> {
         self.role = role_of(role.trim());
         self.columns.clear();
@@ -153,6 +155,7 @@ impl Lines for Bench {
         page.text("\n");
     }
 
+    /// Adds nothing after the last line.
     fn end(&mut self, _page: &mut Page) -> Option<()> {
         Some(())
     }
@@ -191,8 +194,8 @@ fn happen(alloc: Global, side: &mut Side, record: &mut Record, row: &Row<'_>) ->
     (letters, second)
 }
 
-/// Performs the event on `side`, and repeats it while a growth is refused. A refused event must leave the side with
-/// `record`. Returns the letter of the answer.
+/// Performs the event on `side`, and repeats it while a growth is refused. Returns the letter of the answer. A refused
+/// event must leave the side with `record`, or else the letter is `!`.
 fn answer(alloc: Global, side: &mut Side, record: &Record, event: &Event) -> &'static str {
     for _ in 0..TRIES {
         let letter = side.answer(alloc, event);

@@ -19,7 +19,8 @@ pub fn next_number(count: usize) -> Option<Number> {
     Number::new(u8::try_from(count.saturating_add(1)).ok()?)
 }
 
-/// Returns the message that `word` encodes. If `word` has no number, the message has the number `place`.
+/// Returns the message that `word` encodes, as `NUMBER:BODY@GROUP/TRANSACTION`. If `word` has no number, the message
+/// has the number `place`. Without qualifiers they are G1 and T1.
 pub fn message(alloc: Global, word: &str, place: Option<Number>) -> Option<Apdu> {
     let (digits, word) = word.split_once(':').unwrap_or(("", word));
     let (word, id) = word.split_once('@').unwrap_or((word, "G1/T1"));

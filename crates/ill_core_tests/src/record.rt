@@ -186,7 +186,8 @@ impl Record {
         readings
     }
 
-    /// Sets the parts that the state of a requester requires.
+    /// Sets the parts that the state of a requester requires. The request is among them, unless `past` begins with
+    /// `only` or leaves the request out.
     fn want_as_requester(&mut self, alloc: Global, past: &str) {
         self.wanted = match self.readings.state {
             State::CancelPending | State::Cancelled => &["c"],

@@ -78,7 +78,8 @@ impl Side {
         }
     }
 
-    /// Performs an event between marks, and returns the letter of the answer.
+    /// Performs an event between marks, and returns the letter of the answer. If the role has no such event, returns
+    /// `NO CASE`.
     fn happens(&mut self, alloc: Global, event: &Event) -> &'static str {
         let state = self.state();
         match (self, event) {
@@ -231,7 +232,7 @@ fn turn_letter(turn: Turn) -> &'static str {
     }
 }
 
-/// Returns the letter of the answer to a message in `state`.
+/// Returns the letter of the answer to a message in `state`. A question mark follows if the answer names another state.
 fn taken(answer: Result<Taking, Refusal>, state: State) -> &'static str {
     match answer {
         Ok(Taking::Taken) => "T",
@@ -242,7 +243,7 @@ fn taken(answer: Result<Taking, Refusal>, state: State) -> &'static str {
     }
 }
 
-/// Returns the letter of a refusal in `state`.
+/// Returns the letter of a refusal in `state`. A question mark follows if the refusal names another state.
 fn refused(refusal: Refusal, state: State) -> &'static str {
     match refusal {
         Refusal::OtherTransaction => "O",

@@ -8,7 +8,8 @@ use ill_test_kit::marks::{quietly, tried};
 use ill_values::{Apdu, Body, OutOfMemory, TxnId};
 use std::alloc::Global;
 
-/// Returns the first call that contradicts `decode`, if that answers `apdu` and the size `count`.
+/// Returns the first call that contradicts the answer of `decode` to `bytes`, if there is one. This answer is `apdu`
+/// and the size `count`.
 pub fn differing_at_apdu(
     alloc: Global,
     bytes: &[u8],
@@ -130,7 +131,7 @@ fn is_copied(alloc: Global, apdu: &Apdu) -> bool {
     }
 }
 
-/// Returns the first call that contradicts `decode`, if that answers `fault`.
+/// Returns the first call that contradicts the answer of `decode` to `bytes`, if there is one. This answer is `fault`.
 pub fn differing_at_fault(alloc: Global, bytes: &[u8], fault: DerFault) -> Option<&'static [u8]> {
     let reading = Reading::of(alloc, bytes);
     let is_answered = match &reading.answer {

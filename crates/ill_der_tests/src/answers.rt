@@ -15,6 +15,7 @@ use std::alloc::Global;
 pub struct Encodings;
 
 impl AnswersCases for Encodings {
+    /// Adds the answers to the case `line`. If it is no case, they are `no case`.
     fn answer(&mut self, alloc: Global, page: &mut Page, line: &str) -> Option<()> {
         push_answers(alloc, page, line);
         Some(())

@@ -87,7 +87,8 @@ impl TestedFeeds {
         }
     }
 
-    /// Returns true if both have given the same APDUs and fault, and agree on the end.
+    /// Returns true if both have given the same APDUs and fault, and agree on the end. They must also agree on the call
+    /// that contradicted another.
     pub fn agrees_with(&self, other: &TestedFeeds) -> bool {
         self.apdus.so_far() == other.apdus.so_far()
             && self.fault == other.fault
@@ -205,6 +206,7 @@ impl Handler<Vec<Apdu>> for Collector {
     // The handler promises nothing of what it does with an APDU.
     ghost handles = { λ old apdu result new. Unit {0} };
 
+    /// Adds a copy of the APDU to `apdus`. Fails if memory runs out.
     fn handle(
         &mut self,
         alloc: Global,
@@ -231,6 +233,7 @@ impl Handler<()> for Viewer<'_> {
     // The handler promises nothing of what it does with an APDU.
     ghost handles = { λ old apdu result new. Unit {0} };
 
+    /// Compares the view `apdu` with the next APDU that is expected.
     fn handle(&mut self, _alloc: Global, _context: &mut (), apdu: &ApduView<'_>) -> Result<(), ()> {
         match self.expected {
             [first, after @ ..] => {

@@ -56,7 +56,8 @@ impl Bench {
         Some(())
     }
 
-    /// Performs `act GROUP TRANSACTION [DAY] WORDS`, or `take BYTES`: the desk acts or takes a message, and is saved.
+    /// Performs `act GROUP TRANSACTION [DAY] WORDS` if `is_act` is true, and else `take BYTES`. The desk acts or takes
+    /// a message, and is saved.
     fn call(&mut self, page: &mut Page, is_act: bool, phrase: Phrase<'_>) -> Option<()> {
         let mut desk = open(self.alloc, &mut self.store)?;
         let done = if is_act {
@@ -130,12 +131,14 @@ fn take(
 }
 
 impl Performs for Bench {
+    /// Begins a case: there is no desk, and nothing is planned.
     fn begin(&mut self) -> Option<()> {
         drop(self.store.take());
         self.plan = NextCall::Works;
         Some(())
     }
 
+    /// Performs the call that `word` names, on the words of `phrase`. Returns None if it is no call of the bench.
     fn perform(&mut self, page: &mut Page, word: &str, phrase: Phrase<'_>) -> Option<()> {
         match word {
             "desk" => self.begin_desk(phrase.words),
@@ -148,6 +151,7 @@ impl Performs for Bench {
         }
     }
 
+    /// Does nothing after the last case.
     fn end(&mut self) -> Option<()> {
         Some(())
     }

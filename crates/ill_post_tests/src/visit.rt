@@ -56,8 +56,8 @@ pub fn close(desk: Desk<MemoryStore>, store: &mut Option<MemoryStore>) {
 }
 
 impl<'a> Visit<'a> {
-    /// Makes the visit `GROUP TRANSACTION STAMP [[DAY] WORDS] [> WRITER]`, between marks. The next call of the store is
-    /// planned, and the diary is written to the writer.
+    /// Makes the visit `GROUP TRANSACTION STAMP [[DAY] WORDS] [> WRITER]`, between marks. The next call of the store
+    /// has the plan `plan`, and the diary is written to the writer. Returns None if the words are no visit.
     pub fn made(
         alloc: Global,
         store: &mut Option<MemoryStore>,
@@ -93,7 +93,8 @@ impl<'a> Visit<'a> {
     }
 
     /// Returns the words for the part that this refused try spoiled, if it did. `whole` is the visit that was not
-    /// refused.
+    /// refused. A refused try may land and release nothing. The live record and the diary are both as before, or both
+    /// as `whole` left them.
     pub fn fault(&self, whole: &Visit<'_>) -> Option<&'static str> {
         let entered = &self.call.output.taken;
         let is_before = self.after.live == self.before.live && entered.is_empty();

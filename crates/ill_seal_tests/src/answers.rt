@@ -12,6 +12,7 @@ use std::alloc::{AllocError, Global};
 pub struct Letters;
 
 impl AnswersCases for Letters {
+    /// Adds the answer to the case `line`, on a line. Returns None if `line` is no case.
     fn answer(&mut self, alloc: Global, page: &mut Page, line: &str) -> Option<()> {
         push_answer(alloc, page, line)?;
         page.line("");
@@ -51,7 +52,7 @@ fn push_hmac(alloc: Global, output: &mut Page, words: &str) -> Option<()> {
     push_hex(alloc, output, &hmac(&key, &text))
 }
 
-/// Adds a sealed letter.
+/// Adds the letter that `seal` makes of the case in `words`.
 fn push_letter(alloc: Global, output: &mut Page, words: &str) -> Option<()> {
     let case = case_in(alloc, words)?;
     let letter = tried(alloc, AllocError, || {
@@ -61,7 +62,7 @@ fn push_letter(alloc: Global, output: &mut Page, words: &str) -> Option<()> {
     push_hex(alloc, output, &letter)
 }
 
-/// Adds the text of a sealed letter, or the fault.
+/// Adds the text that `unseal` finds in the letter of the case in `words`, or its fault.
 fn push_text(alloc: Global, output: &mut Page, words: &str) -> Option<()> {
     let case = case_in(alloc, words)?;
     match quietly(alloc, || unseal(&case.key, case.sender, &case.bytes)) {
@@ -71,7 +72,7 @@ fn push_text(alloc: Global, output: &mut Page, words: &str) -> Option<()> {
     Some(())
 }
 
-/// Adds the text of a key.
+/// Adds the text of the key with the hexadecimal digits `words`.
 fn push_key_text(alloc: Global, output: &mut Page, words: &str) -> Option<()> {
     let key = key_in(words)?;
     let text = tried(alloc, AllocError, || key.to_text(alloc)).ok()?;

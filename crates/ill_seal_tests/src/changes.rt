@@ -12,7 +12,7 @@ use std::alloc::Global;
 struct Counts {
     /// The count of letters that open.
     open: u32,
-    /// The counts of the faults, in their order.
+    /// The counts of the faults, each at its `place_of`.
     faults: [u32; 4],
 }
 

@@ -22,6 +22,7 @@ pub struct Bench<'a, R: LockFiles> {
 struct Ill;
 
 impl Program for Ill {
+    /// Performs a command line on the streams of `call`, and returns its exit status.
     fn run<T: LockFiles>(&self, rt: &T, alloc: Global, words: &[&str], call: &mut Call<'_>) -> u8 {
         run_words(
             rt,
@@ -68,7 +69,8 @@ impl<'a, R: LockFiles> Bench<'a, R> {
         Bench { alloc, folder }
     }
 
-    /// Performs a command line of `ill`, on files that observe its lock if `kind` says so.
+    /// Performs a command line of `ill`, on files that observe its lock if `kind` is `Watched`. Returns None if `kind`
+    /// is no command line.
     fn command(&mut self, page: &mut Page, kind: Kind, phrase: Phrase<'_>) -> Option<()> {
         let mut call = Call::of(self.alloc, phrase)?;
         match kind {
@@ -80,10 +82,12 @@ impl<'a, R: LockFiles> Bench<'a, R> {
 }
 
 impl<'a, R: LockFiles> Performs for Bench<'a, R> {
+    /// Begins a case with an empty folder.
     fn begin(&mut self) -> Option<()> {
         self.folder.clear()
     }
 
+    /// Performs the call that `word` names, on the words of `phrase`. Returns None if `KINDS` has no such word.
     fn perform(&mut self, page: &mut Page, word: &str, phrase: Phrase<'_>) -> Option<()> {
         match named(&KINDS, word)? {
             Kind::File(kind) => self.folder.perform(page, kind, phrase),

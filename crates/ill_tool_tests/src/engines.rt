@@ -16,6 +16,7 @@ pub enum Simulation {
 }
 
 impl Engine for Simulation {
+    /// Calls the engine on the streams of `call`, and prints its answer. Returns None if the words are no call of it.
     fn answer(&self, alloc: Global, page: &mut Page, call: &mut Call<'_>) -> Option<()> {
         match self {
             Simulation::Sides => simulate(alloc, page, call),

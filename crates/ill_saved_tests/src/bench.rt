@@ -23,6 +23,7 @@ pub struct Bench<'a> {
 impl<'a> Cases for Bench<'a> {
     type Call = Call;
 
+    /// Returns the call that the first word of a line names.
     fn call_of(word: &str) -> Option<Call> {
         call_of(word)
     }
@@ -37,6 +38,7 @@ impl<'a> Cases for Bench<'a> {
         names.cases(words)
     }
 
+    /// Returns the octet for which `#` stands in the case `number`. Only the cases of `octets` have one.
     fn octet(call: Call, number: usize) -> Option<u8> {
         match call {
             Call::Record(RecordCall::Octets) => u8::try_from(number).ok(),
@@ -44,6 +46,7 @@ impl<'a> Cases for Bench<'a> {
         }
     }
 
+    /// Performs a case, and writes its answer. Returns None if the words are no call.
     fn answer(&mut self, line: &mut Line, call: Call, words: &CaseWords<'_>) -> Option<()> {
         match call {
             Call::Record(call) => {
@@ -69,7 +72,7 @@ impl<'a> Bench<'a> {
         }
     }
 
-    /// Performs a call of the store.
+    /// Performs a call of the store, and writes its answer.
     fn call_store(
         &mut self,
         line: &mut Line,
@@ -87,7 +90,7 @@ impl<'a> Bench<'a> {
         }
     }
 
-    /// Performs a call of the sides.
+    /// Performs a call of the sides, and writes its answer.
     fn call_sides(
         &mut self,
         line: &mut Line,

@@ -22,7 +22,7 @@ pub struct Failing<'a> {
     deceit: Deceit<'a>,
     /// The permissions of the file that was made last, at its making.
     made: Cell<u32>,
-    /// The owner that the last `lchown` asked for.
+    /// The owner that the last `lchown` with an owner asked for, if there was one.
     given: Cell<Option<u32>>,
 }
 
@@ -89,12 +89,12 @@ impl<'a> Failing<'a> {
         self.made.get()
     }
 
-    /// Returns the owner that the last `lchown` asked for, if there is one.
+    /// Returns the owner that the last `lchown` with an owner asked for, if there was one.
     pub fn given(&self) -> Option<u32> {
         self.given.get()
     }
 
-    /// Returns the result of a lookup, true or false.
+    /// Returns the result of a lookup of `path`, which is false if `deceit` says so.
     fn look_up(&self, path: &str) -> io::Result<Metadata> {
         match self.deceit {
             Deceit::None => self.rt.symlink_metadata(path),
@@ -194,6 +194,7 @@ impl<'a> Files for Failing<'a> {
     }
 }
 
+/// Passes a lock on to the files of the system, and counts the call. A pause takes no time.
 impl LockFiles for Failing<'_> {
     fn try_lock(&self, file: &FailingFile) -> io::Result<bool> {
         self.left.pass()?;
@@ -203,6 +204,7 @@ impl LockFiles for Failing<'_> {
     fn pause(&self) {}
 }
 
+/// Passes each call on to the open file of the system. `sync_all` and `set_permissions` are counted.
 impl OpenFile for FailingFile {
     fn metadata(&self) -> io::Result<Metadata> {
         self.file.metadata()
@@ -227,6 +229,7 @@ impl OpenFile for FailingFile {
     }
 }
 
+/// Counts each read, and passes it on.
 impl Read for FailingFile {
     fn read(&mut self, buf: &mut [u8]) -> io::Result<usize> {
         self.left.pass()?;
@@ -234,6 +237,7 @@ impl Read for FailingFile {
     }
 }
 
+/// Counts each write, and passes it on. A flush is not counted.
 impl Write for FailingFile {
     fn write(&mut self, buf: &[u8]) -> io::Result<usize> {
         self.left.pass()?;
@@ -245,6 +249,7 @@ impl Write for FailingFile {
     }
 }
 
+/// Passes each seek on, and does not count it.
 impl Seek for FailingFile {
     fn seek(&mut self, to: SeekFrom) -> io::Result<u64> {
         self.file.seek(to)

@@ -35,7 +35,8 @@ impl<'a> FileBench<'a> {
         }
     }
 
-    /// Performs a call, and writes its answer.
+    /// Performs the call that `words` name, and writes its answer: `load` or `save` on the store of the bench, or a
+    /// call on a file. Returns None if they name no call.
     pub fn call(&mut self, line: &mut Line, names: &Names, words: &str) -> Option<()> {
         let (word, others) = words.split_once(' ').unwrap_or((words, ""));
         match word {
@@ -111,7 +112,8 @@ impl<'a> FileBench<'a> {
         None
     }
 
-    /// Performs `held NAME`: takes the lock of the file, while another opening holds it.
+    /// Performs `held NAME`: takes the lock of the file, while another opening holds it. No call of `files` fails, and
+    /// their pauses take no time.
     fn held(&self, line: &mut Line, path: &str) -> Option<()> {
         let holder = FileLock::take(self.folder.rt, self.folder.alloc, path).ok()?;
         let files = self.failing_files("4294967295", "fault")?;
@@ -141,14 +143,14 @@ impl<'a> FileBench<'a> {
         Failing::after(self.folder.rt, self.folder.alloc, count, fault).ok()
     }
 
-    /// Loads from a new store over `files`, and writes the answer.
+    /// Loads from a new store over `files`, with a limit of 100 bytes, and writes the answer.
     fn load_over(&self, line: &mut Line, files: &Failing<'a>, path: &str) -> Option<()> {
         let mut store = FileStore::at(files, self.folder.alloc, path, 100).ok()?;
         write_loaded(line, load(&mut store, self.folder.alloc));
         Some(())
     }
 
-    /// Saves `bytes` in a new store over `files`, and writes the answer.
+    /// Saves `bytes` in a new store over `files`, with a limit of 100 bytes, and writes the answer.
     fn save_over(
         &self,
         line: &mut Line,
@@ -313,7 +315,7 @@ fn save<R: Files>(
     store.save(alloc, bytes)
 }
 
-/// Writes `word` if the call has succeeded.
+/// Writes `word` if the call with the result `done` has succeeded, and else returns None.
 fn write_done(line: &mut Line, word: &str, done: io::Result<()>) -> Option<()> {
     done.ok()?;
     line.text(word);

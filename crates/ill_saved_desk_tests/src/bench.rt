@@ -28,18 +28,22 @@ pub struct Bench<'a> {
 impl<'a> Cases for Bench<'a> {
     type Call = Call;
 
+    /// Returns the call that the first word of a line names.
     fn call_of(word: &str) -> Option<Call> {
         call_of(word)
     }
 
+    /// Returns the count of cases of a line.
     fn count(names: &Names, _call: Call, words: &str) -> usize {
         names.cases(words)
     }
 
+    /// Returns None: no case of a desk has an octet for `#`.
     fn octet(_call: Call, _number: usize) -> Option<u8> {
         None
     }
 
+    /// Performs a case, and writes its answer. Returns None if the words are no call.
     fn answer(&mut self, line: &mut Line, call: Call, words: &CaseWords<'_>) -> Option<()> {
         match call {
             Call::Words(call) => self.call(line, call, words.text),

@@ -17,7 +17,8 @@ pub trait DeskKind: Holdings {
     /// Returns the arguments of a beginning. A desk of one side begins with that of `txn`.
     fn first(role: Role, txn: TxnId) -> Self::First;
 
-    /// Creates a desk of what the words say, in a try that it begins.
+    /// Creates a desk over `store` with the role that `words` name, and for one side with their transaction. It begins
+    /// a try of `tries` before. Returns None if the words name no role or transaction.
     fn create(alloc: Global, tries: &Tries, store: MemoryStore, words: &str) -> Option<Begun<Self>>;
 
     /// Returns the number of sides.
@@ -27,6 +28,7 @@ pub trait DeskKind: Holdings {
     fn side_at<S: Store>(desk: &AnyDesk<Self, S>, place: usize) -> Option<&Side>;
 }
 
+/// A desk of one transaction. Its side needs no name, and stands at each place.
 impl DeskKind for OneSide {
     fn key(_txn: &TxnId) -> &() {
         &()
@@ -56,6 +58,7 @@ impl DeskKind for OneSide {
     }
 }
 
+/// A desk of many transactions. Each side has its transaction as its name.
 impl DeskKind for ManySides {
     fn key(txn: &TxnId) -> &TxnId {
         txn
@@ -85,7 +88,8 @@ impl DeskKind for ManySides {
     }
 }
 
-/// Returns the transaction that `words` begin with, or that of a desk of one side, and the words after it.
+/// Returns the transaction of a call, and the words after it. At a desk of many transactions `words` begin with it. A
+/// desk of one side has its own, and all words remain.
 pub fn txn_in<'a, H: DeskKind, S: Store>(
     alloc: Global,
     desk: &AnyDesk<H, S>,

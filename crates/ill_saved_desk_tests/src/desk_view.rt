@@ -64,7 +64,8 @@ impl DeskView {
         }
     }
 
-    /// Writes the view after a call that must change nothing, and tells a change.
+    /// Writes the view after a call that must change nothing. If the records or counts differ from those of `before`,
+    /// writes `CHANGED` too.
     pub fn write_after(&self, line: &mut Line, before: &DeskView) {
         self.write(line);
         if self.kept.is_none() || self.kept != before.kept {
@@ -104,7 +105,7 @@ fn standing_of<H: DeskKind, S: Store>(desk: &AnyDesk<H, S>, txn: Option<&TxnId>)
     }
 }
 
-/// Returns the records of all sides, each after the count of its released messages.
+/// Returns the records of all sides, each after the count of its released messages, or None if memory runs out.
 fn kept_by<H: DeskKind, S: Store>(alloc: Global, desk: &AnyDesk<H, S>) -> Option<Vec<u8>> {
     let mut kept = Vec::new(alloc);
     for place in 0..H::count(desk) {

@@ -73,7 +73,8 @@ pub fn answer_of<H: DeskKind, S: Store>(
     Ok(Answer::Done)
 }
 
-/// Makes a call, and repeats it while a growth is refused. Only a save uses up the plan of a store.
+/// Makes a call, and repeats it while a growth is refused. If a refused call has changed the desk since `before`,
+/// returns its answer. Only a save uses up the plan of a store.
 fn answer_again<H: DeskKind, S: Store>(
     alloc: Global,
     desk: &mut AnyDesk<H, S>,
@@ -131,7 +132,8 @@ pub fn perform<H: DeskKind, S: Store>(
     is_done
 }
 
-/// Writes the answer of a call, or `word` if it has no other.
+/// Writes the answer of a call, or `word` if it has no other. `before` and `after` are the views of the desk around the
+/// call.
 pub fn write_answer(
     line: &mut Line,
     word: &str,
@@ -168,7 +170,7 @@ pub fn write_begun<D: Drop, S: Drop>(line: &mut Line, begun: Result<D, (DeskFaul
     }
 }
 
-/// Performs a call that takes words, and writes its answer.
+/// Performs a call that takes words, and writes its answer. Returns `None` for a call that is not of a desk.
 pub fn call<H: DeskKind, S: Store>(
     alloc: Global,
     line: &mut Line,
@@ -311,6 +313,7 @@ fn message<H: DeskKind, S: Store>(
 }
 
 /// Performs `messages BYTES`: tells if these bytes are all released messages of the transaction, one after another.
+/// Returns `None` at a desk of many transactions.
 fn messages<H: DeskKind, S: Store>(
     alloc: Global,
     line: &mut Line,

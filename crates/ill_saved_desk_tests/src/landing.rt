@@ -39,7 +39,8 @@ fn created<H: DeskKind>(alloc: Global, role: Role) -> Option<MemoryDesk<H>> {
     AnyDesk::begin(alloc, MemoryStore::new(alloc), H::first(role, txn)).ok()
 }
 
-/// Saves the desk twice. Returns true if a growth of the second save was refused, and it has landed nothing.
+/// Saves the desk twice, the second time under `plan`. Returns true if a growth of the second save was refused, and it
+/// has landed nothing. Returns None if it has landed something. Else writes the answers, and returns false.
 fn save<H: DeskKind>(
     alloc: Global,
     line: &mut Line,

@@ -64,7 +64,7 @@ pub fn taking_word(taking: Taking, state: State) -> &'static str {
     }
 }
 
-/// Returns `word` if the named state `told` is the state of the side.
+/// Returns `word` if the named state `told` is the state of the side, and else `ANOTHER STATE`.
 fn word_in(told: State, state: State, word: &'static str) -> &'static str {
     if told == state { word } else { "ANOTHER STATE" }
 }

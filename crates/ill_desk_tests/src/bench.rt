@@ -61,11 +61,13 @@ impl Bench {
 }
 
 impl Performs for Bench {
+    /// Begins a case with an empty memory.
     fn begin(&mut self) -> Option<()> {
         self.past.clear();
         Some(())
     }
 
+    /// Performs the call that `word` names, on the words of `phrase`. Returns None if `KINDS` has no such word.
     fn perform(&mut self, page: &mut Page, word: &str, phrase: Phrase<'_>) -> Option<()> {
         match named(&KINDS, word)? {
             Kind::Engine(called) => engine::perform(self.alloc, page, &called, phrase),
@@ -73,6 +75,7 @@ impl Performs for Bench {
         }
     }
 
+    /// Does nothing after the last case.
     fn end(&mut self) -> Option<()> {
         Some(())
     }

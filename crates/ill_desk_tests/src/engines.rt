@@ -25,6 +25,7 @@ pub enum ApduEngine {
 }
 
 impl Engine for ApduEngine {
+    /// Calls the function on the streams of `call`, and prints its answer. Returns None if the words are no call.
     fn answer(&self, alloc: Global, page: &mut Page, call: &mut Call<'_>) -> Option<()> {
         match self {
             ApduEngine::Show => {

@@ -29,14 +29,15 @@ const WAITING: usize = 2;
 
 /// Sides that are kept in a store. A function returns `None` if its words are no call, or its engine is only for desks.
 pub trait Kept {
-    /// Performs the action that the words encode, by its engine.
+    /// Performs the action that the words encode, by its engine. The result is true if the action was done.
     fn act(&mut self, alloc: Global, call: &mut Call<'_>) -> Option<Result<bool, ToolFault>>;
 
-    /// Takes the APDUs of the input, by the engine. At a desk it prints long lines with `--long`, and keeps each message
-    /// that came with `--keep`.
+    /// Takes the APDUs of the input, by the engine. The result is true if none was refused or in conflict. At a desk it
+    /// prints long lines with `--long`, and keeps each message that came with `--keep`.
     fn take(&mut self, alloc: Global, call: &mut Call<'_>) -> Result<bool, ToolFault>;
 
-    /// Takes mails, by the engine, which only a desk has. After them `WAITING` others wait.
+    /// Takes mails, by the engine, which only a desk has. After them `WAITING` others wait. The result has the verdict
+    /// on each mail.
     fn inbox(
         &mut self,
         alloc: Global,
@@ -44,8 +45,9 @@ pub trait Kept {
         mails: &[Mail],
     ) -> Option<Result<Vec<Verdict>, ToolFault>>;
 
-    /// Sends all messages that are due to be sent, by the engine, which only a desk has. The engine sends them only if
-    /// `asking` asks for them.
+    /// Sends all messages that are due to be sent, by the engine, which only a desk has. The result is their number.
+    /// `asking` has the messages that came for loans that are over. The messages of such a loan are sent only if
+    /// `asking` has one of the loan.
     fn outbox(
         &self,
         alloc: Global,
@@ -54,8 +56,7 @@ pub trait Kept {
         letters: &mut Letters,
     ) -> Option<Result<usize, ToolFault>>;
 
-    /// Writes all messages that are due to be sent, by the engine, which only a desk has. The engine writes them only
-    /// if `asking` asks for them.
+    /// Writes the messages that `outbox` sends to the output, one after another, by the engine, which only a desk has.
     fn stream(
         &self,
         alloc: Global,
@@ -98,6 +99,7 @@ pub trait Kept {
 
 /// One side is kept. The words of an action are `[--today DAY] WORDS`. The words of a message are its number.
 impl<S: Store> Kept for Desk1<S> {
+    /// Performs `[--today DAY] WORDS` by `run_act`.
     fn act(&mut self, alloc: Global, call: &mut Call<'_>) -> Option<Result<bool, ToolFault>> {
         let today = day(call.words)?;
         let words: Vec<&str> = texts(alloc, words_after(call.words))?;
@@ -106,12 +108,14 @@ impl<S: Store> Kept for Desk1<S> {
         Some(call.end_engine(alloc, answer, &ToolFault::OutOfMemory))
     }
 
+    /// Takes the APDUs of the input by `run_take`.
     fn take(&mut self, alloc: Global, call: &mut Call<'_>) -> Result<bool, ToolFault> {
         call.begin(alloc);
         let answer = run_take(alloc, self, &mut call.source, &mut call.output);
         call.end_engine(alloc, answer, &ToolFault::OutOfMemory)
     }
 
+    /// Returns None: one side takes no mails.
     fn inbox(
         &mut self,
         _alloc: Global,
@@ -121,6 +125,7 @@ impl<S: Store> Kept for Desk1<S> {
         None
     }
 
+    /// Returns None: one side sends no mails.
     fn outbox(
         &self,
         _alloc: Global,
@@ -131,6 +136,7 @@ impl<S: Store> Kept for Desk1<S> {
         None
     }
 
+    /// Returns None: one side has no outbox.
     fn stream(
         &self,
         _alloc: Global,
@@ -140,10 +146,12 @@ impl<S: Store> Kept for Desk1<S> {
         None
     }
 
+    /// Returns None: one side has no engine for the deeds of a day.
     fn dates(&mut self, _alloc: Global, _call: &mut Call<'_>) -> Option<Result<(), ToolFault>> {
         None
     }
 
+    /// Returns None: one side is not copied.
     fn copy(
         &self,
         _alloc: Global,
@@ -153,6 +161,7 @@ impl<S: Store> Kept for Desk1<S> {
         None
     }
 
+    /// Writes the message with the number in the words, by `run_send`.
     fn send(&self, alloc: Global, call: &mut Call<'_>) -> Option<Result<(), ToolFault>> {
         let number = number(call.words)?;
         call.begin(alloc);
@@ -160,32 +169,38 @@ impl<S: Store> Kept for Desk1<S> {
         Some(call.end_engine(alloc, answer, &ToolFault::OutOfMemory))
     }
 
+    /// Shows the side by `run_status`.
     fn status(&self, alloc: Global, call: &mut Call<'_>) -> Result<(), ToolFault> {
         call.begin(alloc);
         let answer = run_status(alloc, self, &mut call.output);
         call.end_engine(alloc, answer, &ToolFault::OutOfMemory)
     }
 
+    /// Returns None: one side has no engine that shows a loan.
     fn loan(&self, _alloc: Global, _call: &mut Call<'_>) -> Option<Result<(), ToolFault>> {
         None
     }
 
+    /// Saves the side.
     fn save(&mut self, alloc: Global, call: &mut Call<'_>) -> Result<(), DeskFault> {
         call.begin(alloc);
         let answer = Desk1::save(self, alloc);
         call.end(alloc, answer, &DeskFault::OutOfMemory)
     }
 
+    /// Restarts the side from the landed record.
     fn restart(&mut self, alloc: Global, call: &mut Call<'_>) -> Result<(), DeskFault> {
         call.begin(alloc);
         let answer = Desk1::restart(self, alloc);
         call.end(alloc, answer, &DeskFault::OutOfMemory)
     }
 
+    /// Returns the view of the side.
     fn view(&self, alloc: Global) -> Option<View> {
         View::of_side(alloc, self)
     }
 
+    /// Prints the state of the side.
     fn tell(&self, page: &mut Page) {
         tell_side(page, self.side(), self.released());
         page.text("\n");
@@ -194,6 +209,7 @@ impl<S: Store> Kept for Desk1<S> {
 
 /// A desk is kept. GROUP and TRANSACTION precede the words of an action, a message or a loan.
 impl<S: Store> Kept for Desk<S> {
+    /// Performs `GROUP TRANSACTION [--today DAY] WORDS` by `run_desk_act`.
     fn act(&mut self, alloc: Global, call: &mut Call<'_>) -> Option<Result<bool, ToolFault>> {
         let (txn, words) = txn_at_beginning(alloc, call.words)?;
         let today = day(words)?;
@@ -203,6 +219,7 @@ impl<S: Store> Kept for Desk<S> {
         Some(call.end_engine(alloc, answer, &ToolFault::OutOfMemory))
     }
 
+    /// Takes the APDUs of the input by `run_desk_take`, or by `run_desk_take_as` if an option is given.
     fn take(&mut self, alloc: Global, call: &mut Call<'_>) -> Result<bool, ToolFault> {
         let form = TakeForm {
             is_long: has(call.words, "--long"),
@@ -218,6 +235,7 @@ impl<S: Store> Kept for Desk<S> {
         call.end_engine(alloc, answer, &ToolFault::OutOfMemory)
     }
 
+    /// Takes `mails` by `run_desk_inbox`. The messages that are kept go to the errors of the call.
     fn inbox(
         &mut self,
         alloc: Global,
@@ -235,6 +253,7 @@ impl<S: Store> Kept for Desk<S> {
         Some(call.end_engine(alloc, answer, &ToolFault::OutOfMemory))
     }
 
+    /// Sends into `letters` by `run_desk_outbox`.
     fn outbox(
         &self,
         alloc: Global,
@@ -247,6 +266,7 @@ impl<S: Store> Kept for Desk<S> {
         Some(call.end_engine(alloc, answer, &ToolFault::OutOfMemory))
     }
 
+    /// Writes to the output by `run_desk_outbox_stream`.
     fn stream(
         &self,
         alloc: Global,
@@ -271,6 +291,7 @@ impl<S: Store> Kept for Desk<S> {
         Some(call.end_engine(alloc, answer, &ToolFault::OutOfMemory))
     }
 
+    /// Copies the desk to `copy` by `run_desk_copy`.
     fn copy(
         &self,
         alloc: Global,
@@ -282,6 +303,7 @@ impl<S: Store> Kept for Desk<S> {
         Some(call.end_engine(alloc, answer, &ToolFault::OutOfMemory))
     }
 
+    /// Writes the message `GROUP TRANSACTION NUMBER` by `run_desk_send`.
     fn send(&self, alloc: Global, call: &mut Call<'_>) -> Option<Result<(), ToolFault>> {
         let (txn, words) = txn_at_beginning(alloc, call.words)?;
         let number = number(words)?;
@@ -290,12 +312,14 @@ impl<S: Store> Kept for Desk<S> {
         Some(call.end_engine(alloc, answer, &ToolFault::OutOfMemory))
     }
 
+    /// Shows the sides by `run_desk_status`.
     fn status(&self, alloc: Global, call: &mut Call<'_>) -> Result<(), ToolFault> {
         call.begin(alloc);
         let answer = run_desk_status(alloc, self, &mut call.output);
         call.end_engine(alloc, answer, &ToolFault::OutOfMemory)
     }
 
+    /// Shows the loan `GROUP TRANSACTION` by `run_desk_loan`, without notes and diary.
     fn loan(&self, alloc: Global, call: &mut Call<'_>) -> Option<Result<(), ToolFault>> {
         let (txn, _) = txn_at_beginning(alloc, call.words)?;
         call.begin(alloc);
@@ -314,22 +338,26 @@ impl<S: Store> Kept for Desk<S> {
         Some(call.end_engine(alloc, answer, &ToolFault::OutOfMemory))
     }
 
+    /// Saves the desk.
     fn save(&mut self, alloc: Global, call: &mut Call<'_>) -> Result<(), DeskFault> {
         call.begin(alloc);
         let answer = Desk::save(self, alloc);
         call.end(alloc, answer, &DeskFault::OutOfMemory)
     }
 
+    /// Restarts the desk from the landed record.
     fn restart(&mut self, alloc: Global, call: &mut Call<'_>) -> Result<(), DeskFault> {
         call.begin(alloc);
         let answer = Desk::restart(self, alloc);
         call.end(alloc, answer, &DeskFault::OutOfMemory)
     }
 
+    /// Returns the view of the desk.
     fn view(&self, alloc: Global) -> Option<View> {
         View::of_desk(alloc, self)
     }
 
+    /// Prints the transaction and the state of each side, or `empty`.
     fn tell(&self, page: &mut Page) {
         let mut before = "";
         for place in 0..self.sides().len() {

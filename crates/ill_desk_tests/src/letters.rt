@@ -76,6 +76,7 @@ impl Outgoing for Letters {
 
     ghost after = { λ there _. there };
 
+    /// Adds a mail to the list. Fails if there is no room for it, or memory runs out.
     fn put(&mut self, name: &[u8], bytes: &[u8]) -> Result<(), ToolFault> {
         if self.room == 0 {
             return Err(ToolFault::Desk(DeskFault::Store(StoreFault::Failed)));

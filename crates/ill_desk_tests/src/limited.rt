@@ -37,10 +37,12 @@ impl Store for LimitedStore {
     // The store promises nothing of the record that a loss of power leaves.
     ghost leaves = { λ _ _. Unit {0} };
 
+    /// Loads what has landed in the store in memory.
     fn load(&mut self, alloc: Global) -> Result<Option<Vec<u8>>, StoreFault> {
         self.store.load(alloc)
     }
 
+    /// Saves `bytes`, if a save is left. Else the store in memory fails, and what has landed stays.
     fn save(&mut self, alloc: Global, bytes: &[u8]) -> Result<(), StoreFault> {
         if self.saves == 0 {
             self.store.set_next(NextCall::FailsOld);

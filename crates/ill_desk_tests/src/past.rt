@@ -68,7 +68,8 @@ impl Past {
         drop(self.lines.take());
     }
 
-    /// Performs a line, and prints its answer.
+    /// Performs a line, and prints its answer. A short call on the memory is made between marks, if the lines before it
+    /// are known.
     pub fn perform(&mut self, page: &mut Page, kind: LineCall, phrase: Phrase<'_>) -> Option<()> {
         let is_short = is_short(phrase);
         match kind {

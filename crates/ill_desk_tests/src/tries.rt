@@ -1,8 +1,8 @@
 //! Judges a call whose growth was refused.
 //!
 //! The call either answers out of memory, or does without the memory and gives the usual result. If it answers out of
-//! memory, each part of the result has three right values. They are the value without the call, the value after the
-//! call, and the value after some of its messages.
+//! memory, each part of the result has several right values. They are the value without the call and the value after
+//! the call. For some calls, they are also the values after some of its messages.
 
 use crate::desk_call::DeskCall;
 use crate::memory::Memory;

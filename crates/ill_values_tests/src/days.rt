@@ -11,7 +11,7 @@ struct PartsRow {
     made: Result<&'static str, DayFault>,
 }
 
-/// The cases of `Day::new`.
+/// The cases of `Day::new`. A year out of range is found before a wrong month.
 const PARTS: [PartsRow; 13] = [
     PartsRow {
         parts: (2025, 3, 15),
@@ -189,7 +189,7 @@ struct LaterRow {
     later: Option<&'static str>,
 }
 
-/// The cases of `Day::after`.
+/// The cases of `Day::after`. The last three counts are the largest in a span of jiff, and two above it.
 const LATER: [LaterRow; 10] = [
     LaterRow {
         start: "20250315",

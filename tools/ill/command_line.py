@@ -19,7 +19,11 @@ from ill.repository import Unread, read
 
 FILE = "tools/ill/help.jsonl"
 
-# An argument has the label that stands for it; an option has its name, the label of its value, and perhaps a letter.
+# An argument: its name for `clap`, the label that stands for it or for its value, and its line of help, `about`. Of an
+# option `option` is the word, as `--today`, and `letter` the short form, if any. `required` is true if it must be
+# there. `many` is true if it repeats, and `last` if it takes all the words that remain. `values` are the words that it
+# may have, if not any.
+# A command: its word, its line of help, and its arguments.
 Part = collections.namedtuple("Part", "name label option about required many last values letter", defaults=("",))
 Command = collections.namedtuple("Command", "word about parts")
 
@@ -30,23 +34,24 @@ def objects(kind):
 
 
 def program():
-    """Returns what is told of the program itself."""
+    """Returns the object of the kind `program`."""
     return objects("program")[0]
 
 
 def part_of(said):
-    """Returns an argument as the scripts know it."""
+    """Returns the `Part` of an object of the kind `argument`. It has no letter."""
     return Part(said["name"], said["value"] or "", f"--{said['name']}" if said["option"] else "", said["help"],
                 said["required"], said["repeats"], said["rest"], tuple(said["values"]))
 
 
 def explained():
-    """Returns the option of the program that stands before the command, or before the words of an action."""
+    """Returns the first argument that is of no command. It is the option `--explain` of the program."""
     return next(part_of(said) for said in objects("argument") if said["command"] is None)
 
 
 def commands():
-    """Returns the commands for one desk, or for none, and those on a shelf, each in the order of the help."""
+    """Returns two lists of commands: those for one desk or for none, and those on a shelf. Both are in the order of the
+    help. The command `shelf` itself is left out."""
     parts = {}
     for said in objects("argument"):
         parts.setdefault((said["command"], said["shelf"]), []).append(part_of(said))
@@ -74,7 +79,7 @@ def texts():
 
 
 def text_of(name):
-    """Returns a text of the help."""
+    """Returns the text of the help that has this name. Raises `Unread` if there is none."""
     found = texts()
     if name not in found:
         raise Unread(f"{FILE}: no text of the help has the name {name}")
@@ -82,7 +87,7 @@ def text_of(name):
 
 
 def examples():
-    """Returns the examples of all commands."""
+    """Returns the examples of the commands that have one."""
     return [said["example"] for said in objects("command") if said["example"]]
 
 
@@ -92,12 +97,13 @@ def lines():
 
 
 def words_of(name):
-    """Returns the words that the argument with this name may have."""
+    """Returns the words that an argument may have: those of the first one with this name for `clap`."""
     return next(said["values"] for said in objects("argument") if said["name"] == name)
 
 
 def ends():
-    """Returns the exit status of each line of a fault, with N for a number, and of each word for an end without one."""
+    """Returns the exit status of each end, by its text. The text is the line of a fault, or the word for an end without
+    a fault. N stands for a number at the end of a line."""
     return {re.sub(r"\b0$", "N", said["end"]): said["status"] for said in objects("end")}
 
 

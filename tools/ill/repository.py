@@ -15,7 +15,7 @@ TESTS_OF_ROOMS = {"ill_desk_tests", "ill_mail_disk_kit", "ill_post_tests"}
 
 
 class Unread(Exception):
-    """A text that cannot be read, and where it stands."""
+    """A text cannot be read. The text of this exception says where it stands, and why."""
 
 
 # ---- Files
@@ -61,7 +61,7 @@ def stand_on():
 
 
 def is_for_tests(crate):
-    """Returns true if a crate has tests, or is a kit for them."""
+    """Returns true if a crate is one of tests, or a kit for them: its name ends in `_tests` or `_kit`."""
     return crate.endswith(("_tests", "_kit"))
 
 
@@ -106,5 +106,6 @@ def differences(path, wanted):
 
 
 def all_differences(pages):
-    """Returns the lines in which these files differ from their texts."""
+    """Returns a text for each place in which a file differs from what it has to be. `pages` maps the files to their
+    texts."""
     return [line for path, text in pages.items() for line in differences(path, text)]

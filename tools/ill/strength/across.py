@@ -101,7 +101,7 @@ CASES = {"a crate of others releases a message that no store has had": releases_
 
 
 def perform():
-    """Tries all. Returns true if each is refused where it must be."""
+    """Tries all cases. Returns true if each is refused where it must be."""
     all_refused = True
     with tempfile.TemporaryDirectory() as copy:
         # The copy has what was proved already, in out/, so that no library below is proved again.

@@ -373,8 +373,9 @@ class Trial:
             return self.check(bare, paths, kept)[0]
 
     def how(self, said, printed, path, right, bare, right_bare):
-        """Returns how the function `path`, which stands for `right`, was refused, and what was said. A goal that both
-        leave open without their answers is open for want of a proof alone."""
+        """Returns the verdict on the function `path`, which stands for `right`, and what was said of it. `bare` and
+        `right_bare` are what was said of both without their answers. A goal that both leave open then is open for want
+        of a proof alone."""
         well, what = refusal(said, printed, path)
         if is_proved(said, path):
             return PROVED, what
@@ -440,7 +441,7 @@ def is_proved(said, path):
 
 
 def open_goals(said, path):
-    """Returns the goals of a function that `search` left open."""
+    """Returns the goals of a function, and of each closure in it, that `search` left open."""
     lists = [what.partition("`search` did not prove ")[2].partition("; it calls")[0] for what in said_of(said, path)]
     return re.findall(r"`([^`]+)`", " ".join(lists))
 
@@ -454,7 +455,8 @@ def kind_of(goal):
 
 
 def refusal(said, printed, path):
-    """Returns whether a function, or a closure in it, was refused at a goal of its own, and what was said of it."""
+    """Returns true if a function, or a closure in it, was refused at a goal of its own; and what was said. The
+    parameters are what a check has said, what it has printed, and the path of the function."""
     found = said_of(said, path)
     errors = re.findall(r"(?m)^\./proofs/.*?: error: `([^`]+)`: (.*)$", printed)
     for what in found:
@@ -470,8 +472,8 @@ def refusal(said, printed, path):
 
 
 def try_crate(crate, names, is_gate):
-    """Tries the edits of a crate, or those of these names. Returns how many came to each verdict, of the wrong bodies
-    and of the right ones."""
+    """Tries the edits of a crate: those of these names, or all if `names` is empty. Returns how many came to each
+    verdict, of the wrong bodies and of the right ones."""
     functions = functions_of(full("crates", crate))
     edits = edits_of(folders_of(crate, is_gate), crate, functions)
     edits = [edit for edit in edits if not names or edit.name in names]
@@ -504,8 +506,8 @@ def known(is_gate):
 
 
 def perform(asked, is_gate):
-    """Tries the edits of these crates: those of the names of each, or all if it has none. Returns true if all is
-    well."""
+    """Tries the edits of these crates. `asked` maps a crate to the names of its edits, or to no names for all. Returns
+    true if all is well. If `is_gate`, tries the edits of the gate alone."""
     for crate in asked:
         build_below(crate)
     # The longest first. While a crate waits for a lane, the checks of others go on.

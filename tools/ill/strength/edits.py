@@ -12,7 +12,7 @@ Pair = collections.namedtuple("Pair", "file old new")
 
 
 class BadEdit(Exception):
-    """Why an edit cannot be made or tried, or is not refused."""
+    """An edit cannot be made or tried, or is not refused. The text of this exception says why."""
 
 
 def places_of(text, old):

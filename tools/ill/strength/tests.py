@@ -24,7 +24,8 @@ def known():
 
 
 def written_by(folder, cases, arguments):
-    """Returns what the program of tests in this folder writes of the cases. It must run to its end."""
+    """Returns what the program of tests in this folder writes of the cases, with these arguments. Raises `BadEdit` if
+    it does not run to its end."""
     words = {"input": cases, "capture_output": True, "encoding": "utf-8", "check": False}
     ran = subprocess.run(["rt", "try", *arguments], cwd=folder, **words)
     if "run=ended" not in ran.stderr:
@@ -33,7 +34,8 @@ def written_by(folder, cases, arguments):
 
 
 def cases_of(key, value, crate):
-    """Returns the input and the arguments with which the program of a crate performs the cases that an edit names."""
+    """Returns the input and the arguments with which the program of a crate performs the cases that an edit names.
+    `key` and `value` are the two parts of its first line."""
     text = read(f"crates/{crate}/stdin")
     if key == "case":
         return text, ["--", value]

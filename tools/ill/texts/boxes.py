@@ -122,7 +122,8 @@ def pictures():
 
 
 def cells(line, edges, place):
-    """Returns what a line has between the edges of boxes, which it has to keep."""
+    """Returns the texts that a line has between the edges of boxes. Raises `Unread` unless it has a bar at each edge,
+    and no other. `place` is where the line stands."""
     if any(line[edge:edge + 1] != "|" for edge in edges) or line.count("|") != len(edges):
         raise Unread(f"{place}: its bars are not below the corners")
     return [line[begin + 1:end].strip() for begin, end in zip(edges, edges[1:])]
@@ -143,7 +144,8 @@ def resolved(text, known, place):
 
 
 def spans(lines, edges, boxes):
-    """Compares each line below boxes with the last byte before it. Returns the lines after these."""
+    """Compares each line that spans boxes with them: with their sizes, and with the last byte before them. Returns the
+    lines after these. `lines` begin below the boxes, and `boxes` has the bytes of each."""
     while lines and re.fullmatch(r" *\|-+ \d+ octets -+\|", lines[0][1]):
         number, line = lines.pop(0)
         begin, end = line.index("|"), line.rindex("|")
@@ -156,7 +158,8 @@ def spans(lines, edges, boxes):
 
 
 def rows(lines, known):
-    """Yields each box of a picture: the line, the offset over it, its bytes and its words."""
+    """Yields each box of a picture: the number of its line, the offset over it, its bytes and its words. `known` has
+    the bytes of the pictures before."""
     while lines:
         (number, over), (_, border), (_, data), (_, words), (_, closed), *lines = lines
         place = f"{PAGE}:{number}"

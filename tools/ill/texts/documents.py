@@ -168,7 +168,7 @@ def value(word):
 
 
 def check_counts(document, text, counted):
-    """Expects that each number of wrong bodies in a text is that of those that are there."""
+    """Expects that each number of wrong bodies in a text is right. `counted` is what `counts` returns."""
     gate, beside, least, most = counted
     for number, more in re.findall(NUMBER + r" wrong bodies( more)?(?! in the gate)", text):
         wanted = beside if more else gate
@@ -221,7 +221,8 @@ def check_table_of_places(everything):
 
 
 def check_document(document, everything, targets, known):
-    """Looks up what a document names, line by line."""
+    """Looks up what a document names, line by line. `everything` has the paths of the repository, `targets` those of
+    make, and `known` the names of the sources."""
     all_crates = set(stand_on())
     crates = []
     for number, in_block, line in lines(document):
@@ -269,8 +270,8 @@ def tools(everything):
 
 
 def named_at(path):
-    """Returns where a file of tools/ has to be named, and how: docs/TESTS.md names the scripts, and the head of a
-    package names its modules and packages."""
+    """Returns the file that has to name a file of tools/, and the name. docs/TESTS.md names the scripts, and the head
+    of a package its modules and packages."""
     folder, name = os.path.split(path.removesuffix("/__init__.py"))
     return ("docs/TESTS.md", path) if folder == "tools" else (f"{folder}/__init__.py", name.removesuffix(".py"))
 

@@ -48,7 +48,7 @@ def folder_of(crate):
 
 
 def libraries():
-    """Yields the libraries but those for tests, lowest first, each with whether it is a room."""
+    """Yields the folder of each library that is not for tests, lowest first, and true if it is a room."""
     rooms = repository.rooms()
     for name in repository.stand_on():
         folder = folder_of(name)
@@ -67,7 +67,8 @@ def passed_on(root):
 
 
 def exported(root, prefix=""):
-    """Returns the names that a file exports, and under which name."""
+    """Returns the names that a file exports: the name in its source -> the name for others, after `prefix`. The
+    functions of its public modules are among them."""
     names = {old: prefix + new for _, old, new in passed_on(root)}
     for module in MODULE.findall(root.read_text()):
         names |= of_module(root.parent / f"{module}.rt", module)
@@ -75,13 +76,15 @@ def exported(root, prefix=""):
 
 
 def of_module(path, module):
-    """Returns the names that a module exports, and under which name."""
+    """Returns the names that a module exports: the name in its source -> the name for others, after that of the
+    module."""
     functions = re.findall(r"^pub fn (\w+)", path.read_text(), re.M)
     return {name: f"{module}::{name}" for name in functions} | exported(path, f"{module}::")
 
 
 def exported_of_room(room):
-    """Returns the names of a room that the other libraries pass on, and under which name."""
+    """Returns the names of a room that libraries pass on which are no rooms: the name in its source -> that for
+    others."""
     names = {}
     for folder, is_room in libraries():
         for path, old, new in [] if is_room else passed_on(folder / "src" / "lib.rt"):
@@ -94,14 +97,16 @@ def exported_of_room(room):
 
 
 def subject(head):
-    """Returns the type, and the trait, of the head of a block."""
+    """Returns the type of the head of a block, and its trait. The trait is empty for a type's own methods, and the word
+    `trait` if the block declares one."""
     head = re.sub(r"^impl<.*?> (?=\S)", "", re.sub(r"^impl ", "", head.replace("pub trait", "trait")))
     trait, _, name = head.partition(" for ") if " for " in head else ("", "", head)
     return re.match(r"(?:trait )?(\w+)", name).group(1), trait or ("trait" if head.startswith("trait") else "")
 
 
 def fault_of(answer):
-    """Returns the type of the faults in an answer, or None where it is no Result."""
+    """Returns the type of the faults in an answer, or None if the answer is no `Result`. Of a pair it is the first
+    type."""
     answer = " ".join(answer.split()).partition(" where ")[0]
     if not answer.startswith("Result<"):
         return None
@@ -115,7 +120,8 @@ def fault_of(answer):
 
 
 def calls_of(path, names, traits):
-    """Yields the calls that a file has of what its library exports, each with the type of its faults."""
+    """Yields the calls in a file that answer a `Result`, each with the type of its faults. `names` are what its library
+    exports, and `traits` the exported traits."""
     text = path.read_text()
     blocks = [(found.start(), subject(" ".join(found.group().split()))) for found in BLOCK.finditer(text)]
     for found in CALL.finditer(text):
@@ -154,7 +160,7 @@ def read_sources():
 
 
 def test_is_there(place, test):
-    """Returns true if a crate of tests has a function of this name, or a line; whether a tool has these words."""
+    """Returns true if a crate of tests has a function or a line `test`, or if a tool has these words."""
     if place.startswith("tools/"):
         path = Path(repository.full(place))
         return path.exists() and test in path.read_text()
@@ -167,7 +173,8 @@ def test_is_there(place, test):
 
 
 def are_there(tests, calls, faults):
-    """Returns true if an entry names tests that are there, or says that there can be none."""
+    """Returns true if an entry of these calls and faults names tests that are there, or says that there can be none.
+    Tests are pairs of a place and a test."""
     if [place for place, _ in tests] in (["none"], ["never"]):
         return True
     if len(tests) == 1:
@@ -183,7 +190,7 @@ def pairs(calls, faults):
 
 
 def read_page(wrong):
-    """Returns the calls of the tables with the faults that they answer."""
+    """Returns each pair of a call and a fault in the tables of the page. Adds to `wrong` what is wrong with a row."""
     seen, part = [], ""
     for line in read(PAGE).splitlines():
         part = line[3:] if line.startswith("## ") else part
@@ -201,8 +208,8 @@ def read_page(wrong):
 
 
 def read_tests(wrong):
-    """Returns the calls of the entries with their faults: those that have tests, and those that no call answers. What
-    is wrong with an entry is told."""
+    """Returns two lists of pairs of a call and a fault. The second has those that are never answered. The first has all
+    others, also those of which there can be no test. Adds to `wrong` what is wrong with an entry."""
     entries = []
     for line in read(TESTS).splitlines():
         entry, test = ENTRY.fullmatch(line), TEST.fullmatch(line)
@@ -243,7 +250,7 @@ def compare():
 
 def wrong_entries(calls, types, answered, tested, never):
     """Returns what is wrong with the rows of the page and with the entries of the tests: each call has each fault
-    once."""
+    once. `answered` are the pairs of the page, and `tested` and `never` what `read_tests` returns."""
     seen = answered + never
     wanted = [pair for call, fault in calls.items() for pair in pairs([call], types.get(fault, [fault]))]
     wrong = [f"{call}: no row has its fault {fault}, and no entry says that it is never answered"

@@ -221,7 +221,7 @@ def labels_in(text):
 
 
 def texts_of(kind, path):
-    """Returns the texts of the faults of a type, by variant, with the type of what stands in them."""
+    """Returns the text of each fault of a type by its variant, with the type that stands in it, or an empty text."""
     said = re.findall(r'#\[error\("([^"]+)"\)\]\s*(\w+)(?:\((\w+)\))?', find(rf"enum {kind} \{{.*?\n\}}", path)[0])
     return {name: (text, inner) for text, name, inner in said}
 
@@ -260,7 +260,7 @@ def source_of(command):
 
 
 def causes_of(command, arguments):
-    """Returns what may become of a command, by its arguments and by what its source calls."""
+    """Returns the causes of the ends that a command may have, by its arguments and by what its source calls."""
     name = command.replace("-", "_")
     source = "".join(read(path) for path in (source_of(command.partition("-")[0]), *ENGINES.get(command, ())))
     call = find(rf"=>[\s{{]*(?:all_well\()?(?:run_)?{name}(?:_as|_with)?\(((?:[^()]|\([^()]*\))*)\)",
@@ -285,7 +285,7 @@ def causes_of(command, arguments):
 
 
 def verbs(names, path):
-    """Yields the forms of what functions read: the verb, and what follows it."""
+    """Yields the forms of what the functions with these names read: the verb, and what follows it."""
     for name in names:
         said = body(name, path)
         arms = [*re.finditer(r'is\(verb, "([\w-]+)"\)(?: && is\(word, "(\w+)"\))?', said)]
@@ -370,7 +370,8 @@ def listed(text, pattern, place):
 
 
 def expanded(line, known):
-    """Returns the forms that a line with alternatives stands for, of which each is known."""
+    """Returns the forms that a line with alternatives stands for. If they are not all `known`, returns the line
+    alone."""
     first, *others = line.split(" | ")
     words = first.split()
     for place in range(len(words), -1, -1):
@@ -469,7 +470,7 @@ def ends_of_all(text, command, own):
 
 
 def causes_in(part, name):
-    """Yields the keys of what a part of such a sentence names."""
+    """Yields the causes that a part of a sentence on the exit status names. `name` is that of the text."""
     rest = part.partition(": ")[0]
     for cause in sorted(CAUSES, key=len, reverse=True):
         if re.search(rf"\b{cause}\b", rest):

@@ -48,7 +48,7 @@ def rank(line, at):
 
 
 def broken(line, is_rest=False):
-    """Returns the lines that a line becomes."""
+    """Returns the lines that a line becomes. If `is_rest`, it is the rest of a line that was broken."""
     if len(line) <= WIDTH or line.lstrip().startswith("--"):
         return [line]
     begin = len(line) - len(line.lstrip())

@@ -33,7 +33,8 @@ def lines_of(name):
 
 
 def what_came(kind, rest, types):
-    """Returns what the help says of a message of this type, by the other words of the pattern."""
+    """Returns what the help says of a message of the type `kind`. `rest` has the other words of the pattern, and
+    `types` the names of the types."""
     if kind == "RenewAnswer":
         return f"{types[kind]} yes"
     answer = "".join(ANSWERS.get(word, "") for word in rest.split())
@@ -59,7 +60,7 @@ def defined():
 
 
 def table():
-    """Returns each message that is told, with its words, as the lists of the help have them."""
+    """Returns each line of the lists in the help of `news`: what came or was issued, and the words for it."""
     text = text_of("NEWS")
     lists = re.findall(r"(?m)^The words of what a \w+ (?:hears|has sent):\n((?:  .*\n)+)", text)
     return [(line[35:], line[2:35].rstrip()) for of in lists for line in of.splitlines()]

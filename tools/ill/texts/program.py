@@ -31,7 +31,8 @@ def commands_by_cause():
 
 
 def named(commands, every, filed):
-    """Returns the names of commands in a cell; of many those that are missing."""
+    """Returns the text of a cell with the names of commands. It is shorter if they are all but one of `every`, or of
+    `filed`, which are the commands that keep a file."""
     for group, name in ((every, "all"), (filed, "all with a FILE")):
         missing = [command for command in group if command not in commands]
         if set(commands) <= set(group) and len(missing) < 2:

@@ -50,7 +50,7 @@ def sentences(paragraph):
 
 
 def words(sentence):
-    """Counts the words of a sentence."""
+    """Returns how many words a sentence has."""
     return len(re.findall(r"[A-Za-z0-9][\w'.,/@:+-]*", sentence))
 
 

@@ -25,7 +25,8 @@ def told(role, names):
 
 
 def defined(role):
-    """Returns the words of the definitions, likewise."""
+    """Returns the words of the definitions by the state, and by its mark and true if that is set, or None without a
+    mark."""
     text, found = " ".join(read(SPEC).split()), {}
     for state, said in re.findall(rf" {role}_words (\w+)[a-z_ ]* = (.*?)(?= {role}_words | -- )", text):
         choice, words = CHOICE.fullmatch(said), re.fullmatch(r'codes "([^"]*)"', said)

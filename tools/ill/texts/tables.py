@@ -104,7 +104,7 @@ SECTION = {"requester": "2", "responder": "3"}
 
 
 def need(found, place, what):
-    """Returns what was found, which must be there."""
+    """Returns what was found. If it is None, raises `Unread` with the place and the text `what`."""
     if found is None:
         raise Unread(f"{place}: {what}")
     return found
@@ -122,7 +122,7 @@ def read_states():
 
 
 def constants(path, known, states):
-    """Returns the masks that a source declares, and those that are known to it."""
+    """Returns the masks that a source declares, with those of `known`, by their names."""
     masks = dict(known)
     for name, said in re.findall(r"const (\w+): u16 = ([^;]*);", read(path)):
         masks[name] = or_of([term_of(term.strip(), masks, states, f"{path}: {name}") for term in said.split("|")])
@@ -158,7 +158,8 @@ def mask_of(said, masks, place):
 
 
 def source_rows(table, masks, states):
-    """Returns the rows of an array, by kind, as the code finds them."""
+    """Returns the rows of the array of a table, by kind, as the code finds them. `masks` are known by their names, and
+    `states` are what `read_states` returns."""
     path = f"{CORE}/{table.role}/{table.file}.rt"
     text = read(path)
     array = need(re.search(r"const ROWS: \[Row<Kind>; (\d+)\] = \[\n(.*?)\n\];", text, re.S), path, "it has no rows")
@@ -172,7 +173,7 @@ def source_rows(table, masks, states):
 
 
 def source_row(found, text, start, path, masks, states):
-    """Returns a row of an array."""
+    """Returns the row that a match `found` has. The array begins at the place `start` of the text of the source."""
     place = f"{path}:{text.count(chr(10), 0, start + found.start()) + 1}"
     cells = [cell.strip() for cell in found[1].split(",") if cell.strip()]
     if len(cells) != 5:
@@ -185,7 +186,7 @@ def source_row(found, text, start, path, masks, states):
 
 
 def row_of(place, kind, states, facts, then, changes):
-    """Returns a row, in which a state that leads to itself stays."""
+    """Returns a `Row` of these parts. If its one state leads to itself, `then` is `Stay`."""
     return Row(place, kind, states, facts, "Stay" if then == states else then, changes)
 
 
@@ -242,7 +243,8 @@ def later_states(role, names):
 
 
 def conditions(cell, place, names, later):
-    """Returns the states and the other conditions of a cell."""
+    """Returns the mask of the states that a cell names, or of any, and its other conditions. `later` is the mask of
+    SHIPPED or later."""
     said, states, others = cell, [], []
     words = {**dict.fromkeys(FACTS), "SHIPPED or later": later, "any other state": ANY, **names}
     while said:
@@ -285,7 +287,8 @@ def asked_facts(words, masks, place):
 
 
 def delivery_rows(table, masks, names, later):
-    """Yields the rows that the lines of a table of deliveries say."""
+    """Yields the rows that the lines of a table of deliveries say. `masks` and `names` have the masks of the source and
+    of states by their names. `later` is the mask of SHIPPED or later."""
     kinds, before = [], None     # the kinds of the line above, and its states and facts without the answer
     for place, cells in table_lines(table.heading):
         if cells[0]:
@@ -301,7 +304,8 @@ def delivery_rows(table, masks, names, later):
 
 
 def action_rows(table, masks, names, later):
-    """Yields the rows that the lines of a table of wishes or deeds say. A `;` in From parts two rows."""
+    """Yields the rows that the lines of a table of wishes or deeds say. A `;` in From parts two rows. The parameters
+    are those of `delivery_rows`."""
     for place, cells in table_lines(table.heading):
         kind = need(table.words.get(cells[0]), place, f"no action: {cells[0]}")[0]
         to, *changes = cells[2].removesuffix(" (now declined)").split(", ")
@@ -355,7 +359,8 @@ def told(row, names, masks):
 
 
 def compare_rows(table, source, written, names, masks):
-    """Returns the faults of a table: each kind has the rows of its lines, in their order."""
+    """Returns the faults of a table: each kind has the rows of its lines, in their order. `source` has the rows of the
+    source by kind, and `written` those of the document."""
     lines = collections.defaultdict(list)
     for row in written:
         lines[row.kind].append(row)
@@ -381,7 +386,8 @@ def edges_of(table, rows):
 
 
 def compare_edges(role, changes, written, names):
-    """Returns the faults of the pictures of a role: they have each change of state, and no other."""
+    """Returns the faults of the pictures of a role: they have each change of state, and no other. `changes` are those
+    of the rows, and `written` the edges of the pictures."""
     named = {bit: name for name, bit in names.items()}
     drawn = {(*kind, begin, end): place for (label, begin, end), place in written.items()
              for kind in labelled(label, place)}

@@ -50,13 +50,14 @@ def find(pattern, path):
 
 
 def function(name, text):
-    """Returns the first function of this name that a text has, from its name to the end of its body."""
+    """Returns the text of the first function of this name, to the end of its body. Returns None if there is none."""
     found = re.search(rf"(?ms)^( *)(?:pub(?:\([\w ]+\))? )?fn {name}\b.*?^\1\}}$", text)
     return found[0] if found else None
 
 
 def body(name, *paths):
-    """Returns a function of the first of these sources that has it, from its name to the end of its body."""
+    """Returns the text of a function, to the end of its body. It is of the first of these sources that has one of this
+    name. Raises `Unread` if none has it."""
     found = next(filter(None, (function(name, read(path)) for path in paths)), None)
     if found is None:
         raise Unread(f"{', '.join(paths)}: no function {name}")
@@ -218,7 +219,9 @@ def listed_shelf(of_desks, shelf):
 
 
 def said_of(is_listed, head):
-    """Returns the parts of command lines by their heads, each with what is said of it and of which commands."""
+    """Returns the parts of command lines for which `is_listed` returns true, by what `head` makes of them. Each has the
+    texts that are said of it, with the commands of which they are said. A command on a shelf is left out if one for a
+    desk has the same text."""
     found = {}
     desk, shelf = commands()
     for before, some in (("", desk), ("shelf ", shelf)):
@@ -371,13 +374,14 @@ def offered(on_shelf=False):
 
 
 def wrapped(words, indent):
-    """Returns words in lines that are not too long."""
+    """Returns words in lines of at most 96 columns, which but for the first begin with so many spaces."""
     return textwrap.fill(" ".join(words), 96, break_long_words=False, break_on_hyphens=False,
                          subsequent_indent=" " * indent)
 
 
 def cases(between, indent, line):
-    """Returns a line for each kind of value that an option may have, with the options that have it."""
+    """Returns a line for each kind of value that an option may have, after so many spaces. `line` is its form. The
+    options that have the kind stand in it with `between` between them."""
     kinds = {}
     for option in options():
         kinds.setdefault(value_of(option), []).append(f"any-{option.option}")

@@ -52,7 +52,8 @@ def told(rows, names):
 
 
 def work_told(lines, facts):
-    """Returns the work of the first line of a state whose mark and day fit these facts, or None."""
+    """Returns the work of the first of these lines whose mark and day fit the facts, or None if none does. A line is
+    one that `told` returns."""
     return next((work for mark, asked, work in lines
                  if (mark is None or facts[mark[0]] == mark[1]) and (asked is None or facts[asked])), None)
 

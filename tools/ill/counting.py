@@ -26,15 +26,17 @@ FIELDS = ["desk", "from", "to", "asked", "filled", "open", "cancelled", "refused
 
 
 def messages(side, is_kept):
-    """Returns the messages of a loan, each with the word by which a diary names it. Without the file of what came
-    (`is_kept` is false) they are those of the record."""
+    """Returns the messages of a loan, each with the word by which a diary names it. First come those that it has
+    issued, then the request that a responder has taken. All others that came follow if `is_kept`: there is a file of
+    them."""
     request = [side.request] if side.role == RESPONDER and side.request else []
     came = [apdu for apdu in side.came if is_kept and apdu not in request]
     return ([(apdu, VERBS[apdu["apdu"]]) for apdu in side.issued] + [(apdu, apdu["apdu"]) for apdu in request + came])
 
 
 def diary_line(day, name, txn, what, number):
-    """Returns a line of a diary."""
+    """Returns the bytes of the line in which a diary names a message of the loan `txn`. The message has the word `what`
+    and this number, and `name` is the user who acted on this day, or `-`."""
     return f"{day} {name} {key(txn[0])} {key(txn[1])} {what} {number}\n".encode()
 
 
@@ -43,7 +45,7 @@ class Counted:
 
     def __init__(self, side, days, is_kept):
         """Counts a side. `days` has the day of each message that a diary names, by its loan, its word and its
-        number."""
+        number. `is_kept` says if there is a file of what came."""
         told = [(apdu, days.get((tuple(side.txn), what, apdu["number"]))) for apdu, what in messages(side, is_kept)]
         first = {step: next((day for apdu, day in told if apdu["apdu"] in types), None) for step, types in STEPS.items()}
         self.asked = first["asked"]
@@ -52,7 +54,8 @@ class Counted:
 
     @staticmethod
     def ended(state, told):
-        """Returns how a loan ended: `filled`, `open`, `cancelled` or the reason of a refusal."""
+        """Returns how a loan in this state stands: `filled`, `open`, `cancelled` or the reason of a refusal. The reason
+        is that of the first message of `told` that has one, or `unknown`."""
         if state == "NOT-SUPPLIED":
             reasons = [apdu.get("result", "expired" if apdu["apdu"] == "Expired" else None) for apdu in told]
             return next((reason for reason in reasons if reason in REASONS), "unknown")
@@ -60,7 +63,7 @@ class Counted:
 
 
 def passed(start, end):
-    """Returns the days from one day to another that is not before it, or None."""
+    """Returns how many days `end` is after `start`. Returns None if one of them is None, or `end` is before `start`."""
     if start is None or end is None or end < start:
         return None
     day = datetime.date.fromisoformat
@@ -68,7 +71,8 @@ def passed(start, end):
 
 
 def mean(numbers):
-    """Returns the mean to a tenth, a half rounded up, or None of no numbers."""
+    """Returns the mean of these numbers as a text with one digit after the point, a half rounded up. Returns None if
+    there are no numbers."""
     tenths = statistics.fsum(numbers) * 10 / len(numbers) if numbers else None
     return None if tenths is None else "{}.{}".format(*divmod(int(tenths + 0.5), 10))
 
@@ -77,7 +81,9 @@ class Figures:
     """The figures of a desk over a span of days."""
 
     def __init__(self, sides, days, span, is_kept=True):
-        """Counts the loans that were asked in the span. `undated` are those of which no day is known."""
+        """Counts the loans of `sides` that were asked in the span, which is its first and its last day. `undated` is
+        the number of loans of which the day of the request is not known. `days` and `is_kept` are those of
+        `Counted`."""
         loans = [Counted(side, days, is_kept) for side in sides]
         self.span = span
         self.undated = sum(loan.asked is None for loan in loans)
@@ -88,12 +94,13 @@ class Figures:
         return sum(loan.end in ends for loan in self.loans)
 
     def counts(self):
-        """Returns each count, by its label."""
+        """Returns each count by its label, in the order of the lines."""
         return {"asked": len(self.loans), **{end: self.count(end) for end in ("filled", "open", "cancelled")},
                 "refused": self.count(*REASONS), **{f"  {reason}": self.count(reason) for reason in REASONS}}
 
     def means(self):
-        """Returns for each wait the number of loans that have one, and the mean of their days."""
+        """Returns for each wait the number of loans that have its days, and the mean of these days. The mean is None if
+        no loan has them."""
         known = {wait: [loan.waits[wait] for loan in self.loans if loan.waits[wait] is not None] for wait in WAITS}
         return {wait: (len(days), mean(days)) for wait, days in known.items()}
 
@@ -104,6 +111,6 @@ class Figures:
         return ["  from {} to {}".format(*map(iso, self.span)), *(f"  {label:22}{value}" for label, value in rows)]
 
     def fields(self, path):
-        """Returns the fields of the record of CSV."""
+        """Returns the fields of the record of CSV of the desk at this path. A mean that is None is an empty text."""
         return [path, *map(iso, self.span), *map(str, self.counts().values()),
                 *(str(it or "") if it != 0 else "0" for pair in self.means().values() for it in pair), str(self.undated)]

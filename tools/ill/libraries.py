@@ -66,7 +66,8 @@ class Books:
         self.days[txn, what, number], self.last[txn] = day, day
 
     def take(self, messages, day):
-        """Takes the messages of a night: those of each loan, in the order of their numbers."""
+        """Takes the messages of a night: those of each loan, in the order of their numbers. `messages` are pairs of a
+        loan and a message. A loan that stays IDLE is not in the books."""
         loans = collections.defaultdict(list)
         for txn, apdu in messages:
             loans[txn].append(apdu)
@@ -78,7 +79,8 @@ class Books:
                 self.sides[txn] = side
 
     def hear(self, side, apdu, day):
-        """Takes a message. One that is taken has a line in the diary, and is news the first time."""
+        """Gives a message to a side. If the side takes it, the diary gets a line. It is news unless an older line names
+        it."""
         if side.take(apdu) == "taken":
             what = apdu["apdu"], apdu["number"]
             self.news[side.txn] += [words_of(side, apdu)] * ((side.txn, *what) not in self.days)
@@ -123,7 +125,8 @@ class Staff:
     """One who works at a library by its pages alone. It counts what that takes."""
 
     def __init__(self, browser, user):
-        """Begins to count for a user at a browser."""
+        """Begins to count for a user at a browser. `count` has clicks, pages, fields and actions, and `slowest` is the
+        most milliseconds that a page took."""
         self.browser, self.user, self.count, self.slowest = browser, user, collections.Counter(), 0
         self.meant = []  # the statuses of which the console may tell
 
@@ -266,7 +269,8 @@ class Library:
         self.staff.click(self.staff.browser.one(f"th a[href='{self.query(txn)}']"))
 
     def draw(self, name, once):
-        """Takes pictures of the page for the folder SHOTS, if it is set. There is one page of each kind."""
+        """Takes pictures of the page for the folder SHOTS, if that is set: one for each screen, with `name` in their
+        names. Nothing is taken if this library has drawn a page of the kind `once` before."""
         folder = os.environ.get("SHOTS")
         if not folder or once in self.drawn:
             return
@@ -281,8 +285,8 @@ class Library:
         browser.devtools("Emulation.setEmulatedMedia", media="", features=[])
 
     def run(self, sender, has_dates):
-        """Performs a run of the night: the letters that have come, then the dates, then a letter to the other library.
-        A letter that was cut wants a person, and nothing else does."""
+        """Performs a run of the night: takes the letters of the library `sender`, and sends it one. If `has_dates`, the
+        run issues before that what the day makes due. A letter that was cut wants a person, and nothing else does."""
         words = ["--key", self.key, "--today", self.day, *(["--overdue", "--expire"] if has_dates else [])]
         copy, beat, come, go = (f"{self.folder}/{name}" for name in ("copy", "beat", "in", "out"))
         done = self.ill.run(["exchange", *words, "--copy", copy, "--beat", beat, self.desk, come, go])
@@ -298,7 +302,8 @@ class Library:
 
 
 def first_other(found, wanted):
-    """Returns the first row of a desk that is another than wanted, or the heads of its tables, both as they are."""
+    """Returns a text with the first row of a desk that is another than wanted. If there is none, the text has the
+    counts and heads of the tables, as found and as wanted."""
     for one, other in zip(found["tables"], wanted["tables"]):
         for row, right in zip(one["rows"], other["rows"]):
             if row != right:
@@ -310,6 +315,7 @@ def first_other(found, wanted):
 class Mail:
     """The mail between the libraries. It loses letters, and brings some late, twice or cut."""
 
+    # How likely each fate of a letter is, in percent.
     FATES = {"well": 60, "lost": 14, "late": 8, "twice": 10, "cut": 8}
 
     def __init__(self, chance):
@@ -341,6 +347,6 @@ class Mail:
 
     @staticmethod
     def bring(receiver, name, octets, is_whole=True):
-        """Brings a file into IN: a letter, or what is left of one."""
+        """Brings a file into the IN of `receiver`: a letter, or what is left of one if `is_whole` is false."""
         harness.write(f"{receiver.folder}/in/{name}", octets)
         receiver.come[name] = octets if is_whole else None

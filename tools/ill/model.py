@@ -8,7 +8,7 @@ ROLES = ("requester", "responder")
 # The results of an ILL-Answer that end a loan.
 NO_SUPPLY = ("retry", "unfilled", "locations-provided", "estimate")
 
-# SHIPPED or later, but for the ends.
+# LENT are the states from SHIPPED on in which the item is out. LATER has also those after its return.
 LENT = ("SHIPPED", "RECEIVED", "RENEW/PENDING", "OVERDUE", "RENEW/OVERDUE", "NOT-RECEIVED/OVERDUE", "RECALL")
 LATER = LENT + ("RETURNED", "CHECKED-IN")
 
@@ -97,7 +97,8 @@ class Side:
         return [verb for verb in self.verbs() if verb not in dates or (dates[verb] or "99999999") < (today or "99991231")]
 
     def turn(self, today=None):
-        """Returns who acts next, `mine` or `theirs`, or `over`. A deadline that is past on the day makes it `mine`."""
+        """Returns who acts next: `mine`, `theirs`, or `over` if nobody does. It is `mine` if the deadline is past on
+        the day and the side has a verb."""
         if today and self.deadline() and self.deadline() < today and self.verbs():
             return "mine"
         if self.state in OVER or self.role == REQUESTER and self.checked_in:
@@ -111,7 +112,7 @@ class Side:
         self.issued.append({"apdu": kind, "number": len(self.issued) + 1, **fields})
 
     def last(self, kind):
-        """Returns the number of the last message of this type that was issued, or None."""
+        """Returns the number of the last message of this type that was issued, or None if there is none."""
         return next((apdu["number"] for apdu in reversed(self.issued) if apdu["apdu"] == kind), None)
 
     def act(self, words, today):
@@ -186,7 +187,7 @@ class Side:
         return outcome
 
     def to(self, state, **parts):
-        """Sets the state and these parts of the record. Returns `taken`."""
+        """Sets the state and these parts of the record. Returns the word `taken`."""
         self.state = state
         vars(self).update(parts)
         return "taken"
@@ -197,7 +198,7 @@ class Side:
                      if apdu["apdu"] == "Conditional-Reply" and apdu["reply"]), 0)
 
     def hear(self, apdu):
-        """Takes a message at a requester (PROTOCOL.md, 2.5). Returns what came of it."""
+        """Takes a message at a requester (PROTOCOL.md, 2.5). Returns the word for what came of it, as `take` does."""
         kind, state, renews = apdu["apdu"], self.state, ("RENEW/PENDING", "RENEW/OVERDUE")
         before = ("PENDING", "CONDITIONAL", "CANCEL-PENDING")
         if kind == "ILL-Answer" and apdu["result"] == "conditional":
@@ -239,7 +240,8 @@ class Side:
         return any(apdu["number"] == number and apdu["apdu"] == kind for apdu in self.issued)
 
     def heed(self, apdu):
-        """Takes a message at a responder (PROTOCOL.md, 3.5). Returns what came of it."""
+        """Takes a message at a responder (PROTOCOL.md, 3.5). Returns the word for what came of it, as `take` does. A
+        Conditional-Reply no lets the responder issue an answer."""
         kind, state = apdu["apdu"], self.state
         if kind == "ILL-Request":
             return self.to("IN-PROCESS", request=apdu) if state == "IDLE" else "repeat"

@@ -45,7 +45,7 @@ ANSWERS = {8: "will-supply", 9: "conditional", 10: "conditional", 12: "unfilled"
 NEVER, SHORT = [6], [1, 2, 3, 4, 7]  # the loans that he leaves, and those that he lends for ten days
 WRONG_DATE = 5  # the loan for which he types a due date of the year before
 RECALLED = 4  # the loan that he recalls, though it is not overdue, on a day
-# What Anna does, and how likely it is on a day.
+# By the words of the work: how likely Anna acts on a day, and the verb.
 BORROWS = {"unpack when it is here": (1, "receive"), "look for it: it is wanted back": (1, "receive"),
            "send back at once": (0.6, "return"), "send back, or agree on more time": (0.4, "return"),
            "send back or renew": (0.5, "return"), "leave it with the reader": (0.12, "return")}
@@ -129,7 +129,8 @@ class Month:
         return LENDS.get(work)
 
     def borrows(self, work, number):
-        """Returns what Anna does in a loan with this kind of work, likewise; or None."""
+        """Returns what Anna does in a loan with this kind of work: a verb, its words, and the days from today; or
+        None."""
         if work == "accept the conditions, or decline":
             return "reply", ["no" if number == DECLINED else "yes"], None
         wished, days = RENEWS.get(number, (None, None))
@@ -141,7 +142,8 @@ class Month:
         return (verb, [], None) if is_done else None
 
     def works(self, library, decide, rows):
-        """Works down the list of a morning: does in each loan what `decide` says."""
+        """Works down the rows of a morning, pairs of the work and the loan. Does in each loan what `decide` returns: a
+        verb, its words and the days from today, or None for nothing."""
         for work, txn in rows:
             deed = decide(work, self.numbers[txn])
             if not deed:
@@ -252,7 +254,8 @@ class Month:
         self.tell()
 
     def complaints(self):
-        """Returns the messages of the console that no status explains, and each status that was meant and has none."""
+        """Returns the messages of the console that no status explains. With them stands a text for each status that was
+        meant, and that no message tells."""
         told = self.here.staff.browser.messages()
         for status in self.here.staff.meant + self.there.staff.meant:
             found = next((it for it in told if f"status of {status}" in it), None)

@@ -93,7 +93,7 @@ def morning_of(today, ahead):
 
 
 def work_with(side, today=None, ahead=AHEAD):
-    """Returns the words of the work with a side of the model on a day."""
+    """Returns the words of the work with a side of the model on a day. If `today` is None, there is no day."""
     morning = morning_of(today, ahead)
     return morning.kinds[morning.kind(Loan.of(side))][0]
 
@@ -104,5 +104,5 @@ def works():
 
 
 def told(rows):
-    """Returns what a table says of each state, by the name of the state."""
+    """Returns what a table says of each state, by the name of the state, as `work.told` does. `rows` are its lines."""
     return work.told(rows, {word: word for _, cells in rows for word in cells[0].split(", ")})

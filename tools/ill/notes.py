@@ -18,11 +18,12 @@ def notes_of(notes):
 
 
 def kept(notes):
-    """Returns the last note of each loan that has one."""
+    """Returns the last note of each loan, by the loan. A loan whose last note has no words is left out."""
     return {txn: words for txn, words in dict(notes).items() if words}
 
 
 def is_found(find, side, notes):
-    """Returns True if a text of the loan has the words `find`, in capitals or not. Without words each loan is found."""
+    """Returns true if a text of the loan has the words `find`, in capitals or not. Its texts are its group and
+    transaction, its title, and its note in `notes`. If `find` is None, each loan is found."""
     texts = [" ".join(side.txn), side.asked()["item"], *filter(None, [notes.get(tuple(side.txn))])]
     return find is None or any(find.casefold() in text.casefold() for text in texts)

@@ -20,12 +20,12 @@ DATED = {"ILL-Request": " with an expiry day", "Renew": " with a wished day"}
 
 @functools.cache
 def table():
-    """Returns what came, with its words, by the lists of the help."""
+    """Returns the words of each message that the lists of the help name, by its name there."""
     return dict(news.table())
 
 
 def iso(day):
-    """Returns a day as ISO 8601 has it."""
+    """Returns a day as ISO 8601 has it, or None for None."""
     return day and f"{day[:4]}-{day[4:6]}-{day[6:]}"
 
 
@@ -76,16 +76,17 @@ class Since:
         return self.days.get((tuple(side.txn), what, apdu["number"]), [])
 
     def is_older(self, message):
-        """Returns True if only earlier lines name a message."""
+        """Returns true if lines of the diary name a message, and all of them are of earlier days."""
         return max(self.days_of(*message), default=self.day) < self.day
 
     def is_new(self, message):
-        """Returns True if no earlier line names a message."""
+        """Returns true if no line of an earlier day names a message. A message without a line is new, too."""
         return min(self.days_of(*message), default=self.day) >= self.day
 
     def of(self, sides, messages):
-        """Returns the news of these messages: open answers, then what is new after the last message that is older, then
-        what dates have made due. Each message is there once."""
+        """Returns the news of these messages, each with its side. First come open answers that are not new, then what
+        is new after the last message that is older. Last comes what dates have made due since the day. Each message is
+        there once."""
         came = messages + self.again
         older = [place for place, message in enumerate(came) if self.is_older(message)]
         news = by_name(filter(self.is_new, came[older[-1] + 1:] if older else came))
@@ -96,20 +97,20 @@ class Since:
 
 
 def by_name(messages):
-    """Returns each of these messages once, by its loan and its number."""
+    """Returns these messages, each with its side, by their loan and number. Of those alike the last one stays."""
     return {(tuple(side.txn), apdu["number"]): (side, apdu) for side, apdu in messages}
 
 
 def told(sides, last=None, since=None):
-    """Returns the messages that are told, each with its side, and how many there are in all. `last` is the most that
-    are told."""
+    """Returns the last messages that are told, each with its side, and how many there are in all. `last` is the most
+    that are told, or None for all. `since` is a `Since`, or None."""
     all_of = [(side, apdu) for side in sides for apdu in side.came]
     all_of = since.of(sides, all_of) if since else all_of
     return all_of[-last:] if last else all_of, len(all_of)
 
 
 def heard(sides, since):
-    """Returns what is told since a day in each loan: the number and the words of each message, by the loan."""
+    """Returns what is told of each loan since a day: the loan -> a list of the number and the words of each message."""
     loans = {tuple(side.txn): [] for side in sides}
     for side, apdu in told(sides, since=since)[0]:
         loans[tuple(side.txn)].append((apdu["number"], words_of(side, apdu)))
@@ -117,7 +118,7 @@ def heard(sides, since):
 
 
 def news_lines(sides, last=None, since=None):
-    """Returns the lines of `news`."""
+    """Returns the lines of `news`. The parameters are those of `told`."""
     rows, count = told(sides, last, since)
     cells = [[*map(column, side.txn), str(apdu["number"]), words_of(side, apdu)] for side, apdu in rows]
     widths = [max(map(len, texts)) for texts in zip(*cells)]
@@ -128,7 +129,8 @@ def news_lines(sides, last=None, since=None):
 
 
 def news_objects(sides, last=None, file=None, since=None):
-    """Returns the objects of `news`."""
+    """Returns the objects of `news`, with the path `file` of the desk if it is given. The others are the parameters of
+    `told`."""
     return [{"kind": "news", "group": side.txn[0], "transaction": side.txn[1], "number": apdu["number"],
              "words": words_of(side, apdu), "item": side.asked()["item"], **({"file": file} if file else {})}
             for side, apdu in told(sides, last, since)[0]]

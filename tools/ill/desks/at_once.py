@@ -21,11 +21,13 @@ RESULTS = ("will-supply", "hold-placed", "conditional", "estimate")
 LOAN = ("G1", "T1")
 DAY = ("--today", "20250301")
 
+# What a command has left: its exit status, the lines of its output, and its standard error. `was_killed` is true if
+# this script killed it.
 Told = collections.namedtuple("Told", "status lines errors was_killed")
 
 
 class Failed(Exception):
-    """Why a round failed."""
+    """A round went wrong. The text of this exception says how."""
 
 
 class Desks:
@@ -40,7 +42,7 @@ class Desks:
         return os.path.join(self.folder, name)
 
     def start(self, words, given=b""):
-        """Starts the program with these words and this input."""
+        """Starts the program with these words, and gives it all of its input. Returns the running process."""
         streams = {"stdin": subprocess.PIPE, "stdout": subprocess.PIPE, "stderr": subprocess.PIPE}
         process = subprocess.Popen([self.program, *words], cwd=self.folder, **streams)
         process.stdin.write(given)
@@ -49,14 +51,17 @@ class Desks:
         return process
 
     def run(self, words, given=b""):
-        """Runs the program, which has to end with status 0, and returns its output."""
+        """Runs the program with these words and this input. Returns its output. Raises `Failed` if the status is not
+        0."""
         done = harness.run([self.program, *words], piped=given, cwd=self.folder)
         if done.status:
             raise Failed(f"ill {' '.join(words)}: status {done.status}, {done.errors.decode().strip()}")
         return done.output
 
     def together(self, commands, killed=None):
-        """Starts commands together, and kills the one at the place `killed`, if any. Returns what each has told."""
+        """Starts commands, one right after another. Each is a tuple of the arguments of `start`. Kills the command with
+        the index `killed` after 20 ms at most, or none if that is None. Returns a `Told` of each command, in their
+        order."""
         started = [self.start(*command) for command in commands]
         if killed is not None:
             time.sleep(self.random.random() * 0.02)
@@ -73,35 +78,39 @@ class Desks:
             write(self.path("desk"), read(self.path(name)))
 
     def left(self):
-        """Returns the files that are beside the desk."""
+        """Returns the names of the files that may not stay beside the desk, such as `desk.new`. What came, the diary
+        and the folder of mail may stay, and are left out."""
         kept = ("desk.came", "desk.diary", "desk.mail")
         return sorted(name for name in os.listdir(self.folder) if name.startswith("desk.") and name not in kept)
 
     def loans(self):
-        """Returns what the desk says of each loan, by group and transaction."""
+        """Returns what `ill status` says of each loan: (group, transaction) -> the label of a line -> its value."""
         lines = [line.split(" ", 1) for line in self.run(["status", "desk"]).decode().splitlines()]
         each = [dict(lines[at:at + 7]) for at in range(0, len(lines), 7)]
         return {(loan["group"], loan["transaction"]): loan for loan in each}
 
     def message(self, number):
-        """Returns the lines by which `show` shows a message of the loan."""
+        """Returns the lines that `ill show` writes of the message with this number, of the loan G1 T1."""
         sent = self.run(["send", "desk", *LOAN, str(number)])
         return self.run(["show"], sent).decode().splitlines()
 
 
 def fine(told):
-    """Raises `Failed` if a command has ended badly that nobody has killed."""
+    """Raises `Failed` if a command that was not killed has another status than 0, or a line of standard error. `told`
+    has a `Told` of each command."""
     for one in told:
         if not one.was_killed and (one.status or one.errors):
             raise Failed(f"status {one.status}: {one.errors or one.lines}")
 
 
 def issued(line):
-    """Returns how many messages a line says that its loan has issued."""
+    """Returns the number at the end of a line such as `done CONDITIONAL - 1/2`: how many messages the loan has
+    issued."""
     return int(line.rsplit("/", 1)[1])
 
 
-# The kinds of rounds.
+# The kinds of rounds. A kind is a function whose docstring is printed as the name of its rounds. It raises `Failed` if
+# a round goes wrong. `killed` is the index of the command that is killed, or None.
 
 def new_loans(desks):
     """Four commands ask for a book each."""
@@ -116,7 +125,7 @@ def new_loans(desks):
 
 
 def answer(result):
-    """Returns the command that answers the request of the loan."""
+    """Returns the command, as `together` takes it, by which the responder answers G1 T1 with this result."""
     return (["act", "desk", *LOAN, *DAY, "answer", result],)
 
 
@@ -227,7 +236,8 @@ def prepare(desks):
 
 
 def play(desks, kind, rounds):
-    """Plays rounds of a kind, and tells what came of them, in the words of its docstring."""
+    """Plays so many rounds of a kind, up to the first that fails. Prints one line, which begins with the docstring of
+    the kind."""
     for at in range(rounds):
         try:
             kind(desks)
@@ -241,7 +251,8 @@ def play(desks, kind, rounds):
 
 
 def main(program, rounds="20", seed=None):
-    """Plays `rounds` rounds, in the folder in which it is called. Returns the exit status."""
+    """Plays rounds in the folder in which it is called. Each kind has as many, and all together at least `rounds`.
+    Without a seed it draws one. Returns the exit status."""
     rounds, seed = int(rounds), int(seed) if seed else random.randrange(1 << 16)
     print(f"the seed is {seed}")
     desks = Desks(os.path.realpath(program), os.getcwd(), seed)

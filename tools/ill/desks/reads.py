@@ -48,7 +48,7 @@ from ill.tidings import ASKING, DUE, Since, came_bytes, column, heard, is_own, i
 REPORT = harness.Report()
 
 TODAY, SHIPS, LATE = "20250320", "20250301", "20250401"
-# How many loans of a large desk are looked at one by one, and of one with the longest record.
+# How many loans are looked at one by one: of a large desk, and of a desk with the longest record.
 SAMPLE, FEW = 12, 2
 # The greatest count of numbers left of which `act` and `list` tell.
 FEW_NUMBERS = 10
@@ -65,7 +65,7 @@ TITLES = [
     "\u0600\u06dd\U000110bd", "\U0010ffff\uffff\ue000"]
 
 
-# What tells a name of a folder that is no UTF-8.
+# The line that tells of a file whose name is no UTF-8.
 NO_NAME = "ill: shelf/no\\xffdesk\\x1b: no UTF-8"
 
 
@@ -97,7 +97,8 @@ def status_lines(side):
 
 
 def taken(side):
-    """Returns the fields of a record that tell of messages taken, by their names in an object."""
+    """Returns the numbers of messages taken that the record of a side has, by their names in an object. A number may be
+    None."""
     return {"held": side.held} if side.role == REQUESTER else {
         "accepted": side.accepted, "last_cancel": side.cancelled, "last_renew": side.renewed}
 
@@ -137,7 +138,7 @@ def slip_parts(side):
 
 
 def drawn(text):
-    """Returns a text as a chart has it: a letter that is not plain by its number, and a line feed as `<br/>`."""
+    """Returns a text as a chart has it. A letter that is not plain becomes its number, and a line feed `<br/>`."""
     return re.sub("[^\\w \n,.\\-\x80-\U0010ffff]|_", lambda found: f"#{ord(found[0])};", text).replace("\n", "<br/>")
 
 
@@ -157,12 +158,13 @@ def padded(text, width):
 
 
 def by_deadline(sides):
-    """Returns the sides with the earliest deadline first. Those with one deadline stay in the order in which they were
-    begun."""
+    """Returns the sides with the earliest deadline first, and those without a deadline last. Sides of equal deadlines
+    stay in the order in which they were begun."""
     return sorted(sides, key=lambda side: side.deadline() or "99999999")
 
 
-# The words of each kind of work -> whether it wants a hand; the words that do; and those of loans that are over.
+# WORKS maps the words of each kind of work to true if it wants a hand. HANDS are the words of the kinds that do, and
+# OVER are those of loans that are over.
 WORKS = works()
 HANDS = [words for words, wants in WORKS.items() if wants]
 OVER = [*WORKS][-1]
@@ -171,8 +173,10 @@ LISTED = {"": WORKS, "--open": [name for name in WORKS if name != OVER], "--mine
 
 
 def listed(sides, flag, today=None, due_before=None, state=None, ahead=AHEAD, find=None, notes=None, news=None):
-    """Yields the loans that `list` lists, each with its work, in their order. `notes` has the notes of loans, and `news` what is
-    told of them."""
+    """Yields each loan that `list` lists as the words of its work and its side, in the order of the list. `flag` is a
+    key of `LISTED`. The next five parameters are the values of options, and None stands for one that is not given.
+    `notes` has the notes of loans, and `news` what is told of each. With `--mine` a loan that has news is listed,
+    whatever its work."""
     for name in WORKS:
         for side in by_deadline(sides):
             is_due = due_before is None or side.due is not None and side.due < due_before
@@ -183,13 +187,13 @@ def listed(sides, flag, today=None, due_before=None, state=None, ahead=AHEAD, fi
 
 
 def left_out(sides, due_before=None, state=None):
-    """Returns how many loans `list --mine` leaves out if no day is given, which on some day are listed."""
+    """Returns how many loans `list --mine` leaves out without a day, though they have a deadline and a verb."""
     return sum(name not in HANDS and bool(side.deadline() and side.verbs())
                for name, side in listed(sides, "", None, due_before, state))
 
 
 def left_out_line(path, count):
-    """Returns the line on standard error that tells how many loans were left out."""
+    """Returns the line on standard error that tells how many loans were left out, or an empty text if none was."""
     words = "loan may want a hand by its date" if count == 1 else "loans may want a hand by their dates"
     return f"ill: {path}: {count} more {words}: give --today DAY\n" if count else ""
 
@@ -203,7 +207,8 @@ def counts(sides, today=None, ahead=AHEAD):
 
 def list_lines(sides, flag, today=None, due_before=None, state=None, ahead=AHEAD, has_actions=False, find=None,
                notes=None, has_notes=False, news=None, days=None):
-    """Returns the lines of `list`. `news` has what is told of each loan, and `days` since when it stands so."""
+    """Returns the lines of `list`. `has_actions` and `has_notes` say if verbs and notes are shown. `days` has the day
+    since which a loan stands as it does. The other parameters are those of `listed`."""
     rows = list(listed(sides, flag, today, due_before, state, ahead, find, notes))
     cells = [[side.state, side.due or "-", column(side.txn[0]), column(side.txn[1]),
               *([",".join(side.possible(today))] if has_actions else [])] for _, side in rows]
@@ -225,8 +230,8 @@ def list_lines(sides, flag, today=None, due_before=None, state=None, ahead=AHEAD
 
 
 def morning_lines(sides, today, news, notes=None, days=None):
-    """Returns the lines of `list --mine --since DAY`. `news` has what is told of each loan, and `days` since when it
-    stands so."""
+    """Returns the lines of `list --mine --since DAY`. `news` has what is told of each loan, and `notes` the notes that
+    are shown. `days` has the day since which a loan stands as it does."""
     rows = list(listed(sides, "--mine", today, news=news))
     cells = [["  " + (side.due or "-") if name in HANDS else "news:", column(side.txn[0]), column(side.txn[1]),
               "; ".join(words for _, words in news[tuple(side.txn)]) or "-"] for name, side in rows]
@@ -245,7 +250,8 @@ def morning_lines(sides, today, news, notes=None, days=None):
 
 def list_objects(sides, flag, today=None, due_before=None, state=None, ahead=AHEAD, find=None, notes=None, news=None,
                  days=None):
-    """Returns the objects of `list --json`: one for each loan that is listed, and one with the counts."""
+    """Returns the objects of `list --json`: one for each loan that is listed, and one with the counts. The parameters
+    are those of `list_lines`."""
     return [{"kind": "loan", "work": name, "state": side.state, "due": iso(side.due), "group": side.txn[0],
              "transaction": side.txn[1], "now": side.possible(today), "item": side.asked()["item"],
              "note": (notes or {}).get(tuple(side.txn)), "since": iso((days or {}).get(tuple(side.txn))),
@@ -255,19 +261,20 @@ def list_objects(sides, flag, today=None, due_before=None, state=None, ahead=AHE
 
 
 def heard_objects(side, news):
-    """Returns the news of a loan as objects. If no news are told, returns `news` itself."""
+    """Returns the news of a loan as objects. Returns None if `news` is None: no day is given since which news are
+    told."""
     return news and [{"number": number, "words": words} for number, words in news[tuple(side.txn)]]
 
 
 def numbers_lines(path, sides):
-    """Returns the lines of `list` that tell the numbers left of the open loans that have few."""
+    """Returns the lines on standard error in which `list` tells of each open loan with at most ten numbers left."""
     left = [(side, 255 - len(side.issued)) for side in sides if side.turn() != "over"]
     return [f"ill: {path}: {side.txn[0]} {side.txn[1]}: {count} number{'' if count == 1 else 's'} left\n"
             for side, count in left if count <= FEW_NUMBERS]
 
 
 def page_loan(side, morning):
-    """Returns a loan, and the row that the page of `ill report` has of it."""
+    """Returns the loan of a side, and the row that the page of `ill report` has of it, as `read_page` reads it."""
     loan = Loan.of(side)
     date = f"due {iso(side.due)}" if side.due else f"expires {iso(side.expiry())}" if side.expiry() else ""
     return loan, ([shown(side.asked()["item"]), *side.txn, morning.state(loan), date], side.possible(TODAY), False)
@@ -275,7 +282,7 @@ def page_loan(side, morning):
 
 def read_page(text):
     """Returns the counts of a page of one desk, and its tables. A table has its words, whether it wants a hand, its
-    count and its rows."""
+    count and its rows. A row has its texts, its verbs, and true if its title may be taken for markup."""
     found = []
     head = r'<h3( class="task")?>([^<]*): (\d+)</h3>\n<table>\n<thead>.*?</thead>\n<tbody>\n(.*?)</tbody>\n</table>\n'
     for task, words, count, body in re.findall(head, text, re.S):
@@ -291,7 +298,9 @@ def read_page(text):
 
 # ---- the desks
 
-# Kinds of loans: who acts on which day and how, or that the message of an action is carried ('>') or not.
+# Kinds of loans. A step is who acts, the words of the action, and `>` if its message is carried. `r` is the requester,
+# `s` the responder on the day SHIPS, and `l` the responder on LATE. `s2>` carries the message with which the responder
+# answers.
 ASK = "r request {expiry} {item}>"
 SHIP = ASK + " s ship 20250315>"
 COME = SHIP + " r receive>"
@@ -314,14 +323,16 @@ DAYS = {"r": None, "s": SHIPS, "l": LATE}
 
 
 def steps(course, place, item):
-    """Yields the steps of a course: whose turn, the day, the words, and whether the message is carried."""
+    """Yields each step of a course but `s2>`: who acts, the words, and whether the message is carried. `item` is the
+    title, and `place`, the index of the loan, decides the expiry date."""
     for who, words, carried in re.findall(r"([rsl]) ([^>]*?)(>|(?= [rsl] )|$)|s2>", course) or []:
         if who:
             yield who, words.replace("{expiry}", EXPIRIES[place % 4]).replace("{item}", item), bool(carried)
 
 
 def modelled(course, txn, place, item):
-    """Returns both sides of a loan after a course, requester first, by the model."""
+    """Returns both sides of the loan `txn` after a course, the requester's first, by the model. `place` and `item` are
+    those of `steps`."""
     sides = {"r": Side(REQUESTER, txn), "s": Side(RESPONDER, txn)}
     sides["l"] = sides["s"]
     for who, words, carried in steps(course, place, item):
@@ -334,13 +345,15 @@ def modelled(course, txn, place, item):
 
 
 def carry_answer(own, other, course):
-    """Carries the message with which a responder answers the one it has taken, in a course that says so."""
+    """Lets `own` take the last message of the responder `other`, if the course has `s2>` and the loan has ended
+    there."""
     if "s2>" in course and other.role == RESPONDER and other.state == "NOT-SUPPLIED":
         own.take(other.issued[-1])
 
 
 def both(loans):
-    """Returns the sides of two desks in these loans, by role. A loan is a course, an id and a title."""
+    """Returns the sides of two desks in these loans, by role. A loan is a course, its group and transaction, and a
+    title. A responder's side that is IDLE is left out."""
     pairs = [modelled(course, txn, place, item) for place, (course, txn, item) in enumerate(loans)]
     return {REQUESTER: [here for here, _ in pairs], RESPONDER: [there for _, there in pairs if there.state != "IDLE"]}
 
@@ -376,8 +389,8 @@ def longest(role):
 
 
 def fill(here, there, role):
-    """Uses up all numbers of one side. A requester sends Renews that are refused; a responder answers Renews with later
-    dates."""
+    """Uses up all numbers of the side of this role. A requester issues Renews, of which the last is open. A responder
+    grants Renews, each with a later date."""
     if role == REQUESTER:
         while len(here.issued) < 255:
             number = len(here.issued) + 1
@@ -418,7 +431,8 @@ class Judge:
         self.same(" ".join(words), self.text(words).split("\n"), [*wanted, ""])
 
     def objects(self, words, wanted):
-        """Compares the objects that a command writes, with the order of their fields."""
+        """Compares the objects that a command writes, with the order of their fields. None may have a character on
+        which a terminal acts."""
         text = self.text(words)
         if any(map(ACTING.search, text.split("\n"))):
             self.faults.append(f"{' '.join(words)}: a terminal may act on it")
@@ -426,7 +440,7 @@ class Judge:
                   [json.loads(json.dumps(value), object_pairs_hook=list) for value in wanted])
 
     def part(self, name):
-        """Tells of a part by its faults so far, and forgets them."""
+        """Tells of a part by the first five of its faults, and forgets all."""
         REPORT.tell(name, *self.faults[:5])
         self.faults = []
 
@@ -468,7 +482,7 @@ def check_list(judge, path, sides):
 
 
 def check_loans(judge, path, sides):
-    """Compares `loan` and `slip` of each loan, or of some."""
+    """Compares `loan` and `slip` of each loan, or of some on a desk of 100 or more."""
     many = FEW if is_longest(sides) else SAMPLE
     for side in sides if len(sides) < 100 else sides[::len(sides) // many]:
         words = ["loan", path, *side.txn]
@@ -540,9 +554,10 @@ def compare_figures(judge, path, figures):
 
 
 def days_of(sides):
-    """Returns the days of the lines of a diary, by the transaction, the word and the number of a message, and what came once more
-    after all else. No line names a third of what came. An older line names a fourth of the other messages, and a line of the last
-    day what came once more. Of what dates have made due, the diary lacks a third, and has an older line of another third."""
+    """Returns the days of the lines of a diary, and what came once more after all else: every fifth message. The days
+    stand by the loan, the word and the number of a message. No line names a third of what came. A fourth of the other
+    messages have an older line too. What came once more has a line of 10 March 2025. Of what dates have made due, the
+    diary lacks a third, and has an older line of another third."""
     came = [(side, apdu) for side in sides for apdu in side.came]
     days = {(tuple(side.txn), apdu["apdu"], apdu["number"]):
             ["20250101"] * (place % 4 == 0) + [f"202503{1 + 9 * place // len(came):02}"]
@@ -649,7 +664,7 @@ def check_rest(judge, path, role, sides):
 
 
 def reading(path, sides):
-    """Returns the commands that read a desk."""
+    """Returns commands that read a desk, each as its words. Those of a loan are of the first loan, if there is one."""
     commands = [["list", path], ["news", path], ["list", path, "--mine", "--today", TODAY], ["list", path, "--json"], ["status", path],
                 ["status", path, "--json"], ["report", path, "--today", TODAY], ["verify", path], ["verify", path, "--json"],
                 ["figures", path, "--from", "20250301", "--to", TODAY]]
@@ -660,7 +675,7 @@ def reading(path, sides):
 
 
 def slowly(judge, words):
-    """Returns what a command writes into a pipe that is read byte by byte."""
+    """Returns the exit status of a command, and the text that it writes into a pipe that is read byte by byte."""
     os.mkfifo("pipe")
     with open(os.open("pipe", os.O_RDONLY | os.O_NONBLOCK), "rb", buffering=0) as end, open("pipe", "wb") as start:
         os.set_blocking(end.fileno(), True)
@@ -672,7 +687,7 @@ def slowly(judge, words):
 
 
 def last_line(errors):
-    """Returns the last line of standard error, or none."""
+    """Returns the last line of standard error, or an empty text if there is none."""
     return errors.decode().rpartition("\n")[0].rpartition("\n")[2]
 
 
@@ -692,14 +707,16 @@ def check_streams(judge, path, sides):
 # ---- the verbs and `act`
 
 def kind_of(side):
-    """Returns what `act` may tell apart of a loan: its role, state and marks, and how its days lie."""
+    """Returns what `act` may tell apart of a loan: its role, its state, its marks, and true if conditions are held.
+    Then come texts for its due date and its expiry date: `True` if it is before LATE, `False`, or `None` without it."""
     days = [side.due and (side.due < LATE), side.expiry() and (side.expiry() < LATE)]
     return (side.role, side.state, *side.marks(), bool(side.held), *map(str, days))
 
 
 def paths():
-    """Returns for each kind of loan the shortest course that leads to it, and its side. A step of a course is words of
-    a side, or the number of a message that comes to it."""
+    """Returns for each kind of loan the role, the shortest course that leads to it, and the side. A step of a course is
+    `r` or `s` with what this side does: the words of an action, or the number of a message that comes. A course has 13
+    steps at most, and kinds that want more are left out."""
     events = {"r": [f for f in FORMS[REQUESTER] if f[:7] != "request"], "s": [
         *(f"answer {result}" for result in ("conditional", "will-supply", "unfilled")), "cancel-reply yes",
         "cancel-reply no", "ship 20250315", "ship 20250501", "renew-answer yes 20250520", "renew-answer no", "overdue",
@@ -725,12 +742,13 @@ def paths():
 
 
 def day_of(words):
-    """Returns the day of an action with these words, in a course."""
+    """Returns the day on which a responder acts with these words, in a course of `paths`."""
     return SHIPS if words.startswith("ship") else LATE
 
 
 def followers(here, there, course, events):
-    """Yields the pairs of sides, with their courses, to which one more step leads that changes something."""
+    """Yields both sides and the course after each next step. That is an action of `events` that is done, or a message
+    of the other side that is taken. `here` is the requester's side, and `there` the responder's."""
     for who, words in [(who, words) for who in "rs" for words in events[who]]:
         pair = {"r": here.twin(), "s": there.twin()}
         try:
@@ -761,8 +779,8 @@ def play(judge, course, folder):
 
 
 def check_kind(judge, role, course, side):
-    """Compares the verbs that are listed for one kind of loan with what `act` answers. Each form of each verb is
-    tried."""
+    """Compares the verbs that are listed for one kind of loan with what `act` answers. Each form of each verb of both
+    roles is tried. The parameters are what `paths` returns of the kind."""
     folder = tempfile.mkdtemp(dir=".")
     try:
         desk = play(judge, course, folder)["rs"[role]]

@@ -4,7 +4,7 @@ It draws many scripts of one loan, and a tenth as many of two desks with three l
 repeats and reorders messages, fails saves and crashes. After it stand the lines of a round: the requester saves, and
 all its messages are sent and delivered in order; then the responder does the same. The program performs the whole. The
 last line of a loan must show a pair of states of docs/PROTOCOL.md's table of both sides, and equal due dates, unless
-the item was recalled or returned. It tells how often each pair was met. It is wrong if a loan is out of step, or a pair
+the item was recalled or returned. It tells how often each pair was met. It fails if a loan is out of step, or if a pair
 of the table was never met.
 
 Four scripts are no random ones: a request that is lost and then cancelled; conditions that were withdrawn; a renewal
@@ -132,7 +132,8 @@ def worked(lines):
 
 
 def judge(program, script, pairs):
-    """Performs a script. Returns the pairs of states that its loans end in, and what is wrong."""
+    """Performs a script. Returns a list of the pairs of states in which its loans end, and a list of what is wrong.
+    `pairs` are the pairs in step. If the program fails, the first list is empty."""
     words = ["simulate", "G1", "T1"] if script.loans == 1 else ["simulate-desks"]
     text = "".join(f"{line}\n" for line in script.lines)
     ran = program.run(words, piped=text.encode())
@@ -151,7 +152,8 @@ def judge(program, script, pairs):
 
 
 def main(path, count="10000", seed="1"):
-    """Plays `count` scripts, from a seed. Returns the exit status."""
+    """Plays the scripts of `WORKED`, `count` scripts of one loan, and a tenth as many of three loans. `seed` is that of
+    the first script. Returns the exit status."""
     program, count, seed = harness.Program(path), int(count), int(seed)
     pairs, met, failed = harness.pairs_in_step(), collections.Counter(), 0
     named = [(name, worked(lines)) for name, lines in WORKED.items()]

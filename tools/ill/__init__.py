@@ -1,8 +1,8 @@
 """What the scripts of tools/ share. Nothing here is taken from the program that they test, but for its own help.
 
 `harness` has folders, runs, verdicts and stops; `der` the messages in the short form; `records` the record of a desk;
-`model` the sides of a loan, by the tables of docs/PROTOCOL.md; `morning` the work with them on a day, by those tables;
-`tidings` what came to them, in the words of the help; `notes` the notes of staff on them; `counting` the
+`model` the sides of a loan, by the tables of docs/PROTOCOL.md; `morning` the work with a loan on a day, by these
+tables; `tidings` what came to a desk, in the words of the help; `notes` the notes of staff on loans; `counting` the
 figures of a span of days; `screen` what a screen shows of a text. `repository` has the
 files and the crates that scripts read. `command_line` reads the help in `help.jsonl`, which `make words` takes from the
 program.

@@ -1,7 +1,8 @@
 """Wrong bodies of functions that touch files, of which no contract knows. `tools/exchange` refuses programs with them."""
 
-# Each wrong body: its name, the attack that has to refuse it, the fault for which that happens, the file of
-# crates/ in which it is, and pairs of an old text and a new one. No contract says what these functions do to files.
+# Each wrong body: its name, the attack of tools/exchange that has to refuse it, and words that the fault of the attack
+# must have. Then come the file of the body, below crates/, and pairs of an old text and a new one. No contract says
+# what these functions do to files.
 BODIES = [
     ("in place", "a link that comes in out", "0 times in place of 1", "ill_mailbox/src/mail_folder.rt", [
         ('let new = format!(in self.alloc; "{folder}/.{name}")?;', 'let new = format!(in self.alloc; "{folder}/{name}")?;')]),

@@ -54,7 +54,7 @@ class House:
                 os.rename(f"{own}/out/{name}", f"{self.folder}/{there}/in/{name}")
 
     def told(self, desk, txn, what):
-        """Returns the value of a line of `ill loan`, by its first word."""
+        """Returns the value of the first line of `ill loan` whose first word is `what`, at a library's desk."""
         lines = self.ill.well(["loan", self.desk(desk), "G1", txn]).decode().splitlines()
         return dict(line.partition(" ")[::2] for line in reversed(lines))[what]
 
@@ -103,7 +103,7 @@ class Clerk:
         browser.messages()
 
     def at(self, name, txn=None):
-        """Looks at the page of a library, or at that of a loan."""
+        """Loads the page of a library, or that of a loan there. Returns the clerk itself."""
         self.browser.go(self.site.loan(name, txn) if txn else self.site.url(name))
         return self
 
@@ -113,7 +113,8 @@ class Clerk:
         return form + (f":has(:is(input, button)[name=word][value='{word}'], option)" if word else "")
 
     def fills(self, verb, word=None, day=None):
-        """Fills in the form of an action, and returns its button."""
+        """Fills in the form of an action, and returns its button. `word` and `day` are those of the action, if it has
+        any."""
         form = self.form(verb, word)
         if day:
             self.browser.fill(self.browser.one(f"{form} input[type=date]"), day)
@@ -123,13 +124,14 @@ class Clerk:
         return self.browser.one(named if word and self.browser.all(named) else f"{form} button")
 
     def does(self, verb, word=None, day=None):
-        """Performs an action by its form, and returns the status of the page that comes."""
+        """Performs an action by its form, with the parameters of `fills`. Returns the status of the page that comes."""
         button = self.fills(verb, word, day)
         self.browser.leave(lambda: self.browser.press(button))
         return self.status()
 
     def fills_request(self, txn, title=TITLE, day=None):
-        """Fills in the form of a new loan at the page of the requester, and returns its button."""
+        """Fills in the form of a new loan at the page of the requester, and returns its button. `day` is the expiry
+        date, if it has one."""
         self.at("borrow")
         form = self.form("request")
         self.browser.run("document.querySelector('details').open = true")
@@ -154,19 +156,19 @@ class Clerk:
         return self.browser.text("[role=alert]")
 
     def console(self, *meant):
-        """Returns a fault if the console has other messages than those of the statuses `meant`."""
+        """Returns a fault if the console has other messages than one of each status in `meant`; else None."""
         told = self.browser.messages()
         found = [next((status for status in ("401", "403", "409", "500", "503") if f"status of {status}" in it), it) for it in told]
         return harness.differs("console", found, list(meant))
 
 
 def differs(what, found, wanted):
-    """Returns a fault if two values differ."""
+    """Returns a fault if two values differ as texts; else None."""
     return harness.differs(what, str(found), str(wanted))
 
 
 def is_told(clerk, *words):
-    """Returns a fault if the notice of the page lacks a word."""
+    """Returns a fault if the notice of the page lacks one of these texts; else None."""
     notice = clerk.notice()
     return None if all(word in notice for word in words) else f"the notice is {notice!r}"
 
@@ -329,7 +331,7 @@ def damaged(clerk, servers, program):
 
 @contextlib.contextmanager
 def small_disk(folder):
-    """Gives a full disk of 64 KiB, or nothing if none can be mounted."""
+    """Gives the path of an empty disk of 64 KiB, for a block. Gives None if no disk can be mounted there."""
     os.makedirs(folder)
     if subprocess.run(["mount", "-t", "tmpfs", "-o", "size=64k", "none", folder], capture_output=True, check=False).returncode:
         yield None
@@ -424,7 +426,8 @@ def strangers(clerk, servers):
 
 # ---- What is seen
 
-# What a page looks like: the colours of each text, the levels of headings, fields without a label, language and width.
+# What a page looks like: the colours of each text and of its ground, the levels of headings, and the fields without a
+# label. Then come the language, the width of the page, and the width of the window.
 LOOK = """
 const own = [...document.querySelectorAll('body *')].filter(it => it.offsetParent !== null);
 const ground = it => { for (; it; it = it.parentElement) { const c = getComputedStyle(it).backgroundColor;
@@ -436,7 +439,7 @@ return { colours: texts.map(it => [it.tagName, getComputedStyle(it).color, groun
   bare: [...document.querySelectorAll('input:not([type=hidden]), select')].filter(it => !it.labels.length).map(it => it.outerHTML),
   lang: document.documentElement.lang, width: document.documentElement.scrollWidth, room: innerWidth };
 """
-# Which element has the focus, how its outline looks, and where it stands.
+# The element that has the focus: its tag, its name, the style and width of its outline, and its top in pixels.
 FOCUS = """
 const it = document.activeElement, style = getComputedStyle(it);
 return [it.tagName, it.name || '', style.outlineStyle, style.outlineWidth, it.getBoundingClientRect().top + scrollY];
@@ -510,7 +513,8 @@ def by_keyboard(clerk):
 # ---- Other servers
 
 def short_loan(name, clerk, txn):
-    """Asks for an item, and cancels the request."""
+    """Asks for an item, and cancels the request. The loan must be CANCEL-PENDING, and the diary have the name
+    `anna`."""
     found = [clerk.asks(txn), clerk.does("cancel")]
     diary = harness.read(f"{clerk.site.house.desk('borrow')}.diary").decode()
     REPORT.tell(name, differs("statuses", found, [200, 200]), clerk.console(),
@@ -519,7 +523,8 @@ def short_loan(name, clerk, txn):
 
 
 def sends(site, body, length=None, user="anna"):
-    """Sends bytes as a form over TLS without a browser, with a length or none, and returns the status."""
+    """Sends bytes as a form over TLS without a browser, and returns the status. Without `length` there is no header of
+    it, and without `user` no login."""
     place = urllib.parse.urlsplit(site.url("borrow"))
     connection = http.client.HTTPSConnection("127.0.0.1", place.port, timeout=120, context=ssl._create_unverified_context())
     login = base64.b64encode(f"{user}:{USERS[user]}".encode()).decode() if user else None
@@ -543,7 +548,7 @@ def limits(clerk, server):
 
 
 def at_tls(clerk, server, txn):
-    """Plays a short loan at a server with TLS. Then come a foreign form and what has no leave."""
+    """Plays a short loan at a server with TLS. Then sends a foreign form, and the forms of `limits`."""
     short_loan(f"{server} at a name, with TLS", clerk, txn)
     foreign_form(clerk, f"a page of nobody, to {server}", "data:text/html," + urllib.parse.quote(page_of_others(clerk)))
     limits(clerk, server)
@@ -578,7 +583,8 @@ class Stage:
         self.driver = Driver(folder, free_port())
 
     def clerk(self, origin, user="anna", folder="ill"):
-        """Begins a browser at a site with this origin, where a user logs in."""
+        """Begins a browser at a site with this origin, where a user logs in. Returns the clerk. `folder` is that of the
+        scripts at the server."""
         browser = self.driver.browser(f"--host-resolver-rules=MAP {HOST} 127.0.0.1")
         return Clerk(browser, Site(self.servers, self.house, origin, folder), user)
 

@@ -93,7 +93,7 @@ class Checks:
         return self.program.well(words, given, cwd=self.folder)
 
     def play(self, transaction, course):
-        """Performs the course of a loan at both desks."""
+        """Performs a course of `COURSES` at both desks, in the loan G1 with this transaction."""
         steps = course.replace(" here ", "\nhere ").replace(" there ", "\nthere ").splitlines()
         for step in steps:
             words, _, number = step.partition(">")
@@ -196,7 +196,7 @@ class Checks:
 
     @staticmethod
     def noisy(data, rng):
-        """Returns these bytes with up to thirty random changes."""
+        """Returns these bytes with one to 29 random changes."""
         for _ in range(rng.randrange(1, 30)):
             at = rng.randrange(len(data))
             data[at:at + rng.randrange(3)] = rng.choice([noise(rng, rng.randrange(40)), b"ILL1", data[at:at + 50]])
@@ -236,7 +236,7 @@ class Checks:
                     yield f"{words}, errors {stream}: status {status}, {said[:50]}"
 
     def check_opens(self):
-        """Expects that no file is opened for writing."""
+        """Expects that tools/salvage reads a desk without opening a file for writing."""
         opened = []
         sys.addaudithook(lambda event, words: opened.append(words) if event == "open" else None)
         self.salvage.read_file(f"{self.folder}/here")
@@ -244,11 +244,12 @@ class Checks:
         tell("nothing is opened for writing", wrong or ["nothing is opened"] * (not opened))
 
     def folder_now(self):
-        """Returns the name, mode, times and bytes of each file in the folder."""
+        """Returns the name of each thing in the folder, with what `stat_of` returns of it."""
         return [(name, *self.stat_of(name)) for name in sorted(os.listdir(self.folder))]
 
     def stat_of(self, name):
-        """Returns the mode, the times and the bytes of a file in the folder."""
+        """Returns the mode, the two times and the bytes of a file in the folder. What is no regular file has no
+        bytes."""
         path = f"{self.folder}/{name}"
         found = os.lstat(path)
         return found.st_mode, found.st_mtime_ns, found.st_ctime_ns, read(path) if os.path.isfile(path) else b""

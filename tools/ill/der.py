@@ -13,7 +13,8 @@ LONGEST = 361  # octets of a message
 
 
 def digest(mail):
-    """Returns the digest under which a mail is put aside. Of one that is too long it is that of its first octets."""
+    """Returns the digest under which a mail is put aside. It is that of at most 362 octets, the first of a mail that is
+    too long."""
     return hashlib.sha256(mail[:LONGEST + 1]).hexdigest()
 
 
@@ -27,18 +28,18 @@ def element(tag, contents):
 
 
 def integer(tag, number):
-    """Returns a number under a tag. One above 127 has a zero in front."""
+    """Returns the element of a number with this tag. A number above 127 has a zero in front."""
     return element(tag, bytes([number] if number < 128 else [0, number]))
 
 
 def encode(tag, transaction, number, *fields, group=b"G1"):
-    """Returns a message of a loan, with this tag and number, and with these further fields."""
+    """Returns a message of a loan, with this tag and number. `fields` are its further fields, encoded."""
     identity = element(0xA1, element(0x81, group) + element(0x82, transaction))
     return element(tag, element(0x80, b"\1") + identity + integer(0x82, number) + b"".join(fields))
 
 
 def request(transaction, *fields, item=b"Maps"):
-    """Returns an ILL-Request. The fields stand before the item."""
+    """Returns an ILL-Request of a loan of the group G1. The further fields, encoded, stand before the item."""
     return encode(0x61, transaction, 1, *fields, element(0x86, item))
 
 
@@ -52,17 +53,17 @@ def sealed(key, sender, text):
 
 
 def cancel(transaction):
-    """Returns a Cancel, which follows the request."""
+    """Returns a Cancel with the number 2, of a loan of the group G1."""
     return encode(0x66, transaction, 2)
 
 
 def shipped(transaction, number=1):
-    """Returns a Shipped, due on 15 March 2025."""
+    """Returns a Shipped of a loan of the group G1, due on 15 March 2025."""
     return encode(0x63, transaction, number, element(0x85, b"20250315"))
 
 
 def encoded(txn, apdu):
-    """Returns the bytes of a message of the model, in a loan."""
+    """Returns the bytes of a message of the model. `txn` has the group and the transaction of its loan."""
     fields = []
     if "answers" in apdu:
         fields.append(integer(0x83, apdu["answers"]))
@@ -81,7 +82,8 @@ def encoded(txn, apdu):
 # ---- The reader
 
 def size_of(row):
-    """Returns the size of the message at the front of a row, as its length says; None if its length is cut."""
+    """Returns the size of the message at the front of the bytes `row`, as its length octets say. Returns None if these
+    are cut."""
     longer = row[1] - 0x80 if len(row) > 1 and row[1] > 0x80 else 0
     if len(row) < 2 + longer:
         return None
@@ -94,7 +96,7 @@ def is_whole(message):
 
 
 def messages_of(row):
-    """Returns the whole messages of a row, and what stands after them."""
+    """Returns a list of the whole messages at the front of the bytes `row`, and the bytes after them."""
     messages = []
     while (size := size_of(row)) is not None and size <= len(row):
         messages.append(row[:size])
@@ -103,6 +105,7 @@ def messages_of(row):
 
 
 def parts_of(row):
-    """Returns the messages of a row. What stands after the last whole one is a part, too."""
+    """Returns the whole messages at the front of the bytes `row`. If bytes stand after them, these come last in the
+    list."""
     messages, rest = messages_of(row)
     return [*messages, rest] if rest else messages

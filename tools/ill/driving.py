@@ -55,7 +55,7 @@ class Driver:
         return False
 
     def browser(self, *switches):
-        """Begins a browser with a profile of its own."""
+        """Begins a browser with a profile of its own, and returns it. `switches` are further switches of Chromium."""
         self.begun += 1
         words = [*SWITCHES, f"--user-data-dir={self.folder}/profile{self.begun}", *switches]
         wanted = {"browserName": "chrome", "acceptInsecureCerts": True,
@@ -95,7 +95,7 @@ class Browser:
         self.driver, self.path, self.told = driver, f"/session/{session}", []
 
     def call(self, method, path, body=None):
-        """Calls the driver of this browser."""
+        """Calls the driver for this browser, whose path stands before `path`. Returns the value of the answer."""
         return self.driver.call(method, self.path + path, body)
 
     def go(self, url):
@@ -124,13 +124,13 @@ class Browser:
         return [it[ELEMENT] for it in found]
 
     def one(self, selector):
-        """Returns the first element that a selector finds."""
+        """Returns the first element that a selector finds. Raises `Wrong` if it finds none."""
         found = self.all(selector)
         harness.expect(found, f"the page has no {selector}: {harness.short(self.text())}")
         return found[0]
 
     def text(self, selector="body"):
-        """Returns the text of the first element that a selector finds. There may be none."""
+        """Returns the text of the first element that a selector finds, or an empty text if it finds none."""
         found = self.all(selector)
         return self.call("GET", f"/element/{found[0]}/text") if found else ""
 
@@ -159,7 +159,8 @@ class Browser:
         harness.expect(found == day, f"{day} was typed, and the field has {found}")
 
     def leave(self, act):
-        """Performs `act`, which loads another page, and waits until that is there."""
+        """Calls `act`, which loads another page, and waits until that page is complete. Raises `Wrong` if none
+        comes."""
         old = self.one("html")
         act()
         harness.expect(patiently(lambda: self._is_gone(old)), "no other page came")
@@ -178,7 +179,7 @@ class Browser:
         return [it["message"] for it in self.call("POST", "/se/log", {"type": "browser"})]
 
     def devtools(self, command, **words):
-        """Sends a command of the DevTools protocol."""
+        """Sends a command of the DevTools protocol with these parameters. Returns its result."""
         return self.call("POST", "/goog/cdp/execute", {"cmd": command, "params": words})
 
     def picture(self, path):

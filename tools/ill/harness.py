@@ -4,7 +4,7 @@ in C, and stops at calls.
 A test compares what has come with what is expected, and tells it with a `Report`: a line `ok: NAME`, or a line
 `FAILED: NAME:` that shows what came. A run is judged by its status and by the bytes of both its streams.
 
-`Disk` and `walk` are for tools/stop-nth.c: a program is stopped at each of its calls of the system, and may lose what
+`Disk` and `stops` are for tools/stop-nth.c: a program is stopped at each of its calls of the system, and may lose what
 was not flushed.
 """
 import collections
@@ -76,8 +76,8 @@ def apart(part, folder, *words):
 
 
 def all_apart(parts, chosen, folder, program, *words):
-    """Performs the chosen parts of a script on a program, each apart in a folder below this one. Returns the exit
-    status."""
+    """Performs the chosen parts of a script on a program, each apart in a new folder below `folder`. Returns the exit
+    status. Ends the script if there is no such program."""
     program = os.path.realpath(program)
     if not os.access(program, os.X_OK):
         sys.exit(f"{program} is no program")
@@ -121,7 +121,8 @@ def load(name):
 
 
 def build(source, folder, *options):
-    """Compiles a helper of tools/, or another source, into a library that can be preloaded. Returns its path."""
+    """Compiles a helper of tools/, or another source, into a library that can be preloaded. Returns the path of the
+    library. Ends the script with status 1 if the compiler fails."""
     name = os.path.splitext(os.path.basename(source))[0]
     path = os.path.join(folder, f"{name}.so")
     compiler = os.environ.get("CC", "cc").split()
@@ -132,7 +133,7 @@ def build(source, folder, *options):
 
 
 def build_stop_nth(folder):
-    """Compiles tools/stop-nth.c."""
+    """Compiles tools/stop-nth.c into a library in this folder, and returns its path."""
     return build("stop-nth.c", folder, "-U_FORTIFY_SOURCE")
 
 
@@ -172,7 +173,8 @@ def words_of(words):
 
 
 def _source(given, stack):
-    """Opens standard input: nothing, bytes as a file, a path, or a descriptor."""
+    """Returns standard input as `subprocess` takes it. `given` is None for an empty one, bytes, a path or a descriptor.
+    `stack` closes what is opened."""
     if given is None:
         return subprocess.DEVNULL
     if isinstance(given, bytes):
@@ -188,7 +190,8 @@ def _source(given, stack):
 
 
 def _sink(sink, stack):
-    """Opens standard output or standard error: a pipe that is read to its end, a path, or a descriptor."""
+    """Returns standard output or standard error as `subprocess` takes it. `sink` is None for a pipe that is read to its
+    end, a path or a descriptor. `stack` closes what is opened."""
     if sink is None:
         return subprocess.PIPE
     if isinstance(sink, str):
@@ -197,8 +200,8 @@ def _sink(sink, stack):
 
 
 def _perform(command, **how):
-    """Runs a command. It is started again if the machine has no room for a process. Ends the script if no start helps:
-    then no program was tried."""
+    """Runs a command, and returns the completed process. It is started again if the machine has no room for a process.
+    Ends the script if no start helps: then no program was tried."""
     for left in itertools.count(STARTS, -1):
         try:
             return subprocess.run(command, check=False, **how)
@@ -242,7 +245,8 @@ def run(command, given=None, *, piped=None, output=None, errors=None, limit=SECO
 
 
 def run_held(command, given, **more):
-    """Runs a command whose standard input is a pipe that has these bytes, and stays open until the command ends."""
+    """Runs a command whose standard input is a pipe that has these bytes, and stays open until the command ends.
+    Returns what the command has left."""
     reading, writing = os.pipe()
 
     def fill():
@@ -263,7 +267,7 @@ def run_held(command, given, **more):
 
 
 def run_unread(command, given, **more):
-    """Runs a command whose standard output is a pipe that nobody reads."""
+    """Runs a command whose standard output is a pipe that nobody reads. Returns what the command has left."""
     reading, writing = os.pipe()
     os.close(reading)
     try:
@@ -284,7 +288,8 @@ class Program:
         return [self.path, *words_of(words)]
 
     def run(self, words, given=None, **more):
-        """Runs the program with these words, as `run` says."""
+        """Runs the program with these words, and returns what it has left. The parameters are those of the function
+        `run`."""
         return run(self.command(words), given, **{"limit": self.limit, **more})
 
     def well(self, words, given=None, **more):
@@ -438,7 +443,8 @@ def side_by_side(tasks, workers):
 
 
 def tell_all(tasks, workers):
-    """Prints a line for each task. Returns the exit status of the script."""
+    """Performs tasks, `workers` of them at a time, and prints a line for each. Returns the exit status of the
+    script."""
     fine = True
     for task, (well, text) in side_by_side(tasks, workers):
         print(f"{'ok' if well else 'FAILED'}: {task.name}: {text}", flush=True)
@@ -463,7 +469,8 @@ class Disk:
         os.makedirs(folder, exist_ok=True)
 
     def settle(self):
-        """Lets all that was written be on the disk. A run that goes on beside may forget a name first."""
+        """Lets all that was written be on the disk: empties the folder. A run that goes on beside may remove a file
+        first."""
         for name in os.listdir(self.folder):
             with contextlib.suppress(FileNotFoundError):
                 remove(os.path.join(self.folder, name))
@@ -491,7 +498,7 @@ class Disk:
 
 
 def stops(calls, hows, is_tried):
-    """Yields (way, number of a call, call) for each way of `hows` and each call for which `is_tried` says yes. A quick
-    look (`STOP_STEP`) has one of several."""
+    """Yields (way, number of a call, call) for each way of `hows` and each call for which `is_tried` returns true. Of
+    these it yields every STOP_STEP-th."""
     tried = ((how, number, call) for how in hows for number, call in enumerate(calls, 1) if is_tried(how, call))
     return itertools.islice(tried, 0, None, STOP_STEP)

@@ -116,7 +116,9 @@ class Server:
         return self.as_user.get("user", os.getuid()), self.as_user.get("group", os.getgid())
 
     def configure(self, partner, transport, receive):
-        """Writes the configuration, and a program with the interface of sendmail."""
+        """Writes the configuration, and a program with the interface of sendmail. `partner` is the other server.
+        `transport` is `maildir` or `procmail`, for the mails of `loans`. `receive` is the command that gets the mails
+        of `pipe`."""
         user, group = self.ids()
         harness.write(self.exim[-1], CONFIGURATION.format(
             user=user, group=group, domain=self.domain, folder=self.folder, host=HOST, port=self.port,
@@ -126,7 +128,7 @@ class Server:
         os.chmod(self.sendmail, 0o755)
 
     def start(self):
-        """Starts the server, and waits until it listens."""
+        """Starts the server, and waits until it listens. Raises `Wrong` if it does not within `FIRST_WAIT` seconds."""
         with open(os.path.join(self.folder, "daemon.log"), "wb") as log:
             self.daemon = subprocess.Popen([*self.exim, "-bdf"], stdin=subprocess.DEVNULL, stdout=log, stderr=log, **self.as_user)
         for _ in range(FIRST_WAIT * 20):
@@ -157,7 +159,8 @@ class Server:
 
 
 def settle(servers):
-    """Waits until no mail is on its way. A mail may go from each server to each, so each queue is looked at twice."""
+    """Delivers mails until none is on its way, or raises `Wrong` after `LONGEST` seconds. A mail may go from each
+    server to each, so each queue is looked at twice."""
     end = time.monotonic() + LONGEST
     while any([server.waiting() for _ in range(2) for server in servers]):
         if time.monotonic() > end:

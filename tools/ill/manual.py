@@ -40,7 +40,7 @@ def found(pattern, lines):
 
 
 def between(begin, end, lines):
-    """Gives the lines from each that fits `begin` to the next one after it that fits `end`."""
+    """Gives the lines from each that fits `begin` to the next line after it that fits `end`, with both."""
     is_within = False
     for line in lines:
         if is_within:
@@ -81,7 +81,8 @@ class Help:
         return [match[1] for match in found(r"^  ([a-z-]*) ", between("^Commands:", "^$", self.lines(name)))]
 
     def options_of(self, name):
-        """Returns the options of a command, each as its name and its value, which is None if there is none."""
+        """Returns the options of a command, each as its name and the label of its value. The label is None if it has no
+        value."""
         # The help of a command on a shelf has no examples of its own.
         end = NEVER if name.startswith("shelf ") else "^Example"
         matches = found(r"^ *(--[a-z-]*)(?: <(.*)>)?$", between("^Options:", end, self.lines(name)))
@@ -113,7 +114,7 @@ class Help:
 
 
 def tell_only(who, lines):
-    """Prints what only one has."""
+    """Prints these lines, as what only `who` has."""
     for line in sorted(lines):
         print(f"only {who} has: {line}", flush=True)
 
@@ -170,8 +171,8 @@ class Page:
 
 
 def usages(lines):
-    """Yields the facts of lines such as `act FILE [--today DAY] WORDS...`: its command, its arguments, and each of its
-    options."""
+    """Yields the facts of lines such as `act FILE [--today DAY] WORDS...`: the command, the arguments, and each option.
+    A line that begins with no small letter is passed over."""
     for usage in lines:
         if not re.match("[a-z]", usage):
             continue
@@ -185,7 +186,7 @@ def usages(lines):
 
 
 def compare_page(known, page):
-    """Compares the usages of the man page with those of the help. The page has a head for each command on a shelf."""
+    """Compares the usages of the man page with those of the help. The heads of commands on a shelf are left out."""
     heads = [head for head in page.heads("COMMANDS") if not head.startswith("shelf ")]
     told = collections.Counter(usages([*heads, "shelf COMMAND", "help [COMMAND]"]))
     wanted = collections.Counter(known.facts())
@@ -377,7 +378,8 @@ def beginning(front, words):
 
 
 def lines_of_offers(rows):
-    """Returns a line for each word that is offered, and one for each line at whose end words are."""
+    """Returns a text for each line of `rows`, and one for each word that is offered at its end. Options of one letter
+    are left out."""
     lines = set()
     for number, (line, words) in enumerate(rows, 1):
         front = f"{number}: {plain(line)}| "
@@ -446,7 +448,8 @@ end < ../lines
 
 
 def run_shell(words, given=None, output="terminal", **known):
-    """Runs a shell in the folder of the desks."""
+    """Runs a shell in the folder of the desks, and returns what it has left. `output` is the file of its output there,
+    or None to return the output. `known` are further variables."""
     return harness.run(words, given, cwd="shelf", limit=SECONDS, output=output, errors="terminal-errors",
                        env={**os.environ, **known}, start_new_session=True)
 
@@ -457,7 +460,8 @@ def version_of(words, **known):
 
 
 def offered_by_bash(rows):
-    """Returns what bash offers: what stands in the line when all completions are to be inserted."""
+    """Returns each line of `rows` with the words that bash offers: those in the line when all completions are
+    inserted."""
     keys = f"source {shlex.quote(COMPLETIONS)}/ill.bash\n" + KEYS + "".join(f"{line}\a\x0f" for line, _ in rows)
     write("inserted", "")
     run_shell(["bash", "--norc", "-i"], keys.encode(), INPUTRC="/dev/null", HISTFILE="")
@@ -475,7 +479,7 @@ def words_inserted(line, inserted):
 
 
 def offered_by_zsh():
-    """Returns what `compadd` of zsh would add, in a shell on a terminal of its own."""
+    """Returns each line with the words that `compadd` of zsh would add, in a shell on a terminal of its own."""
     write("inner.zsh", INNER_ZSH)
     write("outer.zsh", OUTER_ZSH)
     write("told", "")
@@ -484,8 +488,8 @@ def offered_by_zsh():
 
 
 def offered_by_fish():
-    """Returns what fish says that it would complete to, each after it with a text. If nothing begins with the word at
-    the cursor, fish offers what has that word within, as `simulate-desks` for `-`: that is left out."""
+    """Returns each line with the words to which fish says that it would complete. If nothing begins with the word at
+    the cursor, fish offers words that have it within, as `simulate-desks` for `-`. These are left out."""
     write("each.fish", EACH_FISH)
     done = run_shell(["fish", "--no-config", "../each.fish", f"{COMPLETIONS}/ill.fish"], output=None, HOME=os.getcwd())
     rows = blocks("".join(line.split("\t")[0] + "\n" for line in done.output.decode().splitlines()))

@@ -93,7 +93,7 @@ class Night:
 
     def settle_in(self, steps):
         """Puts the mails where they are before the night, with what an earlier crash has left beside. Finds the
-        records: that of now, and that after each of these steps."""
+        records: that of now, and that after each of these steps. A step is a list of pairs of words and input."""
         self.records = [self.read(self.template, "loan")]
         for step in steps:
             scratch = os.path.join(self.folder, "scratch")
@@ -121,8 +121,8 @@ class Night:
         harness.remove(self.log)
 
     def run(self, stop=None, how=None):
-        """Performs the night, stopped at this call in this way if one is given. Returns its status, its output and its
-        errors."""
+        """Performs the night in the fresh copy. If `stop` is given, it is stopped at the call with this number in the
+        way `how`. Returns its status, its output and its errors."""
         known = dict(os.environ, LD_PRELOAD=self.shim, STOP_DISK=self.disk.folder, STOP_LOG=self.log)
         if stop:
             known |= dict(STOP=str(stop), STOP_HOW=how)
@@ -135,7 +135,8 @@ class Night:
                 for path, _, names in os.walk(self.at) for name in names}
 
     def leave_over(self):
-        """Puts the new files of its mails into OUT, as an earlier crash leaves them."""
+        """Performs the night once, to learn which mails it sends. Puts the new file of each into OUT of the template,
+        as an earlier crash leaves it."""
         self.begin()
         self.run()
         for name in self.files():
@@ -159,8 +160,8 @@ class Night:
         self.parts = [record for record in self.find_parts() if record not in self.records]
 
     def find_parts(self):
-        """Yields the records of nights in which some of the mails that are taken are left out. Of each night there is
-        the record before what the day does, and that after it."""
+        """Yields the records of nights in which some of the mails that are taken are left out, also none or all. Of
+        each there is the record that `inbox` makes, and that of the whole night."""
         taken = [name for name, (_, fate) in self.mails.items() if fate == "taken"]
         for some in itertools.product((False, True), repeat=len(taken)):
             for words in (["inbox", "loan", "in"], self.words):
@@ -172,8 +173,8 @@ class Night:
                 yield self.read(self.at, "loan")
 
     def judge(self, how, output, is_part):
-        """Judges what a stop has left: the record, each mail, FILE.came, OUT, the copy, and what was told. If
-        `is_part`, some mails may be left out, which could not be claimed or read."""
+        """Judges what a stop in the way `how` has left: the record, each mail, FILE.came, OUT and the copy. `output` is
+        what was told. If `is_part`, some mails may be left out, which could not be claimed or read."""
         files = self.files()
         expect(files.get("loan") in self.records + (self.parts if is_part else []), "FILE has another record")
         at = 1 if files["loan"] in self.parts else self.records.index(files["loan"])
@@ -241,7 +242,8 @@ class Night:
         expect(files == end, f"again: another end: {sorted(name for name in files | end if files.get(name) != end.get(name))}")
 
     def stop(self, number, how):
-        """Stops the night at a call, and judges its status, what is left, and the night after it."""
+        """Stops the night at the call with this number, in the way `how`. Judges its status, what is left, and the
+        night after it."""
         self.begin()
         status, output, errors = self.run(number, "after" if how in LOSSES else how)
         is_part = how in FAULTS and (how == "broken" or self.may_leave_out(self.calls[number - 1]))
@@ -336,8 +338,8 @@ class ShelfNight(Night):
         return not call.endswith(("output", "errors"))
 
     def judge(self, how, output, is_part):
-        """Judges what a stop has left at each desk, in IN, in OUT and in the copies. Judges what was told. If
-        `is_part`, some mails may be left out."""
+        """Judges what a stop in the way `how` has left at each desk, in IN, OUT and the copies. `output` is what was
+        told. If `is_part`, some mails may be left out."""
         files = self.files()
         expect(files.get(self.own) == self.desks[self.own][0], "a loan begins at the shelf's own desk")
         saved = {}
@@ -370,8 +372,8 @@ class ShelfNight(Night):
                 expect(not is_told or saved[name], f"it is told, and not saved at {name}")
 
     def judge_marks(self, files, output):
-        """Expects that a retired group has its mark, and no desk after that. If none is marked, nothing of its desk is
-        gone."""
+        """Expects that each mark has the last word of its group, and that the retired group R has no desk. A run that
+        retires B leaves its mark, or all of its desk. What `output` tells is done in `files`."""
         for path, body in files.items():
             is_mark = body == b"retired\n" + of_group(path.split("/")[-1][:1].encode(), UNFILLED)
             expect(not path.endswith(".retired") or is_mark, f"{path} has another mark")
@@ -572,7 +574,8 @@ NIGHTS = (
 
 
 def main(program, *only):
-    """Performs the nights, or those with these names. Returns the exit status."""
+    """Performs all nights, or those with the names `only`. Returns the exit status, or ends the script if a night that
+    is not stopped goes wrong."""
     fine = True
     with harness.own_folder(in_memory=True) as folder:
         shim = harness.build_stop_nth(folder)

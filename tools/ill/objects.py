@@ -83,7 +83,7 @@ def says(is_so, path, what):
 
 
 def referred(name):
-    """Returns a definition of the schema."""
+    """Returns the definition of the schema that a reference names."""
     return SCHEMA["$defs"][name.removeprefix("#/$defs/")]
 
 
@@ -94,7 +94,7 @@ def is_type(name, value):
 
 
 def fitting(schemas, value, path):
-    """Returns how many of these schemas a value fits."""
+    """Returns how many of these schemas a value fits. `path` is that of the value."""
     return sum(fails(schema, value, path) is None for schema in schemas)
 
 
@@ -268,7 +268,8 @@ LEFT_OUT = re.compile(rb"(?:ill: [^\n]* may want a hand by (?:its date|their dat
 
 
 def run(words, given=None):
-    """Runs a command, which has to end with status 0, and returns its output."""
+    """Runs a command, and returns its output. Ends the script unless the status is 0 and standard error has at most the
+    line of `LEFT_OUT`."""
     done = PROGRAM.run(words, given)
     if done.status or not LEFT_OUT.fullmatch(done.errors):
         raise SystemExit(f"objects: ill {' '.join(words)}: {done.status} {done.errors.decode()}")
@@ -283,14 +284,15 @@ def unique(pairs):
 
 
 def compare(kind, words, lines_of, given=None):
-    """Compares the output of a command with `--json` with its output without it."""
+    """Compares the output of a command with `--json` with its output without it. `kind` names the definition of the
+    schema for its objects, and `lines_of` makes lines of these."""
     told = run([*words, "--json"], given).decode("utf-8")
     compare_texts(kind, " ".join(words), lines_of, told, run(words, given).decode("utf-8"))
 
 
 def compare_texts(kind, place, lines_of, text, lines):
-    """Compares the objects in `text` with the schema of this kind. Then compares them with the lines that the command
-    writes without `--json`."""
+    """Compares the objects in `text` with the definition `kind` of the schema. Then compares the lines that `lines_of`
+    makes of them with `lines`, which the command writes without `--json`."""
     global compared
     objects = []
     for line in text.split("\n")[:-1]:
@@ -330,7 +332,7 @@ def titled(name, title):
 
 
 def keep(desk, txns):
-    """Appends to what came to `desk` all that the other desk has to send in these loans. So does `take --keep`."""
+    """Appends to what came to `desk` all that the desk `there` has to send in these loans, as `take --keep` does."""
     for txn in txns:
         for number in map(str, range(1, 256)):
             sent = PROGRAM.run(["send", "there", *txn, number])

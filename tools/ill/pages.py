@@ -87,8 +87,8 @@ def lines(*words):
 class Page(html.parser.HTMLParser):
     """What a page has: faults, the style, and for each file its counts, its fault and its tables.
 
-    A table has the words of its heading, whether it wants a hand, its count, and its rows. A row has the texts of its
-    cells: that of the loan is a pair."""
+    A table has the words of its heading, whether it wants a hand, its count, and its rows. A row has its title, the
+    small texts below the title, the group, the transaction, the state, the date and the verbs."""
 
     def __init__(self, text):
         """Reads the text of a page. `file` is the desk whose part is read, and `cells` are those of the row that is
@@ -176,8 +176,8 @@ class Page(html.parser.HTMLParser):
 
 
 def begin():
-    """Makes two desks with a loan in each state. Returns the titles by the transaction, and the days of the last
-    actions by the desk and the transaction. In the first desk each third loan has a note."""
+    """Makes two desks with a loan in each state, of which each third has a note at the first desk. Returns the titles
+    by the transaction, and the days of the last actions by the desk and the transaction."""
     lines("new", "here", "requester")
     lines("new", "there", "responder")
     titles, acted = {}, {}
@@ -227,7 +227,8 @@ def loans_of(desk, begun, morning):
 
 
 def check_desk(page, desk, begun, today):
-    """Compares what a page tells of a desk with what `loan` tells, by the tables of the document."""
+    """Compares what a page tells of a desk with what `loan` tells, by the tables of docs/PROTOCOL.md. `begun` is what
+    `begin` has returned, and `today` the day of the page."""
     morning = Morning(today)
     loans = list(loans_of(desk, begun, morning))
     wanted, found = [[words, wants, len(rows), rows] for words, wants, rows in morning.tables(loans)], page.tables.get(desk, [])
@@ -242,8 +243,8 @@ def check_desk(page, desk, begun, today):
 
 
 def check_unread():
-    """Looks at a page of desks, of which the second is damaged and the third is not there. It must have their faults,
-    and the other desks."""
+    """Looks at a page of four desks, of which the second is damaged and the third is not there. It must have the faults
+    of these two, and the other desks."""
     with open("here", "rb") as whole, open("<i>", "wb") as damaged:
         damaged.write(whole.read()[:-1])
     done = ill("report", "here", "<i>", "none", "there", "--today", DAY)

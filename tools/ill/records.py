@@ -30,7 +30,7 @@ def with_digest(parts):
 
 
 def repaired(data):
-    """Returns a record of a desk with the digest that fits in place of its own."""
+    """Returns the record of a desk with the digest that fits, in place of the digest at its end."""
     return with_digest(data[:-DIGEST])
 
 

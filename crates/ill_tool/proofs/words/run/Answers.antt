@@ -14,6 +14,7 @@ use Rattle.ill_commands.specs.Note.{NotesAtFile}
 use Rattle.ill_commands.specs.Letters.{TakesWith}
 use Rattle.ill_commands.specs.Streams.{streams_of}
 use Rattle.ill_mail.specs.Keyed.{WithKey}
+use Rattle.ill_visits.specs.Visits.{ListsDesk, ReportsPaths, TellsDesk, VisitsPaths}
 use Rattle.ill_mail.specs.Nights.{OutboxAtFile}
 use Rattle.ill_place.specs.Place.{place_of}
 use Rattle.ill_tool.proofs.WordsLemmas.{is_some_mapped}
@@ -92,10 +93,36 @@ returns-in-Slip g c =
 pub returns-in-List : goal.returns-in-List
 returns-in-List g c =
     let left = g.R.Read.remaining c.args.reader.now in
-    let old = streams_of left (g.W.Write.contents c.args.machine.now.writer) in
-    let new = streams_of left (g.W.Write.contents c.list.new.machine.writer) in
-    subst (λ (request : Request). Runs g.D.DeskStore.Store.state (asked request) old c.list.result new) (sym c.in-List.is)
-    (refl, c.list.ensures)
+    let before = g.W.Write.contents c.args.machine.now.writer in
+    let after = g.W.Write.contents c.list.new.machine.writer in
+    let lists = ListsDesk c.in-List.form c.in-List.wanted (option_map (λ text. text.now) c.in-List.find) in
+    let listed = subst (λ (paths : List (Bor (List ℕ))). VisitsPaths lists (map (λ path. path.now) paths) before after
+    c.list.result) c.deref-in-List.ensures.value c.list.ensures in
+    subst (λ (request : Request). Runs g.D.DeskStore.Store.state (asked request) (streams_of left before) c.list.result
+    (streams_of left after)) (sym c.in-List.is) (refl, listed)
+
+-- Proves the contract of `run` for the request `News`. It is the contract of `news`, which reads no input.
+pub returns-in-News : goal.returns-in-News
+returns-in-News g c =
+    let left = g.R.Read.remaining c.args.reader.now in
+    let before = g.W.Write.contents c.args.machine.now.writer in
+    let after = g.W.Write.contents c.news.new.machine.writer in
+    let tells = TellsDesk c.in-News.form c.in-News.last c.in-News.since in
+    let told = subst (λ (paths : List (Bor (List ℕ))). VisitsPaths tells (map (λ path. path.now) paths) before after
+    c.news.result) c.deref-in-News.ensures.value c.news.ensures in
+    subst (λ (request : Request). Runs g.D.DeskStore.Store.state (asked request) (streams_of left before) c.news.result
+    (streams_of left after)) (sym c.in-News.is) (refl, told)
+
+-- Proves the contract of `run` for the request `Report`. It is the contract of `report`, which reads no input.
+pub returns-in-Report : goal.returns-in-Report
+returns-in-Report g c =
+    let left = g.R.Read.remaining c.args.reader.now in
+    let before = g.W.Write.contents c.args.machine.now.writer in
+    let after = g.W.Write.contents c.report.new.machine.writer in
+    let written = subst (λ (paths : List (Bor (List ℕ))). ReportsPaths c.in-Report.today c.in-Report.since
+    (map (λ path. path.now) paths) before after c.report.result) c.deref-in-Report.ensures.value c.report.ensures in
+    subst (λ (request : Request). Runs g.D.DeskStore.Store.state (asked request) (streams_of left before) c.report.result
+    (streams_of left after)) (sym c.in-Report.is) (refl, written)
 
 -- Proves the contract of `run` for the request `Inbox`. It is the contract of `inbox_with`, which reads no input.
 pub returns-in-Inbox : goal.returns-in-Inbox

@@ -287,8 +287,8 @@ class ShelfNight(Night):
     hows = (*KILLS, *LOSSES, "EIO", "EACCES", "short", "broken")
 
     def __init__(self, program, shim, folder, words, role, mails=()):
-        """Makes the template with a new shelf of this role. `again` has further statuses that the night may have when
-        it runs again."""
+        """Makes the template with a new shelf of this role. `own` is the path of the shelf's own desk, which has no
+        loans. `again` has further statuses that the night may have when it runs again."""
         super().__init__(program, shim, folder, words, dict(mails))
         self.role, self.own, self.again = role, "s/.shelf", ()
         self.ill("shelf", "new", "s", role)

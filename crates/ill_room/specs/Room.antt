@@ -1,4 +1,5 @@
--- The room of a desk's mail: where the mails of a run are, and the messages that ask (this profile's own).
+-- The room of a desk's mail: where the mails of a run are, and the messages that ask. These came for loans that are over,
+-- and the next outbox answers them (this profile's own).
 use Rattle.std.specs.Prelude.{◌≡◌, ◌⊎◌, ℕ, Bool, true, List, slice_get, Option, None, Some, option_map, Result, Ok, Err}
 use Rattle.ill_text.specs.declared.fault.ToolFault.{ToolFault}
 use Rattle.ill_night.specs.declared.verdict.Verdict.{Verdict}
@@ -143,6 +144,7 @@ EndsRunIf asked all old (Err fault) new = Unit {0}
 pub record EndsRun {A : Type 0} (asked : List ℕ) (all : List Verdict) (old : RoomState) (answer : Result A ToolFault)
     (new : RoomState) : Type 0 where
   pub each : (mail : ℕ) → MaySettle (slice_get all mail) (place_of old mail) (place_of new mail)
+  -- The messages that ask are those of before, or `asked`, even if the call failed.
   pub asked_stay : (new.asked ≡ old.asked) ⊎ (new.asked ≡ asked)
   pub asked_first : KeepsFirst asked old new
   pub done : EndsRunIf asked all old answer new

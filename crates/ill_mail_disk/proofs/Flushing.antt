@@ -131,7 +131,7 @@ module _ (spots : List (Option SpotOf)) (spread : AreSpread spots) (k : ℕ) (a 
 
   -- If the mails below `k` were flushed, and then the mail `k`, `FlushedTo` holds of the mails below `next`. `next` is
   -- at most
--- `k + 1`.
+  -- `k + 1`.
   pub flushed_next : (E : Type 0) (next : ℕ) (value : Unit {0}) (found : Option (Option SpotOf)) →
       slice_get spots k ≡ found → next ≤ suc k → FlushedTo spots k a b →
       DoesAt (λ spot. FlushesClaim {E = E} spot b (Ok value) c) (DoesNothing {E = E} b (Ok value) c) found →

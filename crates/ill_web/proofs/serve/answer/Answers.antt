@@ -12,6 +12,11 @@ returns g c =
     let asked = subst (λ (paths : List (Bor (List ℕ))). AreFoundAt (map (λ path. path.now) paths)
     (map (λ file. string_bytes file) files)) c.deref.ensures.value c.in_ok-found.ensures in
     let found = subst (λ files. AreFoundAt (map (λ (path : Bor (List ℕ)). path.now) c.args.request.operator.now.paths.items)
-    (map (λ file. string_bytes file) files)) (sym c.deref-2.ensures.value) asked in
-    (c.reply_to.ensures.0, (Ok c.in_ok-wanted.wanted, c.in_ok-wanted.ensures,
-    inr (map (λ file. string_bytes file) c.deref-2.result.now, found, c.reply_to.ensures.1)))
+    (map (λ file. string_bytes file) files)) (sym c.deref-2.ensures.value) asked in (
+      c.reply_to.ensures.0,
+      (
+        Ok c.in_ok-wanted.wanted,
+        c.in_ok-wanted.ensures,
+        inr (map (λ file. string_bytes file) c.deref-2.result.now, found, c.reply_to.ensures.1),
+      ),
+    )

@@ -72,8 +72,8 @@ found_more paths old new path is_asked are gets =
       subst (λ other. IsFoundAt other _) (sym is_asked.4) (gets.2 k d within),
     )))
 
--- If slashes are cut off the end of `path`, one after another, and leave `folder`, `folder` is `path` without slashes
--- at its end.
+-- If slashes are cut off the end of `path`, one after another, and leave `folder`, `path` is `folder`
+-- and these slashes.
 pub cut_slashes : (path : List ℕ) (cuts : List ℕ) (folder : List ℕ) → CutsSuffixes (FindsCharSuffix 47) path cuts folder
     → IsWithoutSlashes path folder
 cut_slashes path [] folder is = (0, sym is ∙ sym (append-nil folder))

@@ -2,11 +2,12 @@
 use Rattle.std.specs.Prelude.{◌≡◌, ◌⊎◌, ℕ, List, ◌++◌, codes, replicate}
 use Rattle.std.specs.List.{All, Any}
 
--- `file` is the path of an entry of `folder`: that of the folder, a slash, and a name.
+-- `file` is the path of an entry of `folder`: that of the folder, a slash, and the entry's name. Nothing is asked of the
+-- name.
 abbrev pub IsEntryOf : (folder file : List ℕ) → Type 0
 IsEntryOf folder file = (name : List ℕ) × (file ≡ folder ++ (codes "/" ++ name))
 
--- `folder` is `path` without the slashes at its end.
+-- `path` is `folder`, followed by slashes alone, or by nothing. `folder` may still end with a slash.
 abbrev pub IsWithoutSlashes : (path folder : List ℕ) → Type 0
 IsWithoutSlashes path folder = (slashes : ℕ) × (path ≡ folder ++ replicate slashes 47)
 

@@ -12,8 +12,9 @@ ghost use Rattle.ill_room.specs.Sealed.{texts_of};
 
 use ill_seal::laws::nobody_forges_a_letter;
 
-/// Settling neither removes nor puts aside a mail that is to wait, and removes no mail that is to be put aside. It
-/// gives no done mail back, moves no mail that is not claimed, and changes no message that asks.
+/// Settling neither removes nor puts aside a mail that is to wait. It neither removes nor gives back a mail that is to be
+/// put aside, and neither gives back nor puts aside a done mail. It moves no mail without a verdict and none that is not
+/// claimed, and changes no message that asks.
 pub fn no_mail_comes_to_a_wrong_place()
     ensures { (all : List Verdict) (old new : RoomState) → IsBadSettling all old new → Settles all old new → ⊥ }
 {}

@@ -1,6 +1,6 @@
 //! The lines about an action whose words are wrong.
 
-use crate::day::tell_no_day;
+use crate::day::{tell_no_day, tell_past_the_end};
 use crate::shown::Shown;
 use crate::verbs::{Form, Parts, form_of, names_of, nearest};
 use clap::ArgMatches;
@@ -60,7 +60,7 @@ fn tell_words(
         None => tell_no_verb(alloc, text, role, verb),
         Some(form) if form.role != role => tell_other_role(text, role, form),
         Some(form) if role == Role::Responder && today.is_none() => tell_no_today(text, form),
-        Some(form) => tell_parts(alloc, text, form, today, parts),
+        Some(form) => tell_parts(alloc, text, form, parts),
     }
 }
 
@@ -129,7 +129,6 @@ fn tell_parts(
     alloc: Global,
     text: &mut String,
     form: Form,
-    today: Option<Day>,
     parts: &[&str],
 ) -> Result<(), OutOfMemory> {
     let (least, most) = form.parts.counts();
@@ -141,7 +140,7 @@ fn tell_parts(
             let shown = Shown::of(part);
             writeln!(text, "  {shown} is too much: the form is {form}.")
         }
-        None => tell_part(alloc, text, form, today, parts),
+        None => tell_part(alloc, text, form, parts),
     }
 }
 
@@ -150,7 +149,6 @@ fn tell_part(
     alloc: Global,
     text: &mut String,
     form: Form,
-    today: Option<Day>,
     parts: &[&str],
 ) -> Result<(), OutOfMemory> {
     let Some((first, others)) = parts.split_first() else {
@@ -161,8 +159,8 @@ fn tell_part(
         Parts::YesOrNo => tell_neither(text, form, first),
         Parts::Result => tell_no_result(text, first),
         Parts::Wished => tell_no_wish(text, form, first),
-        Parts::Due => tell_no_due(text, form, today, first),
-        Parts::Grant => tell_grant(text, form, today, first, others.first().copied()),
+        Parts::Due => tell_no_due(text, form, first),
+        Parts::Grant => tell_grant(text, form, first, others.first().copied()),
         Parts::Item if *first != "none" && Day::read(first.as_bytes()).is_err() => {
             tell_no_wish(text, form, first)
         }
@@ -194,15 +192,10 @@ fn tell_no_wish(text: &mut String, form: Form, part: &str) -> Result<(), OutOfMe
     writeln!(text, "  `none` stands for no day: the form is {form}.")
 }
 
-/// Appends the reason why `part` is no due date: neither a day, nor `+` and a number of days after `today`.
-fn tell_no_due(
-    text: &mut String,
-    form: Form,
-    today: Option<Day>,
-    part: &str,
-) -> Result<(), OutOfMemory> {
+/// Appends the reason why `part` is no due date: neither a day, nor `+` and a number of days after the day of the action.
+fn tell_no_due(text: &mut String, form: Form, part: &str) -> Result<(), OutOfMemory> {
     match part.strip_prefix('+') {
-        Some(days) => tell_no_days(text, today, part, days),
+        Some(days) => tell_no_days(text, part, days),
         None => {
             if let Err(fault) = Day::read(part.as_bytes()) {
                 tell_no_day(text, part, fault)?;
@@ -217,12 +210,7 @@ fn tell_no_due(
 
 /// Appends the reason why `part` names no day. It is a `+`, and then `days`. Its digits are wrong, or the day is past
 /// the end of the calendar.
-fn tell_no_days(
-    text: &mut String,
-    today: Option<Day>,
-    part: &str,
-    days: &str,
-) -> Result<(), OutOfMemory> {
+fn tell_no_days(text: &mut String, part: &str, days: &str) -> Result<(), OutOfMemory> {
     let shown = Shown::of(part);
     let are_digits = days.bytes().all(|byte| byte.is_ascii_digit());
     if !are_digits || !(1..=5).contains(&days.len()) {
@@ -231,10 +219,7 @@ fn tell_no_days(
             "  {shown} is no day: after `+` stand one to five digits."
         );
     }
-    writeln!(
-        text,
-        "  {shown} leads past the last day of the calendar, 99991231."
-    )
+    tell_past_the_end(text, part)
 }
 
 /// Appends the lines about the wrong parts of a Renew-Answer: `word`, which should be yes or no, and the due date
@@ -242,13 +227,12 @@ fn tell_no_days(
 fn tell_grant(
     text: &mut String,
     form: Form,
-    today: Option<Day>,
     word: &str,
     due: Option<&str>,
 ) -> Result<(), OutOfMemory> {
     match (word, due) {
         ("yes", None) => writeln!(text, "  A part is missing: the form is {form}."),
-        ("yes", Some(due)) => tell_no_due(text, form, today, due),
+        ("yes", Some(due)) => tell_no_due(text, form, due),
         ("no", Some(due)) => {
             let shown = Shown::of(due);
             writeln!(text, "  {shown} is too much: the form is {form}.")

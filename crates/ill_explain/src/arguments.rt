@@ -1,7 +1,7 @@
 //! The lines about wrong arguments, with the right form of each.
 
 use crate::action::{tell_action, tell_note};
-use crate::day::tell_day;
+use crate::day::{tell_day, tell_due_before};
 use crate::file::tell_reserved;
 use crate::shown::Shown;
 use crate::verbs::nearest;
@@ -25,7 +25,7 @@ pub fn tell_arguments<T: LockFiles>(
 ) -> Result<(), OutOfMemory> {
     for argument in name.arguments() {
         if let Some(word) = matches.get_str(argument.id()) {
-            tell_argument(alloc, text, *argument, word)?;
+            tell_argument(alloc, text, *argument, word, matches)?;
         }
     }
     if text.is_empty() {
@@ -75,12 +75,13 @@ fn has_name_without_day(matches: &ArgMatches<'_>) -> bool {
         && matches.get_str(Argument::NightDay.id()).is_none()
 }
 
-/// Appends a line about `word`, the text of `argument`, if it is wrong.
+/// Appends a line about `word`, the text of `argument`, if it is wrong. `matches` are all words of the command.
 fn tell_argument(
     alloc: Global,
     text: &mut String,
     argument: Argument,
     word: &str,
+    matches: &ArgMatches<'_>,
 ) -> Result<(), OutOfMemory> {
     match argument {
         Argument::NewFile | Argument::KeyFile => tell_reserved(text, word).map(|_| ()),
@@ -89,12 +90,13 @@ fn tell_argument(
         Argument::Transaction => tell_qualifier(alloc, text, "transaction", word),
         Argument::Today
         | Argument::OnDay
-        | Argument::DueBefore
         | Argument::Since
         | Argument::ReportDay
         | Argument::From
         | Argument::To
         | Argument::NightDay => tell_day(text, word),
+        Argument::DueBefore => tell_due_before(text, word, matches.get_str(Argument::OnDay.id())),
+        Argument::Ahead => tell_ahead(text, word),
         Argument::By => tell_name(text, word),
         Argument::InState => tell_state(alloc, text, word),
         Argument::Number => tell_number(text, word),
@@ -193,6 +195,15 @@ fn tell_number(text: &mut String, word: &str) -> Result<(), OutOfMemory> {
     }
     let shown = Shown::of(word);
     writeln!(text, "  {shown} is no number of a message: it is 1 to 255.")
+}
+
+/// Appends a line about `word`, if it is no number of days within which a due date is soon.
+fn tell_ahead(text: &mut String, word: &str) -> Result<(), OutOfMemory> {
+    if number(word.as_bytes()).is_some() {
+        return Ok(());
+    }
+    let shown = Shown::of(word);
+    writeln!(text, "  {shown} is no number of days: it is 1 to 255.")
 }
 
 /// Appends a line about `word`, if it is no number of messages to show.

@@ -56,6 +56,7 @@ want the day: `--today {day}`; DAY is {day_digits} digits, as {day}; The day of 
 at most DAYS days away: {first} to {last}, or {ahead} without this option; a due date is soon, or {ahead}
 N days after that day, {first} to {last}; the last N messages, {first} to {last}
 only the last N messages are shown, {first} to {last}; no count of messages: it is {first} to {last}
+no number of days: it is {first} to {last}; after `+` stands a number from {first} to {last}
 days {first_day} to {last_day}
 N one to {days_digits} digits
 one to {number_digits} digits, with a value from {first} to {last}; The number of the message, {first} to {last}

@@ -19,6 +19,10 @@ desk_path folder role group = folder ++ (codes "/" ++ desk_name role group)
 abbrev pub own_path : List ℕ → List ℕ
 own_path folder = folder ++ (codes "/" ++ codes ".shelf")
 
+-- Returns the path of the file that marks a group as retired. `path` is that of the desk of the group.
+abbrev pub retired_path : (path : List ℕ) → List ℕ
+retired_path path = path ++ codes ".retired"
+
 -- Returns the group in `name`, if `name` is that of a desk of `role`.
 abbrev pub group_in : Role → List ℕ → List ℕ
 group_in role name = percent_decode (take (length name - length (role_name role) - 1) name)

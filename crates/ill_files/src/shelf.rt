@@ -2,7 +2,7 @@
 //! desk.
 
 ghost use Rattle.std.specs.Prelude.{Decides, IfOk, IfSome, OnOk, ◌≡◌, ◌++◌, codes, map, ℕ, List, IfErr, string_bytes};
-ghost use Rattle.ill_files.specs.ShelfNames.{AreDeskNames, AreOnShelf, IsNamedOnShelf, IsDeskName, desk_name, desk_path, group_in, own_path};
+ghost use Rattle.ill_files.specs.ShelfNames.{AreDeskNames, AreOnShelf, IsNamedOnShelf, IsDeskName, desk_name, desk_path, group_in, own_path, retired_path};
 ghost use Rattle.ill_values.specs.Text.{IsQualifier};
 ghost use Rattle.ill_record.specs.declared.role.Role.{Role};
 ghost use Rattle.ill_text.specs.Fault.{IsOpenFault};
@@ -253,9 +253,13 @@ pub fn is_retired<T: Files>(rt: &T, alloc: Global, file: &str) -> io::Result<boo
     is_there(rt, mark.as_str())
 }
 
-/// Returns the path of the file that marks the group of a desk as retired.
-pub fn retired_path(alloc: Global, file: &str) -> Result<String, OutOfMemory> {
-    Ok(format!(in alloc; "{file}{RETIRED}")?)
+/// Returns the path of the file that marks the group of the desk in `file` as retired.
+pub fn retired_path(alloc: Global, file: &str) -> Result<String, OutOfMemory>
+    ensures { IfOk result (λ path. string_bytes path ≡ retired_path file.now) }
+{
+    let mut path = String::from_str(alloc, file)?;
+    path.push_str(RETIRED)?;
+    Ok(path)
 }
 
 /// Fails with `NoSuchTransaction` if the group of the desk in `file` is retired: no desk has its loans.

@@ -1,5 +1,5 @@
 -- Proves what is known of a desk that is opened at a place.
-use Rattle.std.proofs.Common.{◌≡◌, ℕ, List, Option, None, Some, Result, Ok, Err, IfOk, inr, refl, sym, subst, ◌∙◌}
+use Rattle.std.proofs.Common.{◌≡◌, ℕ, List, Option, None, Some, Ok, inl, inr, refl, sym, subst, ◌∙◌}
 use Rattle.std.proofs.lemmas.Option.{none-some, same_Some}
 use Rattle.std.specs.Prelude.{true}
 use Rattle.ill_record.specs.declared.role.Role.{Role}
@@ -7,7 +7,7 @@ use Rattle.ill_store.specs.declared.store.NextCall.{NextCall}
 use Rattle.ill_saved.specs.Desk.{AreAllReleased, Begins, Creates, DeskLoads, DeskOf}
 use Rattle.ill_saved.specs.ManySides.{DeskContents, many_sides, no_sides}
 use Rattle.ill_place.specs.BadPlaces.{IsElsewhere, no_path, no_record, other_path, other_sides, unsaved}
-use Rattle.ill_place.specs.Place.{BeginsAt, HasLandedAs, IsAt, OpensAt, PlaceOf, StartsAt}
+use Rattle.ill_place.specs.Place.{BeginsAt, HasLandedAs, IsAt, OpensAs, PlaceOf, StartsAt}
 
 -- A desk that starts over an honest store has the sides of the landed record.
 has_landed : {S : Type 0} (landed : Option (List ℕ)) (plan : Option NextCall) (desk : DeskOf DeskContents S)
@@ -41,7 +41,7 @@ has_none (Some bytes) plan creates = absurd creates
 
 -- If `store` is at `place`, and `desk` is created over it without sides, `desk` begins at `place`.
 -- If the store is honest after that, it was honest before (`was`).
-pub begun : {S : Type 0} (place : PlaceOf S) (role : Role) (store : S) (desk : DeskOf DeskContents S) → IsAt place store
+begun : {S : Type 0} (place : PlaceOf S) (role : Role) (store : S) (desk : DeskOf DeskContents S) → IsAt place store
     → ((place.state store).is_honest ≡ true → Creates (place.state store).landed (place.state store).plan (Ok tt))
     → desk.live ≡ no_sides role
     → DeskLoads {X = Unit {0}} (place.state store) (Ok tt) (place.state desk.store)
@@ -54,11 +54,31 @@ begun place role store desk at creates empty loads = record {
   empty = empty;
 }
 
--- If `result` is a desk that begins at `place`, it is a desk that is opened there.
-pub opens_begun : {S F : Type 0} (place : PlaceOf S) (result : Result (DeskOf DeskContents S) F)
-    → IfOk result (λ (desk : DeskOf DeskContents S). (role : Role) × BeginsAt place role desk) → IfOk result (OpensAt place)
-opens_begun place (Ok desk) begins = inr begins
-opens_begun place (Err fault) begins = tt
+-- A desk that starts at `place` is opened there, whatever the role with which a desk may be begun.
+opens : {S : Type 0} (role : Option Role) (place : PlaceOf S) (desk : DeskOf DeskContents S) → StartsAt place desk
+    → OpensAs role place desk
+opens None place desk starts = starts
+opens (Some role) place desk starts = inl starts
+
+-- If `store` is at `place`, and a load of it gives `desk` with all messages released, `desk` is opened there (`OpensAs`).
+pub opened : {S : Type 0} (role : Option Role) (place : PlaceOf S) (store : S) (desk : DeskOf DeskContents S) → IsAt place store
+    → ((place.state store).is_honest ≡ true
+    → Begins {S = S} many_sides.read many_sides.begins (λ (desk : DeskOf DeskContents S). desk.live)
+    (place.state store).landed (place.state store).plan (Ok desk))
+    → AreAllReleased many_sides desk.live
+    → DeskLoads {X = Unit {0}} (place.state store) (Ok tt) (place.state desk.store)
+    → OpensAs role place desk
+opened role place store desk at begins released loads =
+    opens role place desk (started place store desk at begins released loads)
+
+-- If `store` is at `place`, and `desk` is created over it without sides, `desk` is opened there (`OpensAs`), begun with
+-- `role`.
+pub opened_new : {S : Type 0} (place : PlaceOf S) (role : Role) (store : S) (desk : DeskOf DeskContents S) → IsAt place store
+    → ((place.state store).is_honest ≡ true → Creates (place.state store).landed (place.state store).plan (Ok tt))
+    → desk.live ≡ no_sides role
+    → DeskLoads {X = Unit {0}} (place.state store) (Ok tt) (place.state desk.store)
+    → OpensAs (Some role) place desk
+opened_new place role store desk at creates empty loads = inr (begun place role store desk at creates empty loads)
 
 -- If `desk` is elsewhere than `place`, it does not start there. Each case contradicts one field of `StartsAt`.
 pub none_elsewhere : {S : Type 0} (place : PlaceOf S) (desk : DeskOf DeskContents S) → IsElsewhere place desk

@@ -58,6 +58,7 @@ pub record BeginsAt {S : Type 0} (place : PlaceOf S) (role : Role) (desk : DeskO
   pub landed : (place.state desk.store).is_honest ≡ true → (place.state desk.store).landed ≡ None
   pub empty : desk.live ≡ no_sides role
 
--- The desk was loaded from the place, or was begun there.
-abbrev pub OpensAt : {S : Type 0} → PlaceOf S → DeskOf DeskContents S → Type 0
-OpensAt place desk = StartsAt place desk ⊎ ((role : Role) × BeginsAt place role desk)
+-- The desk was loaded from the place. If there is a `role`, it was loaded from the place, or was begun there with this role.
+abbrev pub OpensAs : {S : Type 0} → (role : Option Role) → PlaceOf S → DeskOf DeskContents S → Type 0
+OpensAs None place desk = StartsAt place desk
+OpensAs (Some role) place desk = StartsAt place desk ⊎ BeginsAt place role desk

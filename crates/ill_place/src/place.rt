@@ -4,8 +4,7 @@ ghost use Rattle.std.specs.Prelude.{◌≡◌, ℕ, List, IfOk, IfErr};
 ghost use Rattle.ill_saved.specs.Desk.{DeskOf};
 ghost use Rattle.ill_saved.specs.ManySides.{DeskContents};
 ghost use Rattle.ill_place.specs.BadPlaces.{IsElsewhere};
-ghost use Rattle.ill_place.specs.Place.{BeginsAt, IsAt, OpensAt, StartsAt, place_of};
-ghost use Rattle.ill_record.specs.declared.role.Role.{Role};
+ghost use Rattle.ill_place.specs.Place.{IsAt, OpensAs, StartsAt, place_of};
 ghost use Rattle.ill_text.specs.Fault.{IsOpenFault};
 
 use ill_saved::{Desk, DeskFault, FileLock, FileStore, LockFiles, RECORD_LIMIT, Role, Store};
@@ -137,7 +136,7 @@ impl<D: DeskFiles> DeskPlace<'_, D> {
         lock: D::DeskLock,
         role: Option<Role>,
     ) -> Result<LockedAt<D>, ToolFault>
-        ensures opens { IfOk result (λ locked. OpensAt (place_of D.DeskStore.state self.now.path.now) locked.desk) }
+        ensures opens { IfOk result (λ locked. OpensAs role (place_of D.DeskStore.state self.now.path.now) locked.desk) }
         ensures faults { IfErr result IsOpenFault }
     {
         let desk = start_or_begin(alloc, self.store(alloc)?, role)?;
@@ -160,14 +159,14 @@ fn start<S: Store + Drop>(alloc: Global, store: S) -> Result<Desk<S>, ToolFault>
 
 /// Loads the desk whose record `store` has. If there is no record, it begins a desk of `role`, or fails without a
 /// `role`.
-#[tactic(auto, using(crate::proofs::PlaceLemmas::started))]
+#[tactic(auto, using(crate::proofs::PlaceLemmas::opened))]
 fn start_or_begin<S: Store + Drop>(
     alloc: Global,
     store: S,
     role: Option<Role>,
 ) -> Result<Desk<S>, ToolFault>
     ensures opens { (path : List ℕ) → IsAt (place_of S.state path) store
-        → IfOk result (OpensAt (place_of S.state path)) }
+        → IfOk result (OpensAs role (place_of S.state path)) }
     ensures faults { IfErr result IsOpenFault }
 {
     match Desk::start(alloc, store) {
@@ -178,10 +177,10 @@ fn start_or_begin<S: Store + Drop>(
 }
 
 /// Begins a desk of `role` over `store`, which has no record. Without a `role` it fails with `NoRecord`.
-#[tactic(auto, using(crate::proofs::PlaceLemmas::begun))]
+#[tactic(auto, using(crate::proofs::PlaceLemmas::opened_new))]
 fn begin<S: Store + Drop>(alloc: Global, store: S, role: Option<Role>) -> Result<Desk<S>, ToolFault>
     ensures begins { (path : List ℕ) → IsAt (place_of S.state path) store
-        → IfOk result (λ desk. (role : Role) × BeginsAt (place_of S.state path) role desk) }
+        → IfOk result (OpensAs role (place_of S.state path)) }
     ensures faults { IfErr result IsOpenFault }
 {
     let Some(role) = role else {

@@ -1,2 +1,4 @@
+pub mod AwayLemmas
 pub mod HomeLemmas
+pub mod RetiringLemmas
 pub mod ShelfLemmas

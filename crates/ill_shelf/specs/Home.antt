@@ -1,12 +1,12 @@
 -- The desk of a group on a shelf, and the effect of each command there.
-use Rattle.std.specs.Prelude.{◌≡◌, ◌⊎◌, ℕ, Bool, List, Option, Result}
+use Rattle.std.specs.Prelude.{◌≡◌, ◌⊎◌, ℕ, Bool, true, false, List, Option, None, Some, Result}
 use Rattle.ill_values.specs.TxnId.{Qualifiers}
 use Rattle.ill_record.specs.declared.role.Role.{Role}
 use Rattle.ill_saved.specs.Desk.{DeskOf}
 use Rattle.ill_saved.specs.ManySides.{DeskContents}
 use Rattle.ill_text.specs.declared.fault.ToolFault.{ToolFault}
 use Rattle.ill_files.specs.Opening.{FailsToOpen}
-use Rattle.ill_place.specs.Place.{OpensAt, PlaceOf, ShelfOf, place_of}
+use Rattle.ill_place.specs.Place.{OpensAs, PlaceOf, ShelfOf, place_of}
 use Rattle.ill_files.specs.ShelfNames.{desk_path, own_path}
 use Rattle.ill_desk.specs.Performing.{command_state, view_of}
 use Rattle.ill_desk.specs.ActAs.{Asking}
@@ -28,21 +28,35 @@ abbrev pub AtHome : {S : Type 0} → ShelfOf S → (group : List ℕ) → (AtPla
 AtHome shelf group AtPlace =
     (path : List ℕ) × IsHome shelf.folder group path × AtPlace (place_of shelf.state path)
 
--- The action was performed or tried at the desk of the place, which may have been begun for it. Or its file could not
--- be opened.
-abbrev pub ActsAtPlace : {S : Type 0} → PlaceOf S → Asking → (is_long : Bool) → Option (List ℕ) → Option (List ℕ) →
+-- The arguments of `act` on a shelf. If `is_long`, the item of the loan is written too. If `is_new_group`, the desk of the
+-- group may be begun.
+pub record ShelfAction : Type 0 where
+  pub asking : Asking
+  pub is_long : Bool
+  pub is_new_group : Bool
+
+-- Returns the role of a desk that may be begun: `role` if a new group may be begun, else None.
+abbrev pub role_to_begin : (is_new_group : Bool) → Role → Option Role
+role_to_begin true role = Some role
+role_to_begin false role = None
+
+-- The action was performed or tried at the desk of the place. If there is a `role`, the desk may have been begun for it, with
+-- this role. Or its file could not be opened.
+abbrev pub ActsAtPlace : {S : Type 0} → (role : Option Role) → PlaceOf S → ShelfAction → Option (List ℕ) → Option (List ℕ) →
     Result Bool ToolFault → Type 0
-ActsAtPlace {S} place asked is_long before after result =
+ActsAtPlace {S} role place action before after result =
     FailsToOpen before after result
-    ⊎ ((old new : DeskOf DeskContents S) × OpensAt place old
-    × ActsOn asked is_long (command_state (view_of place.state old) before) result
+    ⊎ ((old new : DeskOf DeskContents S) × OpensAs role place old
+    × ActsOn action.asking action.is_long (command_state (view_of place.state old) before) result
     (command_state (view_of place.state new) after))
 
--- The action was performed or tried at the desk of its group.
-abbrev pub ActsAtHome : {S : Type 0} → ShelfOf S → Asking → (is_long : Bool) → Option (List ℕ) → Option (List ℕ) →
-    Result Bool ToolFault → Type 0
-ActsAtHome shelf asked is_long before after result =
-    AtHome shelf asked.txn.group (λ place. ActsAtPlace place asked is_long before after result)
+-- The action was performed or tried at the desk of its group. The desk was begun for it only if a new group may be begun, and
+-- with the role in its name.
+abbrev pub ActsAtHome : {S : Type 0} → ShelfOf S → ShelfAction → Option (List ℕ) → Option (List ℕ) → Result Bool ToolFault →
+    Type 0
+ActsAtHome shelf action before after result =
+    (role : Role) × ActsAtPlace (role_to_begin action.is_new_group role)
+    (place_of shelf.state (desk_path shelf.folder role action.asking.txn.group)) action before after result
 
 -- The message, or its letter, was written at the desk of its group.
 abbrev pub SendsAtHome : {S : Type 0} → ShelfOf S → (key : Option (List ℕ)) → MessageOf → Option (List ℕ) →

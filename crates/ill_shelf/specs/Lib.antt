@@ -1,3 +1,4 @@
 pub mod BadHomes
 pub mod Home
+pub mod Retiring
 pub mod Shelf

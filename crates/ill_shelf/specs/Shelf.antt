@@ -1,6 +1,6 @@
 -- A shelf: a folder of desks of one role, one for each group of transactions. The group of a transaction
 -- gives the name of its desk (this profile's own).
-use Rattle.std.specs.Prelude.{◌≡◌, ◌⊎◌, ℕ, Bool, true, false, ◌&&◌, List, codes, Option, None, Some, is_some, Result, Ok}
+use Rattle.std.specs.Prelude.{◌≡◌, ◌⊎◌, ℕ, Bool, true, false, ◌&&◌, List, Option, None, Some, is_some, Result, Ok}
 use Rattle.std.specs.Prelude.{Err}
 use Rattle.ill_store.specs.Store.{StoreState}
 use Rattle.ill_text.specs.declared.fault.ToolFault.{ToolFault}
@@ -106,26 +106,6 @@ abbrev pub VisitsWith : (key : Option (List ℕ)) → (folder : List ℕ) → (V
     Option (List ℕ) → Result Bool ToolFault → Type 0
 VisitsWith None folder Visits before after result = VisitsShelf folder Visits before after result
 VisitsWith (Some key) folder Visits before after result = OpensShelf folder Visits before after result
-
--- ---- retired groups
-
--- Returns the line of the command: `done` if the group is retired, `not-now` if a loan is not over.
-abbrev pub retired_line : Bool → List ℕ
-retired_line true = codes "done\n"
-retired_line false = codes "not-now\n"
-
--- Returns `is_well`, the answer of a command, if its line was written. Else it returns the fault of the writing.
-abbrev pub told_with : Bool → Result (Unit {0}) ToolFault → Result Bool ToolFault
-told_with is_well (Ok done) = Ok is_well
-told_with is_well (Err fault) = Err fault
-
--- The group of the desk in a file is retired, or is not, and the command wrote its line. Or a file could not
--- be opened.
-abbrev pub RetiresAtFile : Option (List ℕ) → Option (List ℕ) → Result Bool ToolFault → Type 0
-RetiresAtFile before after result =
-    FailsToOpen before after result
-    ⊎ ((is_retired : Bool) × (told : Result (Unit {0}) ToolFault) × WritesText before after (retired_line is_retired) told
-    × (result ≡ told_with is_retired told))
 
 -- ---- an input
 

@@ -5,5 +5,6 @@ pub mod keyed;
 mod last_words;
 pub mod laws;
 pub mod on_shelf;
+pub mod retiring;
 pub mod take_home;
 mod visit;

@@ -6,10 +6,10 @@ ghost use Rattle.ill_files.specs.ShelfNames.{AreOnShelf};
 ghost use Rattle.ill_commands.specs.AtFile.{ShowsFile, message_of};
 ghost use Rattle.ill_commands.specs.Note.{text_of};
 ghost use Rattle.ill_desk.specs.ActAs.{asking_of};
-ghost use Rattle.ill_place.specs.Place.{OpensAt, place_of, shelf_of};
+ghost use Rattle.ill_place.specs.Place.{OpensAs, place_of, shelf_of};
 ghost use Rattle.ill_mail.specs.Nights.{ExchangesAtFile, InboxAtFile, OutboxAtFile, asked_night};
-ghost use Rattle.ill_shelf.specs.Home.{ActsAtHome, BeginsShelf, IsHome, LoanAtHome, NotesAtHome, SendsAtHome, SlipAtHome};
-ghost use Rattle.ill_shelf.specs.Shelf.{Headed, IsFurther, RetiresAtFile, VisitsShelf, is_lines, retired_line, told_with};
+ghost use Rattle.ill_shelf.specs.Home.{ActsAtHome, BeginsShelf, IsHome, LoanAtHome, NotesAtHome, SendsAtHome, SlipAtHome, role_to_begin};
+ghost use Rattle.ill_shelf.specs.Shelf.{Headed, IsFurther, VisitsShelf, is_lines};
 ghost use Rattle.ill_text.specs.Fault.{IsOpenFault};
 
 use crate::last_words::send_last_words;
@@ -21,32 +21,28 @@ use ill_desk::act_as::ActionView;
 use ill_files::durable::error_of_store;
 use ill_files::home::refuse_lost;
 use ill_files::machine::Machine;
-use ill_files::open::{lock, open};
-use ill_files::paths::{KEPT, MAIL, RETIRED, is_there, path_of};
-use ill_files::shelf::{Shelf, is_retired, names_of_desks, own_path, refuse_retired, retired_path};
+use ill_files::paths::RETIRED;
+use ill_files::shelf::{Shelf, names_of_desks, own_path, refuse_retired, retired_path};
 use ill_key::Key;
 use ill_mail::backup::beat;
 use ill_mail::outlet::Outlet;
-use ill_mailbox::mail::{Incoming, names_in};
+use ill_mailbox::mail::Incoming;
 use ill_mailbox::mail_box::remove_if_there;
 use ill_mailbox::places::{Places, look_at_places};
 use ill_night::night::Night;
-use ill_night::retire::run_desk_retire;
 use ill_place::place::{DeskFiles, DeskPlace, LockedAt, ShelfPlace};
-use ill_saved::{Desk, FileStore, LockFiles, RECORD_LIMIT, Role, Store};
+use ill_saved::{FileStore, LockFiles, RECORD_LIMIT, Role, Store};
 use ill_show::loan::LoanView;
 use ill_sorting::last_words::load_mark;
 use ill_sorting::sorting::{MailsFrom, sort_mails};
 use ill_text::diary::Stamp;
 use ill_text::fault::{STORE_FAILED, ToolFault, graver};
 use ill_text::form::Form;
-use ill_text::output::write_whole;
 use ill_values::{Number, TxnId};
 use std::alloc::Global;
 use std::fs::DirBuilder;
-use std::io::{ErrorKind, Write};
+use std::io::{self, ErrorKind, Write};
 use std::rt::Files;
-use std::{fs, io};
 
 /// `ill shelf new`: begins a shelf of `role` in the folder of `place`. The folder is made if it is not there.
 pub fn new_shelf<T: Files, D: DeskFiles, W: Write, E: Write>(
@@ -88,18 +84,28 @@ pub fn act_on_shelf<T: Files, D: DeskFiles, W: Write, E: Write>(
     is_long: bool,
     is_new_group: bool,
 ) -> Result<bool, ToolFault>
-    ensures { ActsAtHome (shelf_of D.DeskStore.state place.now.folder.now) (asking_of view.now) is_long
-        (W.contents machine.old.writer) (W.contents machine.new.writer) result }
+    ensures { ActsAtHome (shelf_of D.DeskStore.state place.now.folder.now) (record {
+      asking = asking_of view.now;
+      is_long = is_long;
+      is_new_group = is_new_group;
+    }) (W.contents machine.old.writer) (W.contents machine.new.writer) result }
 {
     let shelf = Shelf::open(machine.rt, machine.alloc, place.folder)?;
     let file = shelf.desk_of(machine.alloc, view.txn.group())?;
-    let role = if is_new_group { Some(shelf.role) } else { None };
+    let role = role_to_begin(is_new_group, shelf.role);
     let desk = DeskPlace {
         files: place.files,
         path: file.as_str(),
     };
     let locked = open_or_begin(machine.rt, machine.alloc, &desk, role)?;
     act_at(machine, desk.path, locked, view, is_long)
+}
+
+/// Returns the role of a desk that may be begun: `role` if `is_new_group` is set, else `None`.
+fn role_to_begin(is_new_group: bool, role: Role) -> Option<Role>
+    ensures { result ≡ role_to_begin is_new_group role }
+{
+    if is_new_group { Some(role) } else { None }
 }
 
 /// Opens the desk at `place` under the lock of its file. If the file is not there and there is a `role`, it begins a
@@ -110,7 +116,7 @@ fn open_or_begin<T: Files, D: DeskFiles>(
     place: &DeskPlace<'_, D>,
     role: Option<Role>,
 ) -> Result<LockedAt<D>, ToolFault>
-    ensures opens { IfOk result (λ locked. OpensAt (place_of D.DeskStore.state place.now.path.now) locked.desk) }
+    ensures opens { IfOk result (λ locked. OpensAs role (place_of D.DeskStore.state place.now.path.now) locked.desk) }
     ensures faults { IfErr result IsOpenFault }
 {
     let lock = place.lock(alloc)?;
@@ -497,7 +503,12 @@ fn copy_marks<T: Files>(rt: &T, alloc: Global, shelf: &Shelf<'_>, folder: &str) 
 
 /// Saves `mark`, the mark that the group of `desk` is retired, and makes it durable with its folder. Without a mark it
 /// does nothing.
-fn save_mark<T: Files>(rt: &T, alloc: Global, desk: &str, mark: Option<Vec<u8>>) -> io::Result<()> {
+pub(crate) fn save_mark<T: Files>(
+    rt: &T,
+    alloc: Global,
+    desk: &str,
+    mark: Option<Vec<u8>>,
+) -> io::Result<()> {
     let path = retired_path(alloc, desk)?;
     match mark {
         Some(mark) => save_file(rt, alloc, path.as_str(), &mark),
@@ -506,140 +517,15 @@ fn save_mark<T: Files>(rt: &T, alloc: Global, desk: &str, mark: Option<Vec<u8>>)
 }
 
 /// Saves `bytes` in the file at `path`, and makes it durable with its folder.
-fn save_file<T: Files>(rt: &T, alloc: Global, path: &str, bytes: &[u8]) -> io::Result<()> {
+pub(crate) fn save_file<T: Files>(
+    rt: &T,
+    alloc: Global,
+    path: &str,
+    bytes: &[u8],
+) -> io::Result<()> {
     let mut store = FileStore::at(rt, alloc, path, RECORD_LIMIT)?;
     match store.save(alloc, bytes) {
         Ok(()) => Ok(()),
         Err(fault) => Err(error_of_store(fault)),
     }
-}
-
-/// `ill shelf retire`: replaces the desk of `group` by the mark of the group, if all its loans are over. Meanwhile no
-/// mail is sorted. Returns true if the group is retired, and false if a loan is not over.
-pub fn retire<T: LockFiles, W: Write, E: Write>(
-    machine: &mut Machine<'_, T, W, E>,
-    folder: &str,
-    group: &str,
-) -> Result<bool, ToolFault>
-    ensures { RetiresAtFile (W.contents machine.old.writer) (W.contents machine.new.writer) result }
-{
-    let shelf = Shelf::open(machine.rt, machine.alloc, folder)?;
-    let own = shelf.own_desk(machine.alloc)?;
-    let sorting = lock(machine.rt, machine.alloc, own.as_str())?;
-    let file = shelf.desk_of(machine.alloc, group.as_bytes())?;
-    let held = lock(machine.rt, machine.alloc, file.as_str())?;
-    let is_marked = mark_and_clear(machine.rt, machine.alloc, file.as_str())?;
-    let told = write_whole(&mut machine.writer, retired_line(is_marked));
-    drop(held);
-    drop(sorting);
-    tell_with(is_marked, told)
-}
-
-/// Returns the line of the command: `done` if the group is retired, `not-now` if a loan is not over.
-fn retired_line(is_retired: bool) -> &'static [u8]
-    ensures { result.now ≡ retired_line is_retired }
-{
-    if is_retired { b"done\n" } else { b"not-now\n" }
-}
-
-/// Returns `is_well`, the answer of a command, if its line was written. Else it returns the fault of the writing.
-fn tell_with(is_well: bool, told: Result<(), ToolFault>) -> Result<bool, ToolFault>
-    ensures { result ≡ told_with is_well told }
-{
-    match told {
-        Ok(()) => Ok(is_well),
-        Err(fault) => Err(fault),
-    }
-}
-
-/// If all loans of the desk in `file` are over, marks its group as retired, and then removes the desk. It returns true
-/// if the group is marked.
-fn mark_and_clear<T: Files>(rt: &T, alloc: Global, file: &str) -> Result<bool, ToolFault>
-    ensures { IfErr result IsOpenFault }
-{
-    let is_marked = mark_retired(rt, alloc, file)?;
-    if is_marked {
-        clear(rt, alloc, file)?;
-    }
-    Ok(is_marked)
-}
-
-/// Marks the group of the desk in `file` as retired, if all loans of the desk are over. Returns true if the group is
-/// marked, now or before.
-fn mark_retired<T: Files>(rt: &T, alloc: Global, file: &str) -> Result<bool, ToolFault>
-    ensures { IfErr result IsOpenFault }
-{
-    if is_retired(rt, alloc, file)? {
-        return Ok(true);
-    }
-    let desk = open(rt, alloc, file)?;
-    let path = retired_path(alloc, file)?;
-    let mut mark = FileStore::at(rt, alloc, path.as_str(), RECORD_LIMIT)?;
-    retire_desk(alloc, &desk, &mut mark)
-}
-
-/// Marks the group of `desk` as retired in the store `mark`, as `run_desk_retire` does. Returns false if a loan is not
-/// over.
-#[tactic(auto, using(crate::proofs::ShelfLemmas::retire_faults))]
-fn retire_desk<S: Store, C: Store>(
-    alloc: Global,
-    desk: &Desk<S>,
-    mark: &mut C,
-) -> Result<bool, ToolFault>
-    ensures { IfErr result IsOpenFault }
-{
-    run_desk_retire(alloc, desk, mark)
-}
-
-/// Removes the file of a desk and the files beside it, and makes that durable. Mails that were put aside stay in their
-/// folder.
-fn clear<T: Files>(rt: &T, alloc: Global, file: &str) -> io::Result<()> {
-    for ending in KEPT {
-        let kept = format!(in alloc; "{file}{ending}")?;
-        remove_if_there(rt, kept.as_str())?;
-    }
-    let mail = format!(in alloc; "{file}{MAIL}")?;
-    clear_mail(rt, alloc, mail.as_str())?;
-    remove_if_there(rt, file)?;
-    save_mark(rt, alloc, file, load_mark(rt, alloc, file)?)
-}
-
-/// Removes the mails that were claimed for a desk, the messages that ask, and their folder. If mails were put aside,
-/// the folder stays, and an empty file of the messages that ask is made durable.
-fn clear_mail<T: Files>(rt: &T, alloc: Global, mail: &str) -> io::Result<()> {
-    let claimed = format!(in alloc; "{mail}/in")?;
-    let asked = format!(in alloc; "{mail}/asked")?;
-    let aside = format!(in alloc; "{mail}/aside")?;
-    if is_there(rt, claimed.as_str())? {
-        clear_claimed(rt, alloc, claimed.as_str())?;
-        let _ = fs::remove_dir(rt, claimed.as_str());
-    }
-    if is_there(rt, aside.as_str())? {
-        return save_file(rt, alloc, asked.as_str(), b"");
-    }
-    remove_if_there(rt, asked.as_str())?;
-    let _ = fs::remove_dir(rt, mail);
-    Ok(())
-}
-
-/// Removes the mails that were claimed for a desk.
-fn clear_claimed<T: Files>(rt: &T, alloc: Global, claimed: &str) -> io::Result<()> {
-    for run in names_in(rt, alloc, claimed)? {
-        let Some(run) = path_of(alloc, claimed, &run)? else {
-            continue;
-        };
-        clear_run(rt, alloc, run.as_str())?;
-        let _ = fs::remove_dir(rt, run.as_str());
-    }
-    Ok(())
-}
-
-/// Removes the mails that a run has claimed.
-fn clear_run<T: Files>(rt: &T, alloc: Global, run: &str) -> io::Result<()> {
-    for name in names_in(rt, alloc, run)? {
-        if let Some(path) = path_of(alloc, run, &name)? {
-            remove_if_there(rt, path.as_str())?;
-        }
-    }
-    Ok(())
 }

@@ -30,7 +30,8 @@ use Rattle.ill_mail.specs.Keyed.{WithKey}
 use Rattle.ill_mail.specs.Nights.{InboxAtFile, OutboxAtFile, ExchangesAtFile}
 use Rattle.ill_line.specs.Guard.{IsGuarded}
 use Rattle.ill_shelf.specs.Home.{ActsAtHome, BeginsShelf, LoanAtHome, NotesAtHome, SendsAtHome, SlipAtHome}
-use Rattle.ill_shelf.specs.Shelf.{Headed, RetiresAtFile, TakesAtShelf, VisitsShelf, VisitsWith, is_lines}
+use Rattle.ill_shelf.specs.Retiring.{RetiresAtHome}
+use Rattle.ill_shelf.specs.Shelf.{Headed, TakesAtShelf, VisitsShelf, VisitsWith, is_lines}
 
 -- A command read nothing. `Does` holds for its output before the command, its output after the command, and its result.
 abbrev pub ReadsNothing : (Does : Option (List ℕ) → Option (List ℕ) → Result Bool ToolFault → Type 0) → Streams →
@@ -94,7 +95,11 @@ abbrev pub RunsShelf : {S : Type 0} → (state : S → StoreState) → Asked →
 RunsShelf state (asks.New folder role) old result new =
     ReadsNothing (BeginsShelf (shelf_of state folder) role) old result new
 RunsShelf state (asks.Act folder asking by is_long is_new_group) old result new =
-    ReadsNothing (ActsAtHome (shelf_of state folder) asking is_long) old result new
+    ReadsNothing (ActsAtHome (shelf_of state folder) (record {
+      asking = asking;
+      is_long = is_long;
+      is_new_group = is_new_group;
+    })) old result new
 RunsShelf state (asks.Take folder form stamp key) old result new =
     TakesWith key (TakesAtShelf (shelf_of state folder) form) old result new
 RunsShelf state (asks.Send folder txn number key) old result new =
@@ -115,7 +120,8 @@ RunsShelf state (asks.Outbox folder outgoing key) old result new =
 RunsShelf state (asks.Exchange folder incoming outgoing form dates stamp copy beat key) old result new =
     let night = ExchangesAtFile (record { form = form; dates = dates }) in
     ReadsNothing (VisitsWith key folder (Headed state (is_lines form) night)) old result new
-RunsShelf state (asks.Retire folder group) old result new = ReadsNothing RetiresAtFile old result new
+RunsShelf state (asks.Retire folder group) old result new =
+    ReadsNothing (RetiresAtHome (shelf_of state folder) group) old result new
 RunsShelf state other old result new = IsRefused old result new
 
 -- The command of a call has this result: for one desk behind the guard, on a shelf, or for the command line itself. The

@@ -31,9 +31,10 @@ use ill_place::place::{DeskFiles, DeskPlace, HostFiles, ShelfPlace};
 use ill_saved::LockFiles;
 use ill_shelf::keyed::{exchange_of_shelf_with, inbox_of_shelf_with, outbox_of_shelf_with};
 use ill_shelf::on_shelf::{
-    act_on_shelf, loan_on_shelf, new_shelf, note_on_shelf, retire, send_on_shelf_with,
-    slip_on_shelf, status_of_shelf,
+    act_on_shelf, loan_on_shelf, new_shelf, note_on_shelf, send_on_shelf_with, slip_on_shelf,
+    status_of_shelf,
 };
+use ill_shelf::retiring::retire;
 use ill_shelf::take_home::take_on_shelf_with;
 use ill_show::loan::LoanView;
 use ill_text::check::run_check;
@@ -559,7 +560,14 @@ fn run_on_shelf<T: LockFiles, D: DeskFiles, R: Read, W: Write, E: Write>(
                 night,
             )
         }
-        Request::Retire { file, group } => retire(machine, file, group),
+        Request::Retire { file, group } => retire(
+            machine,
+            &ShelfPlace {
+                files,
+                folder: file,
+            },
+            group,
+        ),
         _ => Err(ToolFault::Arguments),
     }
 }

@@ -3,6 +3,7 @@
 use Rattle.ill_commands.specs.Streams.{streams_of}
 use Rattle.std.specs.Prelude.{Some}
 use Rattle.ill_der.specs.ShortForm.{encoding}
+use Rattle.ill_shelf.proofs.AwayLemmas.{none_acts, none_stays}
 use Rattle.ill_shelf.proofs.laws.no_command_ends_well_away_from_its_group.Goals as goal
 
 -- Proves the clause `slips`. The slip is one at the place of the group's desk, where none was loaded.
@@ -27,3 +28,13 @@ pub returns-clause-takes : goal.returns-clause-takes
 returns-clause-takes g c = λ apdu old new nowhere taken.
     c.no_command_ends_well_at_another_desk.ensures.takes taken.0 old.form taken.2
     (streams_of (Some (encoding apdu)) old.written) (streams_of taken.3 new.written) (nowhere taken.0 taken.1) taken.4
+
+-- Proves the clause `acts`. Without a new group the action is one at the place of the group's desk, where none was loaded.
+pub returns-clause-acts : goal.returns-clause-acts
+returns-clause-acts g c = λ folder asking is_long is_well before after nowhere acted.
+    none_acts g.S.Store.state folder asking is_long is_well before after nowhere acted
+
+-- Proves the clause `retires`. A group has an open loan only by a desk that was loaded from its path.
+pub returns-clause-retires : goal.returns-clause-retires
+returns-clause-retires g c = λ folder group before after nowhere retired.
+    none_stays g.S.Store.state folder group before after nowhere retired

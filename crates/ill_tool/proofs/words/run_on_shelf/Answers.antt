@@ -28,12 +28,16 @@ returns-in-Act g c =
     let act = c.in-Act in
     let shelf = shelf_of g.D.DeskStore.Store.state act.file.now in
     let acted = subst (λ (words : List (Bor (List ℕ))). ActsAtHome shelf (record {
-      txn = act.txn;
-      today = act.today;
-      words = map (λ word. word.now) words;
-      seen = option_map (λ text. text.now) act.seen;
-      is_trial = act.is_trial;
-    }) act.is_long before after c.act_on_shelf.result) c.deref.ensures.value c.act_on_shelf.ensures in
+      asking = record {
+        txn = act.txn;
+        today = act.today;
+        words = map (λ word. word.now) words;
+        seen = option_map (λ text. text.now) act.seen;
+        is_trial = act.is_trial;
+      };
+      is_long = act.is_long;
+      is_new_group = act.is_new_group;
+    }) before after c.act_on_shelf.result) c.deref.ensures.value c.act_on_shelf.ensures in
     subst (λ (request : Request). RunsShelf g.D.DeskStore.Store.state (asked request) (streams_of left before)
     c.act_on_shelf.result (streams_of left after)) (sym act.is) (refl, acted)
 
@@ -115,6 +119,16 @@ returns-in-Slip g c =
     let new = streams_of left (g.W.Write.contents c.slip_on_shelf.new.machine.writer) in
     subst (λ (request : Request). RunsShelf g.D.DeskStore.Store.state (asked request) old c.slip_on_shelf.result new)
     (sym c.in-Slip.is) (refl, c.slip_on_shelf.ensures)
+
+-- Proves the contract of `run_on_shelf` for the request `Retire`. It is the contract of `retire`, which reads no
+-- input.
+pub returns-in-Retire : goal.returns-in-Retire
+returns-in-Retire g c =
+    let left = g.R.Read.remaining c.args.reader.now in
+    let old = streams_of left (g.W.Write.contents c.args.machine.now.writer) in
+    let new = streams_of left (g.W.Write.contents c.retire.new.machine.writer) in
+    subst (λ (request : Request). RunsShelf g.D.DeskStore.Store.state (asked request) old c.retire.result new)
+    (sym c.in-Retire.is) (refl, c.retire.ensures)
 
 -- Proves the contract of `run_on_shelf` for the request `Take`. It is the contract of `take_on_shelf_with`, in the form that
 -- `take_view` passes.

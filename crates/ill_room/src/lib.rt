@@ -7,7 +7,5 @@ pub mod laws;
 pub mod letters;
 pub mod memory_room;
 pub mod room;
-#[cfg(test)]
-mod runs;
 pub mod sealed;
 pub mod settle;

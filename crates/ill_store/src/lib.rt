@@ -1,13 +1,9 @@
 //! Stores of one record: in memory, on a disk that may lose its power, and in a file.
 #![tactic(auto)]
 
-#[cfg(test)]
-mod crashes;
 mod disk_store;
 mod file_store;
 mod fuse_store;
-#[cfg(test)]
-mod host;
 mod lasting;
 pub mod laws;
 mod memory_store;

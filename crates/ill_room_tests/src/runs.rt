@@ -1,9 +1,9 @@
 //! Tests of runs in a room in memory, also of those whose calls fail from one on.
 
-use crate::memory_room::MemoryRoom;
-use crate::room::{Place, Room};
-use crate::settle::{Judged, end_run};
 use ill_night::verdict::{Delay, Unfit, Verdict};
+use ill_room::memory_room::MemoryRoom;
+use ill_room::room::{Place, Room};
+use ill_room::settle::{Judged, end_run};
 use ill_text::fault::STORE_FAILED;
 use ill_words::{DeskOutcome, Outcome};
 use std::alloc::Global;

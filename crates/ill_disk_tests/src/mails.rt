@@ -1,8 +1,8 @@
 //! Tests of what each crash leaves of a mail, at each moment of a call on it.
 
-use crate::MemoryMailDisk;
 use ill_disk::{Disk, DiskFault};
 use ill_mail_disk::{Keeper, MailDisk, MailRun, Paths};
+use ill_mail_disk_kit::MemoryMailDisk;
 use std::alloc::Global;
 use std::test::Fail;
 
@@ -72,6 +72,11 @@ fn run_on(alloc: Global, disk: MemoryMailDisk) -> Result<MailRun<MemoryMailDisk>
     let mut run = empty_run(alloc, disk)?;
     run.add(alloc, PATHS)?;
     Ok(run)
+}
+
+/// Returns a run over the claimed mail on a disk that fails after `calls` calls of it.
+fn run_cut_after(alloc: Global, calls: u32) -> Result<MailRun<MemoryMailDisk>, DiskFault> {
+    run_on(alloc, disk_with_claim(alloc, calls.saturating_add(1))?)
 }
 
 /// Performs `call` on the one mail of `run`, and returns true if the call is done.
@@ -176,35 +181,50 @@ fn answer_now(alloc: Global, disk: &MemoryMailDisk, question: Question) -> Resul
 
 /// Returns true if the answer is true after each crash, when the first `calls` calls of the disk in `call` have passed.
 fn is_so_at(alloc: Global, call: Call, calls: u32, question: Question) -> Result<bool, DiskFault> {
-    let mut run = run_on(alloc, disk_with_claim(alloc, calls.saturating_add(1))?)?;
+    let mut run = run_cut_after(alloc, calls)?;
     let _ = is_done(&mut run, call);
     is_so_after_each(alloc, run.disk(), question)
+}
+
+/// Performs `call`, and returns true if it is done and the answer is then true of the disk.
+fn is_so_after(
+    alloc: Global,
+    run: &mut MailRun<MemoryMailDisk>,
+    call: Call,
+    question: Question,
+) -> Result<bool, DiskFault> {
+    Ok(is_done(run, call) && answer_now(alloc, run.disk(), question)?)
 }
 
 /// Returns true if `call` is done on a disk none of whose calls fails, and the answer is true of the disk afterwards.
 fn is_so_when_done(alloc: Global, call: Call, question: Question) -> Result<bool, DiskFault> {
     let mut run = run_on(alloc, disk_with_claim(alloc, MOST)?)?;
-    Ok(is_done(&mut run, call) && answer_now(alloc, run.disk(), question)?)
+    is_so_after(alloc, &mut run, call, question)
 }
 
 /// Returns true if a run gives the mail back on the disk that a crash leaves with the list of names `which`. The mail
 /// then waits or stands aside.
 fn settles_next(alloc: Global, disk: &MemoryMailDisk, which: usize) -> Result<bool, DiskFault> {
     let mut run = run_on(alloc, disk.after_crash(which, MANY)?)?;
-    Ok(is_done(&mut run, Call::GiveBack) && answer_now(alloc, run.disk(), Question::IsSettled)?)
+    is_so_after(alloc, &mut run, Call::GiveBack, Question::IsSettled)
+}
+
+/// Returns true if a run after each crash of this disk settles the mail.
+fn settles_each(alloc: Global, disk: &MemoryMailDisk) -> Result<bool, DiskFault> {
+    for which in 0..disk.count_lists() {
+        if !settles_next(alloc, disk, which)? {
+            return Ok(false);
+        }
+    }
+    Ok(true)
 }
 
 /// Returns true if a run after each crash settles the mail, when the first `calls` calls of the disk in `call` have
 /// passed.
 fn settles_after(alloc: Global, call: Call, calls: u32) -> Result<bool, DiskFault> {
-    let mut run = run_on(alloc, disk_with_claim(alloc, calls.saturating_add(1))?)?;
+    let mut run = run_cut_after(alloc, calls)?;
     let _ = is_done(&mut run, call);
-    for which in 0..run.disk().count_lists() {
-        if !settles_next(alloc, run.disk(), which)? {
-            return Ok(false);
-        }
-    }
-    Ok(true)
+    settles_each(alloc, run.disk())
 }
 
 /// Gives the claimed mail back, but does not flush its waiting name before its claimed one is removed.
@@ -221,12 +241,17 @@ fn is_left_unflushed(alloc: Global) -> Result<bool, DiskFault> {
     is_so_after_each(alloc, &disk, Question::HasMail)
 }
 
-/// Returns true if a mail stays claimed when another mail has come under its name.
-fn stays_beside_another(alloc: Global) -> Result<bool, DiskFault> {
+/// Returns a disk on which the mail was claimed, and another mail has come under its name.
+fn disk_with_another(alloc: Global) -> Result<MemoryMailDisk, DiskFault> {
     let mut disk = disk_with_claim(alloc, MANY)?;
     disk.create_new(PATHS.waiting, b"other")?;
-    let mut run = run_on(alloc, disk)?;
-    Ok(is_done(&mut run, Call::GiveBack) && answer_now(alloc, run.disk(), Question::IsClaimed)?)
+    Ok(disk)
+}
+
+/// Returns true if a mail stays claimed when another mail has come under its name.
+fn stays_beside_another(alloc: Global) -> Result<bool, DiskFault> {
+    let mut run = run_on(alloc, disk_with_another(alloc)?)?;
+    is_so_after(alloc, &mut run, Call::GiveBack, Question::IsClaimed)
 }
 
 #[test]

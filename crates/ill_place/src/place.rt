@@ -1,11 +1,13 @@
 //! The place of a desk: the path of its file, and the files in which desks are kept.
 
-ghost use Rattle.std.specs.Prelude.{◌≡◌, ℕ, List, IfOk, IfErr};
+ghost use Rattle.std.specs.Prelude.{◌≡◌, ℕ, List, None, IfOk, IfErr, IsErrOf};
 ghost use Rattle.ill_saved.specs.Desk.{DeskOf};
 ghost use Rattle.ill_saved.specs.ManySides.{DeskContents};
 ghost use Rattle.ill_place.specs.BadPlaces.{IsElsewhere};
 ghost use Rattle.ill_place.specs.Place.{IsAt, OpensAs, StartsAt, place_of};
+ghost use Rattle.ill_saved.specs.declared.fault.DeskFault.TheVariants.{NoRecord};
 ghost use Rattle.ill_text.specs.Fault.{IsOpenFault};
+ghost use Rattle.ill_text.specs.declared.fault.ToolFault.TheVariants.{Desk};
 
 use ill_saved::{Desk, DeskFault, FileLock, FileStore, LockFiles, RECORD_LIMIT, Role, Store};
 use ill_text::fault::ToolFault;
@@ -138,6 +140,7 @@ impl<D: DeskFiles> DeskPlace<'_, D> {
     ) -> Result<LockedAt<D>, ToolFault>
         ensures opens { IfOk result (λ locked. OpensAs role (place_of D.DeskStore.state self.now.path.now) locked.desk) }
         ensures faults { IfErr result IsOpenFault }
+        ensures missing { IsErrOf result (Desk NoRecord) → role ≡ None }
     {
         let desk = start_or_begin(alloc, self.store(alloc)?, role)?;
         Ok(LockedAt { desk, lock })
@@ -168,6 +171,7 @@ fn start_or_begin<S: Store + Drop>(
     ensures opens { (path : List ℕ) → IsAt (place_of S.state path) store
         → IfOk result (OpensAs role (place_of S.state path)) }
     ensures faults { IfErr result IsOpenFault }
+    ensures missing { IsErrOf result (Desk NoRecord) → role ≡ None }
 {
     match Desk::start(alloc, store) {
         Ok(desk) => Ok(desk),
@@ -182,6 +186,7 @@ fn begin<S: Store + Drop>(alloc: Global, store: S, role: Option<Role>) -> Result
     ensures begins { (path : List ℕ) → IsAt (place_of S.state path) store
         → IfOk result (OpensAs role (place_of S.state path)) }
     ensures faults { IfErr result IsOpenFault }
+    ensures missing { IsErrOf result (Desk NoRecord) → role ≡ None }
 {
     let Some(role) = role else {
         return Err(ToolFault::Desk(DeskFault::NoRecord));

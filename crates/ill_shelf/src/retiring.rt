@@ -113,7 +113,8 @@ fn has_record<S: Store>(alloc: Global, store: &mut S) -> Result<bool, ToolFault>
     }
 }
 
-/// Marks the desk at `place` as retired in `mark`, the store of its mark, as `run_desk_retire` does. Returns false if a loan is not over.
+/// Marks the desk at `place` as retired in `mark`, the store of its mark, as `run_desk_retire` does. Returns false if a
+/// loan is not over.
 fn mark_desk<D: DeskFiles>(
     alloc: Global,
     place: &DeskPlace<'_, D>,

@@ -74,7 +74,7 @@ fn run_on(alloc: Global, disk: MemoryMailDisk) -> Result<MailRun<MemoryMailDisk>
     Ok(run)
 }
 
-/// Returns a run over the claimed mail on a disk that fails after `calls` calls of it.
+/// Returns a run over the claimed mail, on a disk that passes `calls` more calls.
 fn run_cut_after(alloc: Global, calls: u32) -> Result<MailRun<MemoryMailDisk>, DiskFault> {
     run_on(alloc, disk_with_claim(alloc, calls.saturating_add(1))?)
 }
@@ -187,7 +187,7 @@ fn is_so_at(alloc: Global, call: Call, calls: u32, question: Question) -> Result
 }
 
 /// Performs `call`, and returns true if it is done and the answer is then true of the disk.
-fn is_so_after(
+fn is_so_after_call(
     alloc: Global,
     run: &mut MailRun<MemoryMailDisk>,
     call: Call,
@@ -199,14 +199,14 @@ fn is_so_after(
 /// Returns true if `call` is done on a disk none of whose calls fails, and the answer is true of the disk afterwards.
 fn is_so_when_done(alloc: Global, call: Call, question: Question) -> Result<bool, DiskFault> {
     let mut run = run_on(alloc, disk_with_claim(alloc, MOST)?)?;
-    is_so_after(alloc, &mut run, call, question)
+    is_so_after_call(alloc, &mut run, call, question)
 }
 
 /// Returns true if a run gives the mail back on the disk that a crash leaves with the list of names `which`. The mail
 /// then waits or stands aside.
 fn settles_next(alloc: Global, disk: &MemoryMailDisk, which: usize) -> Result<bool, DiskFault> {
     let mut run = run_on(alloc, disk.after_crash(which, MANY)?)?;
-    is_so_after(alloc, &mut run, Call::GiveBack, Question::IsSettled)
+    is_so_after_call(alloc, &mut run, Call::GiveBack, Question::IsSettled)
 }
 
 /// Returns true if a run after each crash of this disk settles the mail.
@@ -251,7 +251,7 @@ fn disk_with_another(alloc: Global) -> Result<MemoryMailDisk, DiskFault> {
 /// Returns true if a mail stays claimed when another mail has come under its name.
 fn stays_beside_another(alloc: Global) -> Result<bool, DiskFault> {
     let mut run = run_on(alloc, disk_with_another(alloc)?)?;
-    is_so_after(alloc, &mut run, Call::GiveBack, Question::IsClaimed)
+    is_so_after_call(alloc, &mut run, Call::GiveBack, Question::IsClaimed)
 }
 
 #[test]
@@ -303,7 +303,7 @@ fn a_call_is_done_if_all_calls_of_the_disk_pass(rt: HostRuntime) -> Result<(), F
         "kept"
     );
     assert!(rt;
-        !is_so_when_done(rt.alloc(), Call::Remove, Question::HasMail)?,
+        is_so_when_done(rt.alloc(), Call::Remove, Question::IsGone)?,
         "removed"
     );
     Ok(())

@@ -54,8 +54,8 @@ fn leaves_one_or_two(alloc: Global, disk: &MemoryDisk) -> Result<bool, Fail> {
     Ok(true)
 }
 
-/// Saves `two`, but does not flush the names.
-fn save_but_names(disk: &mut MemoryDisk) -> Result<(), DiskFault> {
+/// Performs a save of `two` that ends before the flush of the names.
+fn cut_save(disk: &mut MemoryDisk) -> Result<(), DiskFault> {
     disk.create_new(ASIDE, b"two")?;
     disk.flush(ASIDE)?;
     disk.rename(ASIDE, RECORD)
@@ -111,7 +111,7 @@ fn a_record_that_was_saved_outlasts_each_crash(rt: HostRuntime) -> Result<(), Fa
 #[test]
 fn a_save_that_is_cut_leaves_one_record_whole(rt: HostRuntime) -> Result<(), Fail> {
     let mut disk = disk_with(rt.alloc(), b"one")?;
-    save_but_names(&mut disk)?;
+    cut_save(&mut disk)?;
     assert!(rt; disk.count_lists() == 4, "four lists");
     for which in 0..4 {
         let wanted: &[u8] = if which < 2 { b"one" } else { b"two" };

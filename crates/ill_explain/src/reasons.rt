@@ -9,7 +9,7 @@ use crate::shelf::tell_shelf_fault;
 use clap::ArgMatches;
 use ill_files::machine::Machine;
 use ill_line::command_line::{Argument, Name, SHELF};
-use ill_line::grammar::command;
+use ill_line::grammar::{NoTexts, command};
 use ill_line::request::DASHES;
 use ill_saved::LockFiles;
 use ill_text::fault::ToolFault;
@@ -80,7 +80,10 @@ fn tell<T: LockFiles>(
     passed: Option<Passed>,
 ) -> Option<()> {
     let alloc = *text.allocator();
-    let matches = command(alloc).ok()?.try_get_matches_from(words).ok()?;
+    let matches = command(alloc, &NoTexts)
+        .ok()?
+        .try_get_matches_from(words)
+        .ok()?;
     let (first, found) = matches.subcommand()?;
     let is_on_shelf = first == SHELF;
     let (word, matches) = if is_on_shelf {

@@ -4,12 +4,11 @@ ghost use Rattle.std.specs.Prelude.{◌≡◌, bytes_eq};
 ghost use Rattle.std.specs.List.{list_any};
 ghost use Rattle.ill_line.specs.CommandLine.{word_of, name_read, id_of, is_option, name_in};
 
-use crate::help;
 use crate::shape::Shape;
 use clap::Arg;
 use std::alloc::Global;
 
-/// A command of `ill`. `word` returns its word, and `about` the line of its purpose.
+/// A command of `ill`. `word` returns its word.
 #[derive(Clone, Copy)]
 pub enum Name {
     New,
@@ -36,15 +35,12 @@ pub enum Name {
     SimulateDesks,
 }
 
-/// The line of the purpose of `ill`.
-pub(crate) const ABOUT: &str = "Interlibrary loan by store-and-forward messages";
-
 /// The word before the commands on a shelf.
 pub const SHELF: &str = "shelf";
 
 /// All commands, in the order of the help. First come the commands for staff, then the commands for the exchange with
 /// other libraries. The last are for looking inside, and one is for shelves alone. `clap` has these and no others.
-pub(crate) const NAMES: [Name; 22] = [
+pub const NAMES: [Name; 22] = [
     Name::New,
     Name::Act,
     Name::List,
@@ -70,7 +66,7 @@ pub(crate) const NAMES: [Name; 22] = [
 ];
 
 /// The commands on a shelf, in the order of the help.
-pub(crate) const SHELF_NAMES: [Name; 12] = [
+pub const SHELF_NAMES: [Name; 12] = [
     Name::New,
     Name::Act,
     Name::Loan,
@@ -113,90 +109,6 @@ impl Name {
             Name::Check => "check",
             Name::Simulate => "simulate",
             Name::SimulateDesks => "simulate-desks",
-        }
-    }
-
-    /// Returns the line of its purpose.
-    pub(crate) fn about<'a>(self) -> &'a str {
-        match self {
-            Name::New => "Begin a desk of one role, in a file",
-            Name::Act => "Perform one action in a loan, and save it",
-            Name::Take => "Take the APDUs on standard input, and save what they change",
-            Name::Inbox => "Take the mails of a folder, and save what they change once",
-            Name::Outbox => "Put the messages that want sending into a folder of mails",
-            Name::Exchange => "Take the mails of a folder, and send into another",
-            Name::Key => "Make, show or read a key, which two libraries hold",
-            Name::Send => "Write the bytes of one message of a loan",
-            Name::List => "List the loans of desks by the work of the day",
-            Name::News => "Show what came to desks, in the order in which it came",
-            Name::Figures => "Count the loans of desks that were asked in a span of days",
-            Name::Status => "Show how each loan in a file stands",
-            Name::Loan => "Show all of one loan: request, messages, what may be done",
-            Name::Note => "Keep a note on one loan, for staff alone",
-            Name::Slip => "Write a slip of one loan, to print and to lay in its item",
-            Name::Report => "Write a page for a browser of the loans of desks",
-            Name::Retire => "Replace a desk whose loans are over by a mark of its group",
-            Name::Verify => "Read a desk, and show what it has or what is wrong with it",
-            Name::Show => "Show each APDU on standard input",
-            Name::Check => "Check the APDUs on standard input and count them",
-            Name::Simulate => "Perform a script of both sides of a loan, from standard input",
-            Name::SimulateDesks => "Perform a script of two desks, from standard input",
-        }
-    }
-
-    /// Returns the text of its help.
-    pub(crate) fn help<'a>(self) -> &'a str {
-        match self {
-            Name::New => help::NEW,
-            Name::Act => help::ACT,
-            Name::Take => help::TAKE,
-            Name::Inbox => help::INBOX,
-            Name::Outbox => help::OUTBOX,
-            Name::Exchange => help::EXCHANGE,
-            Name::Key => help::KEY,
-            Name::Send => help::SEND,
-            Name::List => help::LIST,
-            Name::News => help::NEWS,
-            Name::Figures => help::FIGURES,
-            Name::Status => help::STATUS,
-            Name::Loan => help::LOAN,
-            Name::Note => help::NOTE,
-            Name::Slip => help::SLIP,
-            Name::Report => help::REPORT,
-            Name::Retire => help::RETIRE,
-            Name::Verify => help::VERIFY,
-            Name::Show => help::SHOW,
-            Name::Check => help::CHECK,
-            Name::Simulate => help::SIMULATE,
-            Name::SimulateDesks => help::SIMULATE_DESKS,
-        }
-    }
-
-    /// Returns the example below its help.
-    pub(crate) fn example<'a>(self) -> &'a str {
-        match self {
-            Name::New => help::NEW_EXAMPLE,
-            Name::Act => help::ACT_EXAMPLE,
-            Name::Take => help::TAKE_EXAMPLE,
-            Name::Inbox => help::INBOX_EXAMPLE,
-            Name::Outbox => help::OUTBOX_EXAMPLE,
-            Name::Exchange => help::EXCHANGE_EXAMPLE,
-            Name::Key => help::KEY_EXAMPLE,
-            Name::Send => help::SEND_EXAMPLE,
-            Name::List => help::LIST_EXAMPLE,
-            Name::News => help::NEWS_EXAMPLE,
-            Name::Figures => help::FIGURES_EXAMPLE,
-            Name::Status => help::STATUS_EXAMPLE,
-            Name::Loan => help::LOAN_EXAMPLE,
-            Name::Note => help::NOTE_EXAMPLE,
-            Name::Slip => help::SLIP_EXAMPLE,
-            Name::Report => help::REPORT_EXAMPLE,
-            Name::Retire => help::RETIRE_EXAMPLE,
-            Name::Verify => help::VERIFY_EXAMPLE,
-            Name::Show => help::SHOW_EXAMPLE,
-            Name::Check => help::CHECK_EXAMPLE,
-            Name::Simulate => help::SIMULATE_EXAMPLE,
-            Name::SimulateDesks => help::SIMULATE_DESKS_EXAMPLE,
         }
     }
 
@@ -304,31 +216,8 @@ impl Name {
     }
 
     /// Returns true if the command is only for shelves.
-    pub(crate) fn is_of_shelves(self) -> bool {
+    pub fn is_of_shelves(self) -> bool {
         matches!(self, Name::Retire)
-    }
-
-    /// Returns the line of its purpose on a shelf.
-    pub(crate) fn about_on_shelf<'a>(self) -> &'a str {
-        match self {
-            Name::New => "Begin a shelf of one role, in a folder",
-            Name::Act => "Perform one action in a loan, at the desk of its group",
-            Name::Note => "Keep a note on one loan, beside the desk of its group",
-            Name::Take => "Take the APDUs on standard input, each at the desk of its group",
-            Name::Status => "Show how each loan stands, desk by desk",
-            Name::Inbox => "Take the mails of a folder, each at the desk of its group",
-            Name::Outbox => "Put the messages of all desks that want sending into a folder",
-            Name::Exchange => "Take the mails of a folder, and send into another",
-            other => other.about(),
-        }
-    }
-
-    /// Returns the example below its help on a shelf, if there is one.
-    pub(crate) fn example_on_shelf<'a>(self) -> Option<&'a str> {
-        match self {
-            Name::Retire => Some(help::RETIRE_EXAMPLE),
-            _ => None,
-        }
     }
 
     /// Returns the arguments that it has on a shelf alone.
@@ -336,24 +225,6 @@ impl Name {
         match self {
             Name::Act => &[Argument::NewGroup],
             _ => &[],
-        }
-    }
-
-    /// Returns the text of its help on a shelf.
-    pub(crate) fn help_on_shelf<'a>(self) -> &'a str {
-        match self {
-            Name::New => help::SHELF_NEW,
-            Name::Act => help::SHELF_ACT,
-            Name::Loan => help::SHELF_LOAN,
-            Name::Note => help::SHELF_NOTE,
-            Name::Slip => help::SHELF_SLIP,
-            Name::Status => help::SHELF_STATUS,
-            Name::Take => help::SHELF_TAKE,
-            Name::Send => help::SHELF_SEND,
-            Name::Inbox => help::SHELF_INBOX,
-            Name::Outbox => help::SHELF_OUTBOX,
-            Name::Exchange => help::SHELF_EXCHANGE,
-            other => other.help(),
         }
     }
 
@@ -525,64 +396,8 @@ impl Argument {
         }
     }
 
-    /// Returns its line in the help of a command for one desk.
-    fn help<'a>(self) -> &'a str {
-        match self {
-            Argument::NewFile => "The file of the desk, which must not be there yet",
-            Argument::File => "The file of the desk",
-            Argument::Folder | Argument::OutFolder => "The folder of the mails",
-            Argument::Stream => "Write the messages to standard output",
-            Argument::In => "The folder of the mails that have come",
-            Argument::Out => "The folder of the mails that are to go",
-            Argument::NightDay => "The day of the run, as 20250301",
-            Argument::Overdue => "Issue an Overdue for each loan past its due date",
-            Argument::Expire => "End each request that is past its last day",
-            Argument::Copy => "Copy the desk to this file before anything is sent",
-            Argument::Beat => "Make this file anew when the run has ended",
-            Argument::Role => "requester or responder",
-            Argument::Group => "The group qualifier of the loan",
-            Argument::Transaction => "The transaction qualifier of the loan",
-            Argument::Today => "The day of the action, as 20250301; a responder needs it",
-            Argument::By => "The name of who gives the command, for FILE.diary",
-            Argument::Seen => "Act only if this is what was shown of the loan",
-            Argument::DryRun => "Show what would come, and save nothing",
-            Argument::Title => "Write the item of the loan below the line",
-            Argument::Words => "The words of the action",
-            Argument::NoteWords => "The words of the note; '' removes it",
-            Argument::Number => "The number of the message, 1 to 255",
-            Argument::Long => "Show which message each was, and what it said",
-            Argument::Keep => "Keep each message that is taken, in FILE.came",
-            Argument::Picture => "Draw the messages of the loan, for Mermaid",
-            Argument::Open => "Leave out the loans that are over",
-            Argument::Mine => "List only the loans that want a hand",
-            Argument::Find => "List only the loans with these words in a text",
-            Argument::Actions => "Show the actions that are possible in each loan",
-            Argument::Notes => "Show the note on each loan below it",
-            Argument::SinceWhen => "Show below each loan the day of its last message, by the diary",
-            Argument::Json => "Write objects of JSON, one on a line",
-            Argument::Paths => "The file of a desk, or a folder of them",
-            Argument::OnDay => "The day of the work, as 20250301",
-            Argument::Ahead => "Days within which a due date is soon, or 7",
-            Argument::DueBefore => "List only the loans that are due before this day",
-            Argument::InState => "List only the loans in this state, as SHIPPED",
-            Argument::ReportDay => "The day of the report, as 20250301",
-            Argument::From => "The first day of the span, as 20250301",
-            Argument::To => "The last day of the span, which is in it, too",
-            Argument::Csv => "Write records of CSV, one for each desk",
-            Argument::Since => "Show what came on this day or later, as 20250301",
-            Argument::Last => "Show only the last N messages, 1 to 255",
-            Argument::NewGroup => "Begin the group of the loan, if the shelf has none",
-            Argument::Key => "Open or seal a letter with the key in this file",
-            Argument::NightKey => "Carry all messages in letters sealed with the key in this file",
-            Argument::KeyFile => "The file of the key",
-            Argument::ShowKey => "Write the key in groups, for the other library",
-            Argument::ReadKey => "Read the key in groups on standard input",
-            Argument::Explain => "Say more of what is wrong",
-        }
-    }
-
     /// Returns its shape on the command line.
-    pub(crate) fn shape<'a>(self) -> Shape<'a> {
+    pub fn shape<'a>(self) -> Shape<'a> {
         match self {
             Argument::NewFile
             | Argument::File
@@ -645,28 +460,16 @@ impl Argument {
 
     /// Returns the word that stands for it, or for its value, if it has one. `is_on_shelf` is true of a command on a
     /// shelf.
-    pub(crate) fn value<'a>(self, is_on_shelf: bool) -> Option<&'a str> {
+    pub fn value<'a>(self, is_on_shelf: bool) -> Option<&'a str> {
         match self.value_on_shelf() {
             Some(value) if is_on_shelf => Some(value),
             _ => self.shape().value(self.id()),
         }
     }
 
-    /// Returns its line in the help of a command. `is_on_shelf` is true of a command on a shelf.
-    pub(crate) fn line<'a>(self, is_on_shelf: bool) -> &'a str {
-        match self {
-            Argument::NewFile if is_on_shelf => {
-                "The folder of the shelf, which is made if it is missing"
-            }
-            Argument::File if is_on_shelf => "The folder of the shelf",
-            Argument::Copy if is_on_shelf => "Copy each desk into this folder before it sends",
-            _ => self.help(),
-        }
-    }
-
-    /// Returns the argument for `clap`. `is_on_shelf` is true of a command on a shelf.
+    /// Returns the argument for `clap`, without a text. `is_on_shelf` is true of a command on a shelf.
     pub(crate) fn arg<'a>(self, alloc: Global, is_on_shelf: bool) -> Arg<'a> {
-        let arg = Arg::new(alloc, self.id()).help(self.line(is_on_shelf));
+        let arg = Arg::new(alloc, self.id());
         let arg = match self.value(is_on_shelf) {
             Some(value) => arg.value_name(value),
             None => arg,
@@ -676,7 +479,7 @@ impl Argument {
 }
 
 /// All options of the program, also those that `clap` adds.
-pub(crate) const OPTIONS: [&str; 36] = [
+pub const OPTIONS: [&str; 36] = [
     "--today",
     "--by",
     "--seen",

@@ -13,7 +13,7 @@ ghost use Rattle.ill_text.specs.Diary.{stamped};
 ghost use Rattle.ill_line.specs.Asked.{asks_for_help, dates_and_stamp_of, day_and_name_of, name_in, stamp_if, stamp_of, GivesId, ReadsValue, IsRefusal, asked_by, asked_in, asked_of, text_of, texts_of, role_of, loan_of, group_of, new_file_of, day_in, last_in, state_in, number_of_message, dates_of, outlet_of, is_set, which_of, form_of, wanted_of, wanted_on, ahead_in, due_in, day_or_days, days_on, day_given, span_of, asked, desk_at_stake, end_with_dashes, has_option, note_words_of, said_free, unless_option, deed_by, key_of_outlet};
 
 use crate::command_line::{Argument, Name, SHELF, is_option};
-use crate::grammar::command;
+use crate::grammar::{NoTexts, command};
 use clap::error::ErrorKind;
 use clap::{ArgMatches, Command, Error};
 use ill_beside::notes::{is_note, note_text};
@@ -321,7 +321,7 @@ fn asks_for_help(words: &[&str]) -> bool
 /// Returns the request of the command that `clap` finds in the words of a command line. After the word `shelf` it is a
 /// request to a shelf.
 fn parsed<'a>(alloc: Global, words: &'a [&'a str]) -> Result<Call<'a>, Refusal> {
-    let matches = command(alloc)?.try_get_matches_from(words)?;
+    let matches = command(alloc, &NoTexts)?.try_get_matches_from(words)?;
     match matches.subcommand() {
         Some((word, matches)) if word == SHELF => Ok(Call::Shelf(read(alloc, words, matches)?)),
         _ => Ok(Call::Desk(read(alloc, words, &matches)?)),

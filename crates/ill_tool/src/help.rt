@@ -6,7 +6,7 @@ use crate::exits::exit_status;
 use ill_der::DerFault;
 use ill_files::machine::Machine;
 use ill_files::open::all_well;
-use ill_line::described::{push_command_line, push_object};
+use ill_help::described::{push_command_line, push_object};
 use ill_saved::{DeskFault, LockFiles, RecordFault, StoreFault};
 use ill_text::fault::{BadKey, STORE_FAILED, ToolFault};
 use ill_text::json::Value;

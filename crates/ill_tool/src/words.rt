@@ -21,6 +21,7 @@ use ill_desk::take::TakeForm;
 use ill_explain::{Passed, Watched, explain, is_asked};
 use ill_files::machine::Machine;
 use ill_files::open::all_well;
+use ill_help::help::help_for;
 use ill_key::key::key;
 use ill_line::guard::refuse_desk_of_shelf;
 use ill_line::request::{Call, Refusal, Request, read_words};
@@ -98,7 +99,7 @@ pub fn run_line<T: LockFiles, R: Read, W: Write, E: Write>(
             };
             answer_call(&mut machine, line.words, call, reader)
         }
-        Err(Refusal::Usage(error)) => tell(error, writer, errors),
+        Err(Refusal::Usage(error)) => tell(alloc, line.words, error, writer, errors),
         Err(Refusal::Fault(fault)) => {
             let mut machine = Machine {
                 rt,
@@ -572,9 +573,15 @@ fn run_on_shelf<T: LockFiles, D: DeskFiles, R: Read, W: Write, E: Write>(
     }
 }
 
-/// Writes the text of `clap`, and returns the exit status. Help that was asked for goes to `writer`, and a refusal to
-/// `errors`.
-fn tell<W: Write, E: Write>(error: &Error, writer: &mut W, errors: &mut E) -> u8
+/// Writes the text of `error`, the answer of `clap` to `words`, and returns the exit status. A help goes to `writer`, and a
+/// refusal to `errors`.
+fn tell<W: Write, E: Write>(
+    alloc: Global,
+    words: &[&str],
+    error: &Error,
+    writer: &mut W,
+    errors: &mut E,
+) -> u8
     ensures told { TellsKind (kind_of error.now) (W.contents writer.old) (W.contents writer.new) result }
     ensures most { result ≤ 3 }
 {
@@ -585,11 +592,28 @@ fn tell<W: Write, E: Write>(error: &Error, writer: &mut W, errors: &mut E) -> u8
         let _ = write!(errors, "{error}");
         return BAD;
     }
-    finish(help(error, writer), errors)
+    finish(tell_help(alloc, words, error, writer), errors)
 }
 
-/// Writes the help that was asked for, which is the text of `error`, and flushes it. Returns true.
-fn help<W: Write>(error: &Error, writer: &mut W) -> Result<bool, ToolFault>
+/// Writes the help, or the version, that `words` ask for, and returns true. `error` is the answer of `clap` without the
+/// texts of the help.
+fn tell_help<W: Write>(
+    alloc: Global,
+    words: &[&str],
+    error: &Error,
+    writer: &mut W,
+) -> Result<bool, ToolFault>
+    ensures { (exit_status result ≡ 0) ⊎ (exit_status result ≡ 3) }
+{
+    match help_for(alloc, words) {
+        Some(help) if help.kind() == ErrorKind::OutOfMemory => Err(ToolFault::OutOfMemory),
+        Some(help) => write_text(&help, writer),
+        None => write_text(error, writer),
+    }
+}
+
+/// Writes the text of `error`, and flushes it. Returns true.
+fn write_text<W: Write>(error: &Error, writer: &mut W) -> Result<bool, ToolFault>
     ensures { IsFlushed (Ok true) result }
 {
     write!(writer, "{error}").map_err(|_| ToolFault::Write)?;

@@ -18,7 +18,7 @@ from ill import command_line, repository
 from ill.command_line import Part, about, commands, explained, text_of
 from ill.repository import Unread, read
 
-HELP, MAN = "crates/ill_line/src/help.rt", "man/ill.1"
+HELP, MAN = "crates/ill_help/src/texts.rt", "man/ill.1"
 BEGIN, END = '.\\" words: ', '.\\" end'
 # Words in capitals of the help that stand for others, beside the labels of arguments and values.
 CAPITALS = {"DUE", "EXPIRY", "ITEM", "N", "RESULT", "WISHED"}

@@ -1,8 +1,5 @@
 //! The texts of `--help`, whose lines have at most 80 columns: `clap` breaks none.
 
-/// The version, which `ill --version` writes.
-pub const VERSION: &str = "0.2.0";
-
 /// The text below the commands and options in `ill --help`.
 pub const ILL: &str = "\
 The commands stand in groups:

@@ -169,9 +169,9 @@ no quotes round it: `request none War and Peace`.
 
 A responder's action needs --today. With it, in either role, an action gets a
 line in FILE.diary before it is saved, and `ill loan` shows its day. The line
-has the name of --by, without a space, or `-`. That file decides nothing. If it
-cannot be written, the action is done all the same, and a line on standard error
-says so.
+has the name of --by, without a space, or `-`. No loan depends on that file. If
+it cannot be written, the action is done all the same, and a line on standard
+error says so.
 
 Options stand before the words. Among the words an option of any command is
 `arguments`. After `--`, right before the words, it is a word like the others,
@@ -251,10 +251,9 @@ further fields follow, each on an indented line, as `ill show` prints them:
 
 With --keep each message that is taken is kept in FILE.came, as it came, before
 it is saved in FILE. `ill news` shows all of them in words, `ill show <
-FILE.came` their fields, and `ill loan` those of a loan. That file decides
-nothing: it may be put away. If a message cannot be kept, that is `store
-failed`, and the message is not saved. Then or after a crash it may be kept
-twice.
+FILE.came` their fields, and `ill loan` those of a loan. No loan depends on that
+file: it may be put away. If a message cannot be kept, that is `store failed`,
+and the message is not saved. Then or after a crash it may be kept twice.
 
 With --keep and --today each message that is taken also gets a line in
 FILE.diary, with that day and the name of --by, as an action of `ill act` does.
@@ -271,7 +270,7 @@ With --key the input is one sealed letter of the other library, as its `ill send
 --key` prints it. Its messages are taken in their order. An input that is no
 such letter, was sealed with another key or was changed on its way is
 `not-sealed`, and changes nothing. So is a letter of this library itself. An old
-letter that comes again does no harm: each of its messages is a repeat.
+letter that comes again does no harm: its messages are repeats, or stale.
 
 The exit status is 0 if each was taken, a repeat or stale, and 1 if one was
 anything else. It is 2 if the input has a faulty message or too many, or with
@@ -635,8 +634,8 @@ Show what came to desks, in the order in which it came, a line for each message.
 
 The messages are those that `take` with --keep, `inbox` and `exchange` have kept
 in FILE.came. One is shown only if the record of its loan has it as taken, and
-only once. That file decides nothing: it may be put away, and then there is no
-news. The columns of a line:
+only once. No loan depends on that file: it may be put away, and then there is
+no news. The columns of a line:
   group                  the group qualifier of the loan
   transaction            the transaction qualifier of the loan
   number                 the number of the message, of the other library
@@ -911,9 +910,9 @@ one of them.
 The note is kept in FILE.notes, a line for each: GROUP, TRANSACTION and WORDS.
 The last line of a loan counts. A space of GROUP or TRANSACTION is written by
 its number. So is a character of WORDS on which a terminal or an editor may act,
-as \\u{202e}. That file decides nothing: it may be put away, and then there is no
-note. A part of a line that a crash has left at its end is cut off, and a line
-on standard error says so.
+as \\u{202e}. No loan depends on that file: it may be put away, and then there
+is no note. A part of a line that a crash has left at its end is cut off, and a
+line on standard error says so.
 
 One line, `done`, is printed once the note is on the disk.
 

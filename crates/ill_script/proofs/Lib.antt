@@ -1,3 +1,4 @@
+pub mod BadTraces
 pub mod Scripts
 pub mod Simulations
 pub mod Steps

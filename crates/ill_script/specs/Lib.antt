@@ -1,2 +1,3 @@
+pub mod BadTraces
 pub mod Play
 pub mod Simulating

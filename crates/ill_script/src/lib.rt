@@ -4,6 +4,7 @@
 
 pub mod ahead;
 mod fault;
+pub mod laws;
 pub mod lines;
 pub mod performer;
 pub mod script_line;

@@ -15,7 +15,7 @@ use Rattle.ill_world.specs.Round.{sends_and_delivers, round_of, Performs, AreInS
 use Rattle.ill_world.specs.Night.{AreAtRest, AreInStepOrAtRest}
 use Rattle.ill_world.specs.BadNights.{Restless}
 use Rattle.ill_world.specs.BadRounds.{IsAmiss, no_requester, no_responder, both, cut_round, last_unheard, late_round, two_unheard}
-use Rattle.ill_world.specs.BadTraces.{IsOfNoPrefix}
+use Rattle.ill_script.specs.BadTraces.{IsOfNoPrefix}
 use Rattle.ill_world.proofs.OutOfStep.{none_in_step}
 use Rattle.ill_world.proofs.BadNights.{not_at_rest}
 

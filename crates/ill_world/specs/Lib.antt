@@ -3,7 +3,6 @@ pub mod BadChanges
 pub mod BadDesks
 pub mod BadNights
 pub mod BadRounds
-pub mod BadTraces
 pub mod BadWorlds
 pub mod Changes
 pub mod Copies

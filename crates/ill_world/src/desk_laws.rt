@@ -29,7 +29,7 @@ ghost use Rattle.ill_world.specs.Safety.{Safe};
 ghost use Rattle.ill_world.specs.Agreement.{Agrees, KeepsDates};
 ghost use Rattle.ill_world.specs.BadDesks.{Names, IsNotReached, MissesHeld, MissesNew, ChangesUnreached, Hides, IsMisseen, ArrivesInVainAt};
 ghost use Rattle.ill_world.specs.BadChanges.{ChangesTooMuch};
-ghost use Rattle.ill_world.specs.BadTraces.{Leaves, IsOfNoPrefix, Misreports};
+ghost use Rattle.ill_script.specs.BadTraces.{Leaves, IsOfNoPrefix, Misreports};
 ghost use Rattle.ill_world.specs.Changes.{KeepsSent};
 ghost use Rattle.ill_world.specs.Copies.{puts_back, desk_puts_back, HasAllSent};
 ghost use Rattle.ill_world.specs.DeskChanges.{DeskMayChange, ReachesSide, ProjectsTo};
@@ -227,7 +227,7 @@ pub fn no_bad_desk_trace_is_written()
         IsOfNoPrefix desk_trace_of (desk_script text).events written →
         SimulatesDesks (Some text) (Some left) (Some []) (Some written) (Err OutOfMemory) → ⊥ }
     ensures result { (text left written : List ℕ) (result : Result ℕ SimFault) →
-        Misreports desk_trace_of desk_script desk_script_read text left written result →
+        Misreports desk_trace_of desk_script desk_script_read text (left, written) result →
         SimulatesDesks (Some text) (Some left) (Some []) (Some written) result → ⊥ }
 {}
 

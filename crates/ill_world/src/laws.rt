@@ -33,7 +33,7 @@ ghost use Rattle.ill_world.specs.Simulation.{script, script_read, trace_of, line
 ghost use Rattle.ill_world.specs.Safety.{OfBoth, EndsAlike, WasShipped, WasGranted, Safe, IsSafeRun};
 ghost use Rattle.ill_world.specs.Agreement.{Agrees, IsAgreeingRun, KeepsDates, Arrives};
 ghost use Rattle.ill_world.specs.BadWorlds.{IsUnsafe, Disagrees, TakesBack, ArrivesInVain};
-ghost use Rattle.ill_world.specs.BadTraces.{Leaves, IsOfNoPrefix, Misreports};
+ghost use Rattle.ill_script.specs.BadTraces.{Leaves, IsOfNoPrefix, Misreports};
 ghost use Rattle.ill_world.specs.BadRounds.{IsAmiss, cut_round, last_unheard, late_round, two_unheard};
 ghost use Rattle.ill_world.specs.BadChanges.{ChangesTooMuch, LosesSent, IsUnseen};
 ghost use Rattle.ill_world.specs.Copies.{puts_back, HasAllSent, older_copy_back};
@@ -364,7 +364,7 @@ pub fn no_bad_trace_is_written()
         IsOfNoPrefix (trace_of txn) (script text).events written →
         Simulates txn (Some text) (Some left) (Some []) (Some written) (Err OutOfMemory) → ⊥ }
     ensures result { (txn : Qualifiers) (text left written : List ℕ) (result : Result ℕ SimFault) →
-        Misreports (trace_of txn) script script_read text left written result →
+        Misreports (trace_of txn) script script_read text (left, written) result →
         Simulates txn (Some text) (Some left) (Some []) (Some written) result → ⊥ }
 {}
 

@@ -1,7 +1,8 @@
 """Compares the wrong bodies in strength/ with the sources that they change, and tries none.
 
 Each old text of an edit must stand once in what the edit changes. That is the body of a function, or else a source, and
-then the edit must name the functions that are to be refused. So a source that changes takes its wrong bodies along.
+then the edit must name the functions that are to be refused, and the crate must have them. So a source that changes
+takes its wrong bodies along.
 """
 import os
 
@@ -11,10 +12,9 @@ from ill.strength import contracts
 from ill.strength.edits import BadEdit, changed
 
 
-def edits_of(crate):
-    """Returns the edits of a crate, also those of the gate and its controls."""
+def edits_of(crate, functions):
+    """Returns the edits of a crate, which has these functions, also those of the gate and its controls."""
     folders = [folder for is_gate in (True, False) for folder in contracts.folders_of(crate, is_gate)]
-    functions = contracts.functions_of(full("crates", crate))
     return contracts.edits_of(dict.fromkeys(folders), crate, functions)
 
 
@@ -27,8 +27,8 @@ def text_of(edit, pair, crate):
     return read(path)[it.start:it.end] if it and it.file == pair.file else read(path)
 
 
-def fault_of(edit, crate):
-    """Returns what is wrong with an edit, or None."""
+def fault_of(edit, crate, names):
+    """Returns what is wrong with an edit of a crate, or None. The crate's functions have these names, without their paths."""
     texts = {}
     try:
         for pair in edit.pairs:
@@ -36,7 +36,10 @@ def fault_of(edit, crate):
             texts[pair.file] = changed(text, pair)
     except BadEdit as bad:
         return str(bad)
-    return None if edit.refuses else "it changes no body, and names no function that must be refused"
+    if not edit.refuses:
+        return "it changes no body, and names no function that must be refused"
+    missing = [path for path in edit.refuses if path.rpartition("::")[2] not in names]
+    return f"the crate has no {missing[0]}, which must be refused" if missing else None
 
 
 def faults_of_bodies():
@@ -49,9 +52,11 @@ def compare():
     """Returns the faults that were found, and how much was compared."""
     faults, count = faults_of_bodies(), len(BODIES)
     for crate in libraries():
-        for edit in edits_of(crate):
+        functions = contracts.functions_of(full("crates", crate))
+        names = {path.rpartition("::")[2] for path in functions}
+        for edit in edits_of(crate, functions):
             count += 1
-            fault = fault_of(edit, crate)
+            fault = fault_of(edit, crate, names)
             if fault:
                 faults.append(f"strength: {crate}/{edit.name}: {fault}")
     return faults, f"the {count} wrong bodies that the prover or a script must refuse fit the sources that they change"

@@ -4,7 +4,7 @@ use Rattle.std.proofs.Common.{None, refl}
 use Rattle.ill_world.specs.Desks.{first_desks}
 use Rattle.ill_script.specs.Play.{before_first}
 use Rattle.ill_world.specs.DeskSimulation.{two_desks}
-use Rattle.ill_world.proofs.BadTraces.{none_leaves, some_prefix, none_misreports}
+use Rattle.ill_script.proofs.BadTraces.{none_leaves, some_prefix, none_misreports}
 use Rattle.ill_world.proofs.desk_laws.no_bad_desk_trace_is_written.Goals as goal
 
 pub returns-clause-write : goal.returns-clause-write

@@ -3,7 +3,7 @@ use Rattle.std.proofs.Common.{refl}
 use Rattle.ill_world.specs.World.{first_world}
 use Rattle.ill_script.specs.Play.{before_first}
 use Rattle.ill_world.specs.Simulation.{two_sides}
-use Rattle.ill_world.proofs.BadTraces.{none_leaves, some_prefix, none_misreports}
+use Rattle.ill_script.proofs.BadTraces.{none_leaves, some_prefix, none_misreports}
 use Rattle.ill_world.proofs.laws.no_bad_trace_is_written.Goals as goal
 
 pub returns-clause-write : goal.returns-clause-write

@@ -4,9 +4,9 @@ use Rattle.std.proofs.Common.{ap, ◌∙◌, subst, append_assoc, append-nil, le
 use Rattle.ill_record.specs.Side.{IsPrefix}
 use Rattle.ill_script.specs.declared.fault.SimFault.{SimFault}
 use Rattle.ill_script.specs.declared.fault.SimFault.TheVariants.{Write, OutOfMemory}
-use Rattle.ill_script.specs.Play.{Play, Progress, Streams, reading_on, broken_on, trace_on, Plays}
-use Rattle.ill_world.specs.BadTraces.{Leaves, IsOfNoPrefix, goes_on, differs, Misreports, stops_early, passes_over, miscounts}
-use Rattle.ill_world.specs.BadTraces.{miswrites, misnames, miswrites_before, misreads}
+use Rattle.ill_script.specs.Play.{Play, Progress, reading_on, broken_on, trace_on, Plays}
+use Rattle.ill_script.specs.BadTraces.{Leaves, IsOfNoPrefix, goes_on, differs, Misreports, stops_early, passes_over, miscounts}
+use Rattle.ill_script.specs.BadTraces.{miswrites, misnames, miswrites_before, misreads, before_reading, after_reading}
 
 -- Equal lists have equal first bytes.
 first_same : (a b : ℕ) (xs ys : List ℕ) → a ∷ xs ≡ b ∷ ys → a ≡ b
@@ -41,17 +41,9 @@ some_line bad line is none = let both : ◌≡◌ {A = Option ℕ} (Some line) N
 -- A simulation of `play` begins at `from` with `text` to read. It leaves the bytes `left` of `text`, and writes
 -- `written`.
 module _ {W E C : Type 0} (play : Play W E C) (from : Progress W C) (text left written : List ℕ) where
-  -- Returns the streams before a simulation that reads `text`.
-  abbrev before : Streams
-  before = record { left = Some text; written = Some [] }
-
-  -- Returns the streams after a simulation that has left and written these bytes.
-  abbrev after : Streams
-  after = record { left = Some left; written = Some written }
-
   -- If the writer fails, `Leaves` does not hold of the bytes written and the trace.
   pub none_leaves : Leaves written (trace_on play from (reading_on play from text).events)
-      → Plays play from before (Err Write) after → ⊥
+      → Plays play from (before_reading text) (Err Write) (after_reading left written) → ⊥
   none_leaves leaves (read, trace, consumed, appended, answers) =
       no_prefix written (trace_on play from (reading_on play from text).events) leaves
       (subst (λ t. IsPrefix written (trace_on play from (reading_on play from t).events)) (sym consumed)
@@ -61,7 +53,7 @@ module _ {W E C : Type 0} (play : Play W E C) (from : Progress W C) (text left w
   -- If memory runs out, `IsOfNoPrefix` does not hold of the bytes written: they are the trace of a prefix of the
   -- events.
   pub some_prefix : IsOfNoPrefix (trace_on play from) (reading_on play from text).events written
-      → Plays play from before (Err OutOfMemory) after → ⊥
+      → Plays play from (before_reading text) (Err OutOfMemory) (after_reading left written) → ⊥
   some_prefix none (read, trace, consumed, appended, answers) =
       no_events (trace_on play from) (reading_on play from (read ++ left)).events trace
       (λ prefix more is shown. none prefix more (ap (λ t. (reading_on play from t).events) consumed ∙ is)
@@ -73,8 +65,8 @@ module _ {W E C : Type 0} (play : Play W E C) (from : Progress W C) (text left w
 
   -- `Misreports` does not hold of the result of a play from the first event on.
   pub none_misreports : (result : Result ℕ SimFault) → from.count ≡ 0
-      → Misreports (trace_on play from) (reading_on play from) (broken_on play from) text left written result
-      → Plays play from before result after → ⊥
+      → Misreports (trace_on play from) (reading_on play from) (broken_on play from) text (left, written) result
+      → Plays play from (before_reading text) result (after_reading left written) → ⊥
   none_misreports _ first (stops_early count some) (read, trace, consumed, appended, answers) = some answers.0
   none_misreports _ first (passes_over count line is) (read, trace, consumed, appended, answers) =
       some_line (reading_on play from text).bad line is

@@ -26,6 +26,10 @@ use ill_values::{Apdu, Number, TxnId};
 use std::alloc::Global;
 use std::marker::Model;
 
+/// The Ok of a desk's store. Only this module can make one. So only a desk releases messages, after its store's Ok.
+#[derive(Clone, Copy)]
+pub struct StoreOk(());
+
 /// Sides in memory and in a store. A message may be sent only after it was saved.
 #[derive(Debug, Drop)]
 pub struct AnyDesk<H: Holdings, S: Store> {
@@ -160,7 +164,7 @@ impl<H: Holdings, S: Store> AnyDesk<H, S> {
     {
         let record = self.held.record(alloc)?;
         self.store.save(alloc, H::bytes(&record))?;
-        self.held.release(record);
+        self.held.release(record, StoreOk(()));
         Ok(())
     }
 
@@ -180,7 +184,7 @@ impl<H: Holdings, S: Store> AnyDesk<H, S> {
             LeavesBeforeOr (S.state self.old.store).landed (S.leaves self.old.store) (S.leaves self.new.store) }
     {
         let bytes = self.store.load(alloc)?;
-        self.held.go_back(alloc, bytes)
+        self.held.go_back(alloc, bytes, StoreOk(()))
     }
 
     /// Returns the bytes of message `number` of the side `key`, to send it. The side must be held (otherwise
@@ -359,7 +363,7 @@ fn load<H: Holdings, S: Store>(alloc: Global, store: &mut S) -> Result<Option<H>
         LeavesBeforeOr (S.state store.old).landed (S.leaves store.old) (S.leaves store.new) }
 {
     match store.load(alloc)? {
-        Some(bytes) => Ok(Some(H::read(alloc, bytes)?)),
+        Some(bytes) => Ok(Some(H::read(alloc, bytes, StoreOk(()))?)),
         None => Ok(None),
     }
 }

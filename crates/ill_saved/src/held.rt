@@ -1,9 +1,11 @@
-//! The calls by which a desk changes what it holds. No other crate can name them, so a message leaves a desk alone.
+//! The calls by which a desk changes what it holds. A call that releases messages wants the Ok of a store, which only a
+//! desk can make. So no other code releases a message that was not saved.
 
 ghost use Rattle.std.specs.Prelude.{◌≡◌, List, ℕ, option_map, IfOk, IfErr, OnOk};
 ghost use Rattle.ill_saved.specs.Holdings.{Effects, DeskActs, DeskTakesApdu, SendsHeld, StaysBacked, IsBacked, IsRecordOf, IsReadFault, ReadsRecord, GoesBackToLanded};
 ghost use Rattle.ill_saved.specs.Desk.{AreAllReleased};
 
+use crate::desk::StoreOk;
 use crate::fault::DeskFault;
 use ill_core::Taking;
 use ill_record::Action;
@@ -48,7 +50,7 @@ pub trait Held: Drop {
 
     /// Decodes the sides that `bytes` encode. All their messages may be sent. Fails if the bytes are no record, or if
     /// memory runs out.
-    fn read(alloc: Global, bytes: Vec<u8>) -> Result<Self, DeskFault>
+    fn read(alloc: Global, bytes: Vec<u8>, ok: StoreOk) -> Result<Self, DeskFault>
         ensures reads { ReadsRecord effects bytes.items result }
         ensures whole { IfOk result (λ held. AreAllReleased effects held) }
         ensures backed { IfOk result (λ held. backs held held) }
@@ -80,13 +82,18 @@ pub trait Held: Drop {
         ensures { result.now ≡ encoded made.now };
 
     /// Releases all messages. Their record `landed` has landed.
-    fn release(&mut self, landed: Self::Record)
+    fn release(&mut self, landed: Self::Record, ok: StoreOk)
         requires fits { fits landed self.old }
         ensures { self.new ≡ effects.saves self.old };
 
     /// Goes back to the sides that the landed `bytes` encode, or to those of a new desk if there are no bytes. All
     /// their messages may be sent. A fault changes nothing. Allocates nothing if there are no bytes.
-    fn go_back(&mut self, alloc: Global, bytes: Option<Vec<u8>>) -> Result<(), DeskFault>
+    fn go_back(
+        &mut self,
+        alloc: Global,
+        bytes: Option<Vec<u8>>,
+        ok: StoreOk,
+    ) -> Result<(), DeskFault>
         ensures goes { GoesBackToLanded effects (option_map (λ b. b.items) bytes) self.old result
             self.new }
         ensures whole { OnOk result (AreAllReleased effects self.new) }

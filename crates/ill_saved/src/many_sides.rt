@@ -11,6 +11,7 @@ ghost use Rattle.ill_saved.specs.Holdings.{DeskActs, DeskTakesApdu, StaysBacked,
 ghost use Rattle.ill_saved.specs.Desk.{AreAllReleased};
 ghost use Rattle.ill_saved.specs.ManySides.{DeskContents, held_of, txn_held, held_for, with_held, sides_held, whole_of, is_own, counts, MayBegin, FirstActs, FirstTakes, AreBackable, ManyBack, ReadsOrNone, many_sides, no_sides};
 
+use crate::desk::StoreOk;
 use crate::fault::DeskFault;
 use crate::held::Held;
 use crate::holdings::Holdings;
@@ -180,7 +181,7 @@ impl Held for ManySides {
         ManySides::none(alloc, first)
     }
 
-    fn read(alloc: Global, bytes: Vec<u8>) -> Result<ManySides, DeskFault> {
+    fn read(alloc: Global, bytes: Vec<u8>, _ok: StoreOk) -> Result<ManySides, DeskFault> {
         read_sides(alloc, &bytes)
     }
 
@@ -237,12 +238,17 @@ impl Held for ManySides {
     }
 
     /// Releases all messages: the counts in the record become the released counts.
-    fn release(&mut self, landed: SidesRecord) {
+    fn release(&mut self, landed: SidesRecord, _ok: StoreOk) {
         self.released = landed.counts;
     }
 
     /// Decodes the sides, or holds none if there are no bytes.
-    fn go_back(&mut self, alloc: Global, bytes: Option<Vec<u8>>) -> Result<(), DeskFault> {
+    fn go_back(
+        &mut self,
+        alloc: Global,
+        bytes: Option<Vec<u8>>,
+        _ok: StoreOk,
+    ) -> Result<(), DeskFault> {
         *self = read_or_none(alloc, bytes, self.sides.role())?;
         Ok(())
     }

@@ -8,6 +8,7 @@ ghost use Rattle.ill_saved.specs.Holdings.{DeskEntry};
 ghost use Rattle.ill_saved.specs.OneSide.{OneBacks, alone, one_side};
 ghost use Rattle.ill_saved.specs.LandedBytes.{HoldsReleased, IsLandedRecord};
 
+use crate::desk::StoreOk;
 use crate::fault::DeskFault;
 use crate::held::Held;
 use crate::holdings::Holdings;
@@ -106,7 +107,7 @@ impl Held for OneSide {
     }
 
     /// Decodes the side, and keeps `bytes` as the copy of the landed record.
-    fn read(alloc: Global, bytes: Vec<u8>) -> Result<OneSide, DeskFault> {
+    fn read(alloc: Global, bytes: Vec<u8>, _ok: StoreOk) -> Result<OneSide, DeskFault> {
         let side = read_side(alloc, &bytes)?;
         let landed_record = LandedRecord::of(alloc, bytes, &side)?;
         let released = side.issued_count();
@@ -151,13 +152,18 @@ impl Held for OneSide {
     }
 
     /// Releases all messages. The record `landed` becomes the copy.
-    fn release(&mut self, landed: LandedRecord) {
+    fn release(&mut self, landed: LandedRecord, _ok: StoreOk) {
         self.released = self.side.issued_count();
         self.landed_record = landed;
     }
 
     /// If `bytes` are the copy of the landed record, takes the live side back to it. Otherwise decodes them.
-    fn go_back(&mut self, alloc: Global, bytes: Option<Vec<u8>>) -> Result<(), DeskFault> {
+    fn go_back(
+        &mut self,
+        alloc: Global,
+        bytes: Option<Vec<u8>>,
+        ok: StoreOk,
+    ) -> Result<(), DeskFault> {
         laws::read_again();
         let Some(bytes) = bytes else {
             self.begin_again(alloc);
@@ -169,7 +175,7 @@ impl Held for OneSide {
         {
             return Ok(());
         }
-        *self = OneSide::read(alloc, bytes)?;
+        *self = OneSide::read(alloc, bytes, ok)?;
         Ok(())
     }
 }

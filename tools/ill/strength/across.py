@@ -1,9 +1,10 @@
 """Tries what goes across two crates, since the edits in strength/ stay within one.
 
-A crate of others may not release a message that no store has had: it cannot name the calls. A wrong contract in one
-crate must be refused by a crate above. Its body is changed with it, so that its own crate is proved. All is tried on a
+A crate of others may not release a message that no store has had: it cannot name the calls, and a bound that reaches them
+does not give it a store's Ok. A wrong contract in one crate must be refused by a crate above. Its body is changed with it, so that its own crate is proved. All is tried on a
 copy, a few minutes of proofs. A line tells what became of each.
 """
+import functools
 import re
 import shutil
 import subprocess
@@ -13,22 +14,42 @@ import tempfile
 from ill.repository import full, read, write
 from ill.strength.edits import BadEdit, Pair, change
 
-OTHERS = """\
+HEAD = """\
 //! Releases a message without a store.
 #![tactic(auto)]
 
-use ill_saved::{Holdings, ManySides, Role};
+use ill_saved::{DeskFault, Holdings, ManySides, Role};
 use ill_values::OutOfMemory;
 use std::alloc::Global;
 
-/// Returns sides whose messages were released, and never saved.
+"""
+# Functions of others that release messages which were never saved, each with the line and the name at which it must be
+# refused.
+OTHERS = {
+    "of a desk's sides": ("""\
+/// Returns sides whose messages were released.
 pub fn released(alloc: Global) -> Result<ManySides, OutOfMemory> {
     let mut sides = ManySides::begin(alloc, Role::Requester);
     let record = sides.record(alloc)?;
     sides.release(record);
     Ok(sides)
 }
-"""
+""", "lib.rt:10:.*`begin`"),
+    "of whatever a desk holds": ("""\
+/// Returns what a desk holds, with its messages released.
+pub fn released<H: Holdings>(alloc: Global, first: H::First) -> Result<H, OutOfMemory> {
+    let mut held = H::begin(alloc, first);
+    let record = held.record(alloc)?;
+    held.release(record);
+    Ok(held)
+}
+""", "lib.rt:12:.*`release`"),
+    "of a record that no store has": ("""\
+/// Returns what `bytes` encode, with its messages released.
+pub fn released<H: Holdings>(alloc: Global, bytes: Vec<u8>) -> Result<H, DeskFault> {
+    H::read(alloc, bytes)
+}
+""", "lib.rt:10:.*`read`")}
 DESK = "crates/ill_saved/src/desk.rt"
 # The changes of a desk that gives messages which are not saved, and says so.
 GIVES_UNSAVED = [
@@ -63,18 +84,19 @@ def refused(crate, said):
             if not line.endswith(", which is not proved")]
 
 
-def releases_unsaved(copy):
-    """Tries a crate of others that releases a message. Returns an empty text if it is refused; else raises
-    `BadEdit`."""
+def releases_unsaved(copy, others):
+    """Tries a crate of others that releases a message. `others` names its function. Returns an empty text if it is
+    refused; else raises `BadEdit`."""
+    source, refusal = OTHERS[others]
     crates = read(f"{copy}/crates.txt")
     write(f"{copy}/crates.txt", f"{crates}others: ill_values ill_saved\n")
-    write(f"{copy}/crates/others/src/lib.rt", OTHERS)
+    write(f"{copy}/crates/others/src/lib.rt", HEAD + source)
     is_proved, said = check(copy, "others")
     shutil.rmtree(f"{copy}/crates/others")
     write(f"{copy}/crates.txt", crates)
-    if is_proved or not re.search("lib.rt:10:.*`begin`", said):
+    if is_proved or not re.search(refusal, said):
         print(said, file=sys.stderr)
-        raise BadEdit("it can name `begin` of what a desk holds")
+        raise BadEdit("it is not refused there")
     return ""
 
 
@@ -96,8 +118,9 @@ def gives_unsaved(copy):
     return f": ill_world has no proof of {where}, and so none of world::World::step"
 
 
-CASES = {"a crate of others releases a message that no store has had": releases_unsaved,
-         "a desk gives each message that was issued, saved or not": gives_unsaved}
+CASES = {f"a crate of others releases a message {others}": functools.partial(releases_unsaved, others=others)
+         for others in OTHERS}
+CASES["a desk gives each message that was issued, saved or not"] = gives_unsaved
 
 
 def perform():

@@ -11,7 +11,6 @@ from ill.repository import read
 LIMIT = 20
 # The sentences that may be longer, by their document and their first words.
 LONG = {
-    "docs/ARCHITECTURE.md": ["a type of APDU: "],
     "docs/FORMATS.md": ["of both roles: IDLE 00"],
 }
 
@@ -29,7 +28,7 @@ def paragraphs(text):
     begin, kept, fenced = 0, [], False
     for number, line in enumerate(text.splitlines(), 1):
         fenced ^= line.startswith("```")
-        ends = not line.strip() or fenced or re.match(r"```|#|\||    ", line)
+        ends = not line.strip() or fenced or re.match(r"```|#|\|", line) or not kept and line.startswith("    ")
         if (ends or re.match(r"\s*([-*]|\d+\.) ", line)) and kept:
             yield begin, " ".join(kept)
             kept = []

@@ -1,5 +1,6 @@
 /* files FROM TO: moves each file of the folder FROM into the folder TO, which it makes, reads it there, and then
- * removes all, by the calls of the system that `ill inbox` makes for as many mails: what the system takes for these. */
+ * removes all, by the calls of the system that `ill inbox` makes for as many message files: what the system takes for
+ * these. */
 #define _GNU_SOURCE
 #include <dirent.h>
 #include <fcntl.h>

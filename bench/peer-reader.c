@@ -49,9 +49,9 @@ static void show(const struct apdu *apdu) {
 }
 
 /* Puts out what was shown before the fault, says the fault, and ends. */
-static _Noreturn void stop_at(enum fault fault, size_t place) {
+static _Noreturn void stop_at(enum fault fault, size_t offset) {
     flush(&out);
-    fprintf(stderr, "ill: %s at %zu\n", FAULT_WORD[fault], place);
+    fprintf(stderr, "ill: %s at %zu\n", FAULT_WORD[fault], offset);
     exit(STATUS_BAD);
 }
 
@@ -62,16 +62,16 @@ static _Noreturn void stop_behind_output(int status, const char *why) {
 
 /* Reads the next APDU, or says false at the end of the input. */
 static bool next(struct apdu *apdu) {
-    size_t place;
+    size_t offset;
     while (in.end - in.at < MOST_BYTES && !in.ended)
         read_more(&in);
     if (in.at == in.end && !in.failed)
         return false;
-    enum fault fault = read_apdu(in.bytes + in.at, in.end - in.at, apdu, &place);
+    enum fault fault = read_apdu(in.bytes + in.at, in.end - in.at, apdu, &offset);
     if (fault == SHORT && in.failed)
         stop_behind_output(STATUS_FAILED, "read");
     if (fault != NO_FAULT)
-        stop_at(fault, place);
+        stop_at(fault, offset);
     in.at += apdu->size;
     return true;
 }

@@ -3,7 +3,7 @@
  *
  *     peer-simulator GROUP TRANSACTION
  *
- * What stays inside is never spelled: a record is a struct, and so is a message that was sent. An item is judged
+ * What stays inside is never encoded: a record is a struct, and so is a message that was sent. An item is judged
  * and not kept, for no trace shows it. It has all lines of a script, and all rows of the tables of docs/PROTOCOL.md.
  *
  * Exit 2 at a line that is bad, with its number, or for other arguments; 3 where a stream fails. */
@@ -63,10 +63,10 @@ struct record {
     uint32_t expiry; /* responder: of the request */
 };
 
-/* A side. Its two records share one list of messages: that of the landed record is a front of that of the live
- * one, and what was sent has landed, so no message that was sent is ever replaced. */
+/* A side. Its two records share one list of messages: that of the committed record is a prefix of that of the live
+ * one, and what was sent is committed, so no message that was sent is ever replaced. */
 struct side {
-    struct record live, landed;
+    struct record live, committed;
     uint8_t released;
     struct message messages[MOST_MESSAGES];
     bool sent[MOST_MESSAGES];
@@ -473,19 +473,19 @@ static enum outcome responder_takes(const struct message *message, uint8_t numbe
 /* ---- The other events ---- */
 
 static enum outcome save(struct side *side) {
-    side->landed = side->live;
+    side->committed = side->live;
     side->released = side->live.issued;
     return SAVED;
 }
 
-static enum outcome fail_to_save(struct side *side, bool lands) {
-    if (lands)
-        side->landed = side->live;
+static enum outcome fail_to_save(struct side *side, bool commits) {
+    if (commits)
+        side->committed = side->live;
     return FAULTED;
 }
 
 static enum outcome restart(struct side *side) {
-    side->live = side->landed;
+    side->live = side->committed;
     side->released = side->live.issued;
     return RESTARTED;
 }
@@ -515,8 +515,8 @@ static bool same(struct text one, struct text two) {
 
 static enum outcome hear(const uint8_t *bytes, size_t size) {
     struct apdu apdu;
-    size_t place;
-    if (read_apdu(bytes, size, &apdu, &place) != NO_FAULT || apdu.size != size)
+    size_t offset;
+    if (read_apdu(bytes, size, &apdu, &offset) != NO_FAULT || apdu.size != size)
         return GARBLED;
     return same(apdu.group, group) && same(apdu.transaction, transaction) ? FORGED : OTHER_TRANSACTION;
 }
@@ -531,7 +531,7 @@ struct words {
     const uint8_t *end;
 };
 
-/* Finds the next word at or after a place; without any it is empty. */
+/* Finds the next word at or after `at`; without any it is empty. */
 static struct text next_word(const uint8_t *at, const uint8_t *end) {
     while (at < end && *at == ' ')
         at++;
@@ -607,7 +607,7 @@ static int digit_of(uint8_t byte) {
     return byte >= 'a' && byte <= 'f' ? byte - 'a' + 10 : -1;
 }
 
-/* Reads two digits for each byte, of which there is room for as many as a line may spell. */
+/* Reads two digits for each byte, of which there is room for as many as a line may encode. */
 static bool read_hex(struct text word, uint8_t *bytes, size_t *size) {
     *size = 0;
     if (is(word, "none"))

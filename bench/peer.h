@@ -109,7 +109,7 @@ static inline bool is_qualifier(const uint8_t *text, size_t size) {
 
 static inline bool is_continuation(uint8_t byte) { return (byte & 0xC0) == 0x80; }
 
-/* The size of the character of two to four bytes at the front of `left` bytes, in its shortest form and no
+/* The size of the character of two to four bytes that is a prefix of `left` bytes, in its shortest form and no
  * surrogate; 0 where there is none. */
 static inline size_t long_character(const uint8_t *text, size_t left) {
     uint8_t lead = text[0];
@@ -220,17 +220,17 @@ enum fault { NO_FAULT, SHORT, TAG, LENGTH, FIELD };
 
 static const char *const FAULT_WORD[] = {NULL, "short", "tag", "length", "field"};
 
-/* How far an APDU has been read, in bytes of which `size` are given; and its first fault, with the place. */
+/* How far an APDU has been read, in bytes of which `size` are given; and its first fault, with its offset. */
 struct reading {
     const uint8_t *bytes;
     size_t at, size;
     enum fault fault;
-    size_t place;
+    size_t offset;
 };
 
-static inline bool faulty(struct reading *from, enum fault fault, size_t place) {
+static inline bool faulty(struct reading *from, enum fault fault, size_t offset) {
     from->fault = fault;
-    from->place = place;
+    from->offset = offset;
     return false;
 }
 
@@ -261,9 +261,9 @@ static inline enum fault length(struct reading *from, size_t end, size_t *value)
 static inline bool header(struct reading *from, size_t end, uint8_t identifier, size_t *size) {
     if (from->at == end || from->bytes[from->at] != identifier)
         return faulty(from, TAG, from->at);
-    size_t place = ++from->at;
+    size_t offset = ++from->at;
     if (length(from, end, size) != NO_FAULT || *size > end - from->at)
-        return faulty(from, LENGTH, place);
+        return faulty(from, LENGTH, offset);
     return true;
 }
 
@@ -369,15 +369,15 @@ static inline bool outer(struct reading *from, struct apdu *to) {
     return true;
 }
 
-/* Reads the APDU at the front of these bytes, which goes to `to`. Its texts stand in the bytes. What the type
- * does not have is absent or 0. The fault, if there is one, is at *place. */
-static inline enum fault read_apdu(const uint8_t *bytes, size_t size, struct apdu *to, size_t *place) {
+/* Reads the APDU with which these bytes begin, which goes to `to`. Its texts stand in the bytes. What the type
+ * does not have is absent or 0. The fault, if there is one, is at *offset. */
+static inline enum fault read_apdu(const uint8_t *bytes, size_t size, struct apdu *to, size_t *offset) {
     struct reading from = {.bytes = bytes, .size = size};
     uint8_t version;
     *to = (struct apdu){0};
     if (outer(&from, to) && octet(&from, 0x80, 1, 1, &version) && id(&from, to) && number(&from, 0x82, &to->number))
         further_fields(&from, to);
-    *place = from.place;
+    *offset = from.offset;
     return from.fault;
 }
 

@@ -4,9 +4,9 @@
    If REFUSE_MARKED is set, only what lies between two marks is refused, and REFUSE is not read. A mark is an allocation
    of a size that nothing else has (crates/ill_test_kit/src/marks.rt). After BEGIN it refuses the first allocation; and
    if it has refused one, it refuses the next after the next BEGIN. After BEGIN_QUIET it refuses all. END_OF_MEMORY
-   says that the call between the marks has answered want of memory; END_OR_WITHOUT, that it has not, but may have done
+   says that the call between the marks has answered out of memory; END_OR_WITHOUT, that it has not, but may have done
    without what it was refused. Both are refused themselves if an allocation was. REFUSE_SEEN gets a W for each call that
-   answers want of memory and was refused nothing, or the other way round. */
+   answers out of memory and was refused nothing, or the other way round. */
 #define _GNU_SOURCE
 #include <dlfcn.h>
 #include <errno.h>

@@ -18,7 +18,7 @@
      none-N  says that N was the name of nothing then
      bytes-I is a file, with the inode I, that has bytes which were not flushed
      size-I  says how many bytes that file had when it was flushed last
-   The first two are made where a name is changed, and the others where a file is; the flush that is answered well,
+   The first two are made where a name is changed, and the others where a file is; the flush that succeeds,
    whoever makes it, removes them: that of a folder those of its own names. A name is the path that the process uses,
    with the byte 1 in place of each slash. A folder that was removed comes back only with what it had. */
 #define _GNU_SOURCE
@@ -156,12 +156,12 @@ static size_t moved(int reached, size_t size) {
 /* Sets `path` to that of a thing of this kind and name in STOP_DISK. Returns true if there is such a folder. */
 static int is_kept(char *path, const char *kind, const char *name) {
   const char *folder = getenv("STOP_DISK");
-  int front;
+  int prefix;
   if (!folder)
     return 0;
-  front = snprintf(path, 2 * NAME, "%s/%s-", folder, kind);
-  snprintf(path + front, 2 * NAME - front, "%s", name);
-  for (char *at = path + front; *at; at++)
+  prefix = snprintf(path, 2 * NAME, "%s/%s-", folder, kind);
+  snprintf(path + prefix, 2 * NAME - prefix, "%s", name);
+  for (char *at = path + prefix; *at; at++)
     if (*at == '/')
       *at = SLASH;
   return 1;

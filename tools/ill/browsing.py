@@ -30,7 +30,7 @@ STATUS = "return performance.getEntriesByType('navigation')[0].responseStatus"
 
 
 class House:
-    """Two libraries, and the mail between them."""
+    """Two libraries, and the transport between them."""
 
     def __init__(self, program, folder):
         """Makes the desks and the folders of mail of both libraries."""
@@ -565,7 +565,7 @@ def other_origin(clerk, servers):
 
 
 def attempt(part, *words):
-    """Performs a part. What stops it is told as a failure, and the next part goes on."""
+    """Performs a part. What stops it is reported as a failure, and the next part goes on."""
     try:
         part(*words)
     except (harness.Wrong, OSError) as fault:

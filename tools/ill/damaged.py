@@ -5,7 +5,7 @@ The desks of a requester and of a responder have five loans in five states. Of b
 - a whole desk is shown as `ill status` shows it, and the example of docs/FORMATS.md as that document has it;
 - with one wrong bit in an octet, or if it is cut, no other loan is shown otherwise, and it is not called whole;
 - if the digest is made to fit again, it is called whole exactly if the program reads it;
-- noise is shown without a failure;
+- invalid input is shown without a failure;
 - as a command it changes nothing, has the right status, and keeps to its bounds.
 
 It prints a line for each part; exit 1 if one fails.
@@ -61,7 +61,7 @@ first damage none
 """
 
 
-def noise(rng, size):
+def invalid_input(rng, size):
     """Returns so many random bytes."""
     return bytes(rng.choices(range(256), k=size))
 
@@ -164,8 +164,8 @@ class Checks:
             ends = self.ends(data)
             for size in range(len(data)):
                 is_whole, parts = self.shown(data[:size])
-                front = sum(end <= size for end in ends)
-                if is_whole or parts[1:1 + front] != before[:front]:
+                prefix = sum(end <= size for end in ends)
+                if is_whole or parts[1:1 + prefix] != before[:prefix]:
                     wrong.append(f"{name}, cut behind {size} bytes")
         tell("a desk that is cut", wrong)
 
@@ -182,24 +182,26 @@ class Checks:
                     wrong.append(f"{name}, a wrong bit at {at}, and the digest fits")
         tell(f"one wrong bit, and a digest that fits: {count} are whole", wrong or ["none is whole"] * (not count))
 
-    def check_noise(self):
-        """Expects that noise, and desks with many wrong octets, are shown without a failure."""
+    def check_invalid_input(self):
+        """Expects that invalid input, and desks with many wrong octets, are shown without a failure."""
         rng = random.Random(17)
         for _ in range(1500):
-            self.shown(self.noisy(bytearray(rng.choice([*self.desks.values()])), rng))
-        for data in [b"", b"I", b"ILL1", b"ILL2", b"ILL2\x00", b"ILL1" * 5000, b"ILL2" + bytes(5000), noise(rng, 5000)]:
+            self.shown(self.changed(bytearray(rng.choice([*self.desks.values()])), rng))
+        for data in [b"", b"I", b"ILL1", b"ILL2", b"ILL2\x00", b"ILL1" * 5000, b"ILL2" + bytes(5000),
+                     invalid_input(rng, 5000)]:
             is_whole, parts = self.shown(data)
             if is_whole or len(parts) > 1002:
-                tell("noise", [f"{data[:8]} is shown as {parts[:2]}"])
+                tell("invalid input", [f"{data[:8]} is shown as {parts[:2]}"])
                 return
-        tell("noise", [])
+        tell("invalid input", [])
 
     @staticmethod
-    def noisy(data, rng):
+    def changed(data, rng):
         """Returns these bytes with one to 29 random changes."""
         for _ in range(rng.randrange(1, 30)):
             at = rng.randrange(len(data))
-            data[at:at + rng.randrange(3)] = rng.choice([noise(rng, rng.randrange(40)), b"ILL1", data[at:at + 50]])
+            data[at:at + rng.randrange(3)] = rng.choice(
+                [invalid_input(rng, rng.randrange(40)), b"ILL1", data[at:at + 50]])
             data = data or bytearray(b"I")
         return bytes(data)
 
@@ -268,7 +270,7 @@ class Checks:
 def main(program):
     """Checks all, in the folder that it is in. Returns the exit status."""
     checks = Checks(harness.Program(program), os.getcwd())
-    for check in (checks.check_whole, checks.check_bits, checks.check_cuts, checks.check_digests, checks.check_noise,
-                  checks.check_command, checks.check_opens, checks.check_bounds):
+    for check in (checks.check_whole, checks.check_bits, checks.check_cuts, checks.check_digests,
+                  checks.check_invalid_input, checks.check_command, checks.check_opens, checks.check_bounds):
         check()
     return REPORT.status()

@@ -13,8 +13,8 @@ LONGEST = 361  # octets of a message
 
 
 def digest(mail):
-    """Returns the digest under which a mail is put aside. It is that of at most 362 octets, the first of a mail that is
-    too long."""
+    """Returns the digest under which a message file is quarantined. It is that of at most 362 octets, the first of a
+    message file that is too long."""
     return hashlib.sha256(mail[:LONGEST + 1]).hexdigest()
 
 
@@ -82,8 +82,8 @@ def encoded(txn, apdu):
 # ---- The reader
 
 def size_of(row):
-    """Returns the size of the message at the front of the bytes `row`, as its length octets say. Returns None if these
-    are cut."""
+    """Returns the size of the message that is a prefix of the bytes `row`, as its length octets say. Returns None if
+    these are cut."""
     longer = row[1] - 0x80 if len(row) > 1 and row[1] > 0x80 else 0
     if len(row) < 2 + longer:
         return None
@@ -96,7 +96,7 @@ def is_whole(message):
 
 
 def messages_of(row):
-    """Returns a list of the whole messages at the front of the bytes `row`, and the bytes after them."""
+    """Returns a list of the whole messages with which the bytes `row` begin, and the bytes after them."""
     messages = []
     while (size := size_of(row)) is not None and size <= len(row):
         messages.append(row[:size])
@@ -105,7 +105,7 @@ def messages_of(row):
 
 
 def parts_of(row):
-    """Returns the whole messages at the front of the bytes `row`. If bytes stand after them, these come last in the
+    """Returns the whole messages with which the bytes `row` begin. If bytes stand after them, these come last in the
     list."""
     messages, rest = messages_of(row)
     return [*messages, rest] if rest else messages

@@ -315,18 +315,18 @@ def differs(what, found, wanted):
     return None if found == wanted else f"{what} {short(found)} in place of {short(wanted)}"
 
 
-def lacks_front(what, found, front):
-    """Returns None if `found` begins with `front`, or else a text that shows them."""
-    return None if found.startswith(front) else f"{what} {short(found)}, which does not begin with {short(front)}"
+def lacks_prefix(what, found, prefix):
+    """Returns None if `found` begins with `prefix`, or else a text that shows them."""
+    return None if found.startswith(prefix) else f"{what} {short(found)}, which does not begin with {short(prefix)}"
 
 
 def faults_of(done, status, output, errors):
     """Yields the faults of a run, with None for what is right. `output` and `errors` are all the bytes of a stream; or
-    a text, which is its front; or None for anything."""
+    a text, which is its prefix; or None for anything."""
     yield differs("status", done.status, status)
     for what, found, wanted in (("output", done.output, output), ("errors", done.errors, errors)):
         if isinstance(wanted, str):
-            yield lacks_front(what, found, wanted.encode())
+            yield lacks_prefix(what, found, wanted.encode())
         elif wanted is not None:
             yield differs(what, found, wanted)
 
@@ -349,7 +349,7 @@ class Report:
         self.failed = False
 
     def tell(self, name, *faults):
-        """Prints a line for a case, which is well if there are no faults but None. Returns True if it is."""
+        """Prints a line for a case, which succeeds if there are no faults but None. Returns True if it is."""
         faults = [fault for fault in faults if fault]
         if faults:
             self.fail(f"{name}: {'; '.join(faults)}")
@@ -367,11 +367,11 @@ class Report:
         return self.tell(name, *faults_of(done, status, output, errors))
 
     def same(self, name, found, wanted):
-        """Tells of a case that is well if both values are equal."""
+        """Tells of a case that succeeds if both values are equal."""
         return self.tell(name, differs("it is", found, wanted))
 
     def holds(self, name, is_so, why):
-        """Tells of a case that is well if `is_so` is true; `why` is its fault else."""
+        """Tells of a case that succeeds if `is_so` is true; `why` is its fault else."""
         return self.tell(name, None if is_so else why)
 
     @staticmethod
@@ -388,7 +388,7 @@ class Report:
 
 
 class Task:
-    """A function that is called with `words` in a process of its own. Its answer is whether all went well, and what to
+    """A function that is called with `words` in a process of its own. Its answer is whether it succeeded, and what to
     say of it."""
 
     def __init__(self, name, function, *words):

@@ -1,4 +1,4 @@
-"""Libraries whose staff work in a browser, and the mail between them, for the month of tools/browser.
+"""Libraries whose staff work in a browser, and the transport between them, for the month of tools/browser.
 
 A `Library` has a desk, a web server of its own, and `Staff` who count what their work takes. Its `Books` have what the desk,
 the diary and the pages must have, by the model: what is done by a form, and what a night brings, is done there too.
@@ -87,7 +87,7 @@ class Books:
             self.enter(side.txn, *what, day)
 
     def told(self, side):
-        """Returns the words of what is told of a loan: an open answer of an earlier day, and what came on this day."""
+        """Returns the words of what is shown of a loan: an open answer of an earlier day, and what came on this day."""
         left = [words_of(side, apdu) for apdu in side.came if is_open(apdu, self.notes.get(side.txn, ""))]
         return [words for words in left if words not in self.news[side.txn]] + self.news[side.txn]
 
@@ -313,13 +313,14 @@ def first_other(found, wanted):
 
 
 class Mail:
-    """The mail between the libraries. It loses letters, and brings some late, twice or cut."""
+    """The transport between the libraries. It loses letters, and brings some late, twice or cut."""
 
     # How likely each fate of a letter is, in percent.
     FATES = {"well": 60, "lost": 14, "late": 8, "twice": 10, "cut": 8}
 
     def __init__(self, chance):
-        """Begins a mail whose letters have their fates by chance. `waiting` has the letters that come a night later."""
+        """Begins a transport whose letters have their fates by chance. `waiting` has the letters that come a night
+        later."""
         self.chance, self.count, self.waiting = chance, collections.Counter(), []
 
     def carry(self, sender, receiver, is_good):

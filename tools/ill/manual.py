@@ -372,9 +372,9 @@ class Offers:
         REPORT.tell(f"what {shell} offers", None if wanted == others else "they differ")
 
 
-def beginning(front, words):
-    """Returns those of the words that begin with `front`."""
-    return [word for word in words if word.startswith(front)]
+def beginning(prefix, words):
+    """Returns those of the words that begin with `prefix`."""
+    return [word for word in words if word.startswith(prefix)]
 
 
 def lines_of_offers(rows):
@@ -382,9 +382,9 @@ def lines_of_offers(rows):
     are left out."""
     lines = set()
     for number, (line, words) in enumerate(rows, 1):
-        front = f"{number}: {plain(line)}| "
-        lines.add(front)
-        lines |= {front + plain(word) for word in words if word and not re.fullmatch(ONE_LETTER, plain(word))}
+        prefix = f"{number}: {plain(line)}| "
+        lines.add(prefix)
+        lines |= {prefix + plain(word) for word in words if word and not re.fullmatch(ONE_LETTER, plain(word))}
     return lines
 
 

@@ -1,9 +1,9 @@
 """A month of two libraries whose staff do all in a browser, for `tools/browser --month`.
 
 Anna asks for items at one library, and Bert lends them at the other, by pages alone. Each library has a web server of its
-own. At night `ill exchange` carries sealed letters, and the mail loses some, or brings them late, twice or cut. A model of
-both sides says after each action and each night what the desk and its diary must have, and each morning what the page
-must show. It says too which loans are over at the end.
+own. At night `ill exchange` carries sealed letters, and the transport loses some, or brings them late, twice or cut. A
+model of both sides says after each action and each night what the desk and its diary must have, and each morning what
+the page must show. It says too which loans are over at the end.
 """
 import datetime
 import os
@@ -57,7 +57,7 @@ DECLINED = 10  # the loan whose conditions she declines
 
 
 class Month:
-    """The play: its two libraries, the mail between them, and the loans by their numbers."""
+    """The randomized simulation: its two libraries, the transport between them, and the loans by their numbers."""
 
     def __init__(self, programs, folder, browser):
         """Makes both libraries with one key. `place` is the number of the day, from 0 on, and `once` what was asked for
@@ -229,7 +229,7 @@ class Month:
             self.night(self.place >= DAYS or self.place % 7 == 6)
 
     def one_day(self):
-        """Plays a day: Anna asks for an item, Bert works down his list, and then Anna down hers."""
+        """Simulates a day: Anna asks for an item, Bert works down his list, and then Anna down hers."""
         rows = self.here.morning()
         if self.place < DAYS:
             self.asks()
@@ -240,7 +240,7 @@ class Month:
             self.cancels(CANCELS[self.place])
 
     def perform(self):
-        """Plays the month, and goes on until all loans are over."""
+        """Simulates the month, and goes on until all loans are over."""
         for library in self.libraries():
             library.begin_day(self.day().replace("-", ""))
             library.log_in()
@@ -307,7 +307,7 @@ class Month:
 
 
 def perform(programs):
-    """Plays the month with two programs. Returns the exit status."""
+    """Simulates the month with two programs. Returns the exit status."""
     lacks = missing() + [name for name in ("lighttpd", "openssl") if not is_there(name)]
     if lacks:
         REPORT.skip("a month in a browser", f"{', '.join(lacks)} not installed")
@@ -317,14 +317,14 @@ def perform(programs):
         driver = Driver(folder, free_port())
         try:
             driver.wait()
-            play(Month(programs, folder, driver.browser()))
+            simulate(Month(programs, folder, driver.browser()))
         finally:
             driver.end()
     return REPORT.status()
 
 
-def play(month):
-    """Plays a month. What stops it is a failure."""
+def simulate(month):
+    """Simulates a month. What stops it is a failure."""
     try:
         month.perform()
     except harness.Wrong as fault:

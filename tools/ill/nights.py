@@ -5,15 +5,15 @@ Each of the nights below is killed before, after and within each call, without a
 of what was not flushed; and each call fails, by each of some faults, or all from one on. Each time
 
 - FILE has one of the records that the night makes one after another, whole;
-- each mail is in its folder, or claimed, or put aside, or what it changes is saved;
+- each message file is in its folder, or claimed, or quarantined, or what it changes is saved;
 - what was taken stands in FILE.came, which has nothing else but perhaps a part of a message at its end;
 - each message that has left is whole, with its own bytes, and stands in the copy, also after a loss of the bytes that
-  were not flushed; so does each reason why a mail was put aside;
-- nothing is told that is not saved.
+  were not flushed; so does each reason why a message file was quarantined;
+- nothing is printed that is not saved.
 
-Then the night runs again, and all is as if it had never been stopped. On a shelf that holds of each desk with the mails
-of its group; no loan begins at the shelf's own desk; a new group is begun whole or not at all; and a group that is told
-to be retired has its mark, and never a desk again. It prints a line for each night; exit 1 if one
+Then the night runs again, and all is as if it had never been stopped. On a shelf that holds of each desk with the
+message files of its group; no loan begins at the shelf's own desk; a new group is begun whole or not at all; and a
+group that is printed as retired has its mark, and never a desk again. It prints a line for each night; exit 1 if one
 fails. It is a part of tools/crash.
 """
 import hashlib
@@ -43,31 +43,31 @@ def is_tried(how, call):
 
 
 def is_new(name):
-    """Returns true if a file of OUT is the new file of a mail, which a crash may leave."""
+    """Returns true if a file of OUT is the new file of a message file, which a crash may leave."""
     return name.startswith("out/.")
 
 
 def new_of(name):
-    """Returns the path of the new file of the mail of this name in OUT."""
+    """Returns the path of the new file of the message file of this name in OUT."""
     return "out/." + name.removeprefix("out/")
 
 
 def expect_reasons(files):
-    """Expects beside each mail that was put aside the file of its reason."""
+    """Expects beside each message file that was quarantined the file of its reason."""
     for path in files:
         if ".mail/aside/" in path and not path.endswith(".why") and len(os.path.basename(path)) == 64:
             expect(files.get(path + ".why"), f"{path} has no reason")
 
 
 class Night:
-    """A night at a desk: its words, its mails, and what becomes of each. A mail is `taken`, `done`, which repeats and
-    asks, or `left`; any other word is why it is put aside."""
+    """A night at a desk: its words, its message files, and what becomes of each. A message file is `taken`, `done`,
+    which repeats and asks, or `left`; any other word is why it is quarantined."""
 
     hows = (*KILLS, *LOSSES, *FAULTS)
 
     def __init__(self, program, shim, folder, words, mails, claimed=()):
-        """Makes the folder `template`, of which each run gets a copy. `claimed` names the mails that a killed run has
-        claimed."""
+        """Makes the folder `template`, of which each run gets a copy. `claimed` names the message files that a killed
+        run has claimed."""
         self.program, self.shim, self.folder, self.words = program, shim, folder, words
         self.mails, self.claimed = mails, dict(claimed)
         self.template, self.at = (os.path.join(folder, name) for name in ("template", "at"))
@@ -92,7 +92,7 @@ class Night:
         write(path, contents)
 
     def settle_in(self, steps):
-        """Puts the mails where they are before the night, with what an earlier crash has left beside. Finds the
+        """Puts the message files where they are before the night, with what an earlier crash has left beside. Finds the
         records: that of now, and that after each of these steps. A step is a list of pairs of words and input."""
         self.records = [self.read(self.template, "loan")]
         for step in steps:
@@ -135,8 +135,8 @@ class Night:
                 for path, _, names in os.walk(self.at) for name in names}
 
     def leave_over(self):
-        """Performs the night once, to learn which mails it sends. Puts the new file of each into OUT of the template,
-        as an earlier crash leaves it."""
+        """Performs the night once, to learn which message files it sends. Puts the new file of each into OUT of the
+        template, as an earlier crash leaves it."""
         self.begin()
         self.run()
         for name in self.files():
@@ -151,7 +151,8 @@ class Night:
         self.calls = read(self.log).decode().splitlines()
 
     def prepare(self):
-        """Performs the whole night, and keeps its end. Finds the records of nights in which mails are left out."""
+        """Performs the whole night, and keeps its end. Finds the records of nights in which message files are left
+        out."""
         self.run_whole()
         self.end = self.files()
         self.judge_end()
@@ -160,8 +161,8 @@ class Night:
         self.parts = [record for record in self.find_parts() if record not in self.records]
 
     def find_parts(self):
-        """Yields the records of nights in which some of the mails that are taken are left out, also none or all. Of
-        each there is the record that `inbox` makes, and that of the whole night."""
+        """Yields the records of nights in which some of the message files that are taken are left out, also none or
+        all. Of each there is the record that `inbox` makes, and that of the whole night."""
         taken = [name for name, (_, fate) in self.mails.items() if fate == "taken"]
         for some in itertools.product((False, True), repeat=len(taken)):
             for words in (["inbox", "loan", "in"], self.words):
@@ -173,8 +174,9 @@ class Night:
                 yield self.read(self.at, "loan")
 
     def judge(self, how, output, is_part):
-        """Judges what a stop in the way `how` has left: the record, each mail, FILE.came, OUT and the copy. `output` is
-        what was told. If `is_part`, some mails may be left out, which could not be claimed or read."""
+        """Judges what a stop in the way `how` has left: the record, each message file, FILE.came, OUT and the copy.
+        `output` is what was printed. If `is_part`, some message files may be left out, which could not be claimed or
+        read."""
         files = self.files()
         expect(files.get("loan") in self.records + (self.parts if is_part else []), "FILE has another record")
         at = 1 if files["loan"] in self.parts else self.records.index(files["loan"])
@@ -195,16 +197,17 @@ class Night:
             expect(files.get("copy") in [None, *self.records, *self.parts], "the copy is not whole")
         if is_part:
             return
-        expect(not output.endswith(b"\n") or output in self.fronts(), "other lines are told")
+        expect(not output.endswith(b"\n") or output in self.prefixes(), "other lines are told")
         expect(at > 0 or len(self.records) == 1 or b"\ntaken " not in output, "it is told, and not saved")
 
-    def fronts(self):
+    def prefixes(self):
         """Returns the outputs of the whole night up to each of its lines."""
         lines = self.whole[1].splitlines(True)
         return [b"".join(lines[:count]) for count in range(len(lines) + 1)]
 
     def judge_end(self):
-        """Expects that all is done: nothing is left over, and each mail is where it belongs. Returns the files."""
+        """Expects that all is done: nothing is left over, and each message file is where it belongs. Returns the
+        files."""
         files = self.files()
         left = {path for path in files if path.endswith((".new", ".lck")) or is_new(path)}
         if len(self.records) == 1:
@@ -224,8 +227,8 @@ class Night:
         return files
 
     def judge_again(self):
-        """Performs the night again. Mails that ask come again too, if they are done. Expects the files of a night that
-        was never stopped."""
+        """Performs the night again. Message files that ask come again too, if they are done. Expects the files of a
+        night that was never stopped."""
         status, output, errors = self.run()
         expect(status == self.whole[0] or status == 0 and self.whole[0] == 1, f"again: {status}, {errors}")
         asking = [(name, mail) for name, (mail, fate) in self.mails.items() if fate == "done"]
@@ -261,11 +264,11 @@ class Night:
 
     @staticmethod
     def may_leave_out(call):
-        """Returns true if a mail may be left out when this call fails."""
+        """Returns true if a message file may be left out when this call fails."""
         return "in/" in call
 
     def perform(self, name):
-        """Stops the night at each call, in each way. Prints what came of it. Returns true if all went well."""
+        """Stops the night at each call, in each way. Prints what came of it. Returns true if all succeeded."""
         runs, bad = 0, []
         for how, number, call in harness.stops(self.calls, self.hows, is_tried):
             runs += 1
@@ -281,8 +284,9 @@ class Night:
 
 
 class ShelfNight(Night):
-    """A night of the shelf `s`. Its mails have their paths; with each stand its bytes, what becomes of it, and the desk
-    that takes it or puts it aside. A mail of a retired group is `gone` if it is answered, and `told` if not."""
+    """A night of the shelf `s`. Its message files have their paths; with each stand its bytes, what becomes of it, and
+    the desk that takes it or quarantines it. A message file of a retired group is `gone` if it is answered, and `told`
+    if not."""
 
     hows = (*KILLS, *LOSSES, "EIO", "EACCES", "short", "broken")
 
@@ -294,7 +298,7 @@ class ShelfNight(Night):
         self.ill("shelf", "new", "s", role)
 
     def record_with(self, name, mails):
-        """Returns the record that a desk of the template, or a new one, has after `ill take` of these mails."""
+        """Returns the record that a desk of the template, or a new one, has after `ill take` of these message files."""
         scratch = os.path.join(self.folder, "scratch")
         if os.path.exists(os.path.join(self.template, name)):
             shutil.copy(os.path.join(self.template, name), scratch)
@@ -306,8 +310,8 @@ class ShelfNight(Night):
         return record
 
     def settle_in(self):
-        """Puts the mails where they are before the night, with what an earlier crash has left beside. Finds the records
-        of each desk: that of now, that after its mails, and those after some of them."""
+        """Puts the message files where they are before the night, with what an earlier crash has left beside. Finds the
+        records of each desk: that of now, that after its message files, and those after some of them."""
         self.desks, self.some = {self.own: [self.read(self.template, self.own)]}, {}
         for name in {desk for _, fate, desk in self.mails.values() if fate == "taken"}:
             taken = self.taken_at(name)
@@ -321,7 +325,7 @@ class ShelfNight(Night):
         self.write("s/A.%s.new" % self.role, b"ILL1")
 
     def taken_at(self, name):
-        """Returns the mails that a desk takes, in their order."""
+        """Returns the message files that a desk takes, in their order."""
         return [mail for mail, fate, desk in self.mails.values() if fate == "taken" and desk == name]
 
     def prepare(self):
@@ -334,12 +338,13 @@ class ShelfNight(Night):
 
     @staticmethod
     def may_leave_out(call):
-        """Returns true if a mail may be left out when this call fails: a mail that cannot be sorted is."""
+        """Returns true if a message file may be left out when this call fails: a message file that cannot be sorted
+        is."""
         return not call.endswith(("output", "errors"))
 
     def judge(self, how, output, is_part):
         """Judges what a stop in the way `how` has left at each desk, in IN, OUT and the copies. `output` is what was
-        told. If `is_part`, some mails may be left out."""
+        printed. If `is_part`, some message files may be left out."""
         files = self.files()
         expect(files.get(self.own) == self.desks[self.own][0], "a loan begins at the shelf's own desk")
         saved = {}
@@ -348,8 +353,8 @@ class ShelfNight(Night):
             expect(files.get(name) in allowed, f"{name} has another record")
             saved[name] = files.get(name) not in records[:1] or len(records) == 1
             taken, (came, rest) = self.taken_at(name), messages_of(files.get(name + ".came", b""))
-            is_front = any(mail.startswith(rest) for mail in taken + [b""])
-            expect(set(came) <= set(taken) and is_front, f"{name}.came has others")
+            is_prefix = any(mail.startswith(rest) for mail in taken + [b""])
+            expect(set(came) <= set(taken) and is_prefix, f"{name}.came has others")
             is_all = files.get(name) == records[-1]
             expect(not is_all or is_part or set(taken) <= set(came), f"it is taken, and not in {name}.came")
         for path, (mail, fate, desk) in self.mails.items():
@@ -365,8 +370,8 @@ class ShelfNight(Night):
         expect_reasons(files)
         self.judge_marks(files, output)
         if not is_part:  # if the lines of a desk cannot be written, the others go on
-            is_front = how in FAULTS or not output.endswith(b"\n") or output in self.fronts()
-            expect(is_front, "other lines are told")
+            is_prefix = how in FAULTS or not output.endswith(b"\n") or output in self.prefixes()
+            expect(is_prefix, "other lines are told")
             for section in output.split(b"s/")[1:]:
                 name, is_told = "s/" + section.split(b":")[0].decode(), b" taken " in section.split(b"\ntaken ")[0]
                 expect(not is_told or saved[name], f"it is told, and not saved at {name}")
@@ -388,7 +393,8 @@ class ShelfNight(Night):
             expect(output != b"done PENDING - 1/1\n" or "s/N.requester" in files, "it is told, and not saved")
 
     def judge_end(self):
-        """Expects that all is done: nothing is left over, and each mail is where it belongs. Returns the files."""
+        """Expects that all is done: nothing is left over, and each message file is where it belongs. Returns the
+        files."""
         files = self.files()
         left = {path for path in files if path.endswith((".new", ".lck")) or is_new(path)}
         expect(left <= {"s/A.%s.new" % self.role}, f"left: {left}")
@@ -413,8 +419,9 @@ class ShelfNight(Night):
                 for name, body in files.items() if not name.endswith((".new", ".diary"))}
 
     def judge_again(self):
-        """Performs the night again, with the mails of retired groups that a partner brings again. Expects the files of
-        a night that was never stopped. Mail of a group that this night has retired begins nothing, and is answered."""
+        """Performs the night again, with the message files of retired groups that a partner brings again. Expects the
+        files of a night that was never stopped. Message files of a group that this night has retired begin nothing, and
+        are answered."""
         for path, (mail, fate, _) in self.mails.items():
             if fate == "gone":
                 write(os.path.join(self.at, path), mail)
@@ -443,8 +450,9 @@ def of_group(group, message):
 
 
 def shelf_of_responder(program, shim, folder, *words):
-    """Returns a night of a shelf of two desks and a retired group. A killed run has claimed a mail, and sorted another.
-    A group is new. One mail alone begins a loan at each desk, so their order says nothing of the records."""
+    """Returns a night of a shelf of two desks and a retired group. A killed run has claimed a message file, and sorted
+    another. A group is new. One message file alone begins a loan at each desk, so their order says nothing of the
+    records."""
     mails = {"s/.unsorted.mail/in/0000000001/a": (of_group(b"A", request(b"T2")), "taken", "s/A.responder"),
              "s/B.responder.mail/in/0000000001/b": (of_group(b"B", request(b"T2")), "taken", "s/B.responder"),
              "in/1": (of_group(b"A", encode(0x66, b"T1", 2)), "taken", "s/A.responder"),
@@ -462,8 +470,8 @@ def shelf_of_responder(program, shim, folder, *words):
 
 
 def shelf_of_requester(program, shim, folder, *words):
-    """Returns a night of a shelf of two desks, which sends. A killed run has claimed a mail, and one mail is of a group
-    that the shelf lacks."""
+    """Returns a night of a shelf of two desks, which sends. A killed run has claimed a message file, and one message
+    file is of a group that the shelf lacks."""
     mails = {"s/.unsorted.mail/in/0000000001/a": (of_group(b"A", shipped(b"T1")), "taken", "s/A.requester"),
              "in/1": (of_group(b"B", shipped(b"T1")), "taken", "s/B.requester"),
              "in/2": (b"junk", "short at 4", "s/.shelf"),
@@ -477,8 +485,8 @@ def shelf_of_requester(program, shim, folder, *words):
 
 
 def shelf_that_retires(program, shim, folder, *words):
-    """Returns a night of a shelf that retires a group whose loan is over. A mail was put aside at its desk, and one
-    asks in its loan."""
+    """Returns a night of a shelf that retires a group whose loan is over. A message file was quarantined at its desk,
+    and one asks in its loan."""
     night = ShelfNight(program, shim, folder, words, "responder")
     message = of_group(b"B", request(b"T1"))
     night.ill("shelf", "take", "--keep", "s", given=message)
@@ -490,8 +498,8 @@ def shelf_that_retires(program, shim, folder, *words):
 
 
 def shelf_that_answers(program, shim, folder, *words):
-    """Returns a night of a shelf of which two groups are retired, and a third is over. Mails have come that ask in
-    loans of the two."""
+    """Returns a night of a shelf of which two groups are retired, and a third is over. Message files have come that ask
+    in loans of the two."""
     night = ShelfNight(program, shim, folder, words, "responder")
     for group in "BQR":
         night.ill("shelf", "take", "s", given=of_group(group.encode(), request(b"T1")))
@@ -516,8 +524,8 @@ def shelf_that_begins(program, shim, folder, *words):
 
 
 def requester(program, shim, folder, *words):
-    """Returns a night of a requester. Three messages are taken, of which a killed run has claimed one. Two mails are
-    put aside, and one is of a loan that the desk lacks."""
+    """Returns a night of a requester. Three messages are taken, of which a killed run has claimed one. Two message
+    files are quarantined, and one is of a loan that the desk lacks."""
     conditional = encode(0x64, b"T1", 1, element(0x84, b"\1"))
     mails = {"a": (shipped(b"T3"), "taken"), "1": (conditional, "taken"), "2": (shipped(b"T2"), "taken"),
              "3": (b"junk", "short at 4"), "4": (request(b"T1"), "wrong-role"), "5": (shipped(b"T9"), "left")}

@@ -183,13 +183,13 @@ def odd(case):
 
 
 def missing(case):
-    """Looks at what is told if there is no such loan, or no such desk."""
+    """Looks at what is printed if there is no such loan, or no such desk."""
     for desk, fault in (("here", "ill: no-such-transaction"), ("nowhere", "ill: no-record")):
         REPORT.run(f"no slip at {desk}", case.run("slip", desk, "G1", "T9"), 1, b"", fault)
 
 
 def full(case):
-    """Looks at what is told if the output is full. CODES has the loan."""
+    """Looks at what is printed if the output is full. CODES has the loan."""
     done = harness.run([case.program, "slip", "here", "G1", "T1"], output=harness.FULL)
     REPORT.run("a slip that cannot be written", done, 3, b"", "ill: write")
 

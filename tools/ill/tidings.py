@@ -63,8 +63,8 @@ def came_bytes(sides):
 
 
 class Since:
-    """A day since which news are told. `days` has the days of the lines that name a message, by its transaction, the word for it
-    and its number. `again` has what came once more after all else, and `notes` the notes of loans."""
+    """A day since which news are printed. `days` has the days of the lines that name a message, by its transaction, the
+    word for it and its number. `again` has what came once more after all else, and `notes` the notes of loans."""
 
     def __init__(self, day, days, again=(), notes=None):
         """Keeps the day, the days of lines, what came again, and the notes."""
@@ -102,15 +102,16 @@ def by_name(messages):
 
 
 def told(sides, last=None, since=None):
-    """Returns the last messages that are told, each with its side, and how many there are in all. `last` is the most
-    that are told, or None for all. `since` is a `Since`, or None."""
+    """Returns the last messages that are printed, each with its side, and how many there are in all. `last` is the most
+    that are printed, or None for all. `since` is a `Since`, or None."""
     all_of = [(side, apdu) for side in sides for apdu in side.came]
     all_of = since.of(sides, all_of) if since else all_of
     return all_of[-last:] if last else all_of, len(all_of)
 
 
 def heard(sides, since):
-    """Returns what is told of each loan since a day: the loan -> a list of the number and the words of each message."""
+    """Returns what is printed of each loan since a day: the loan -> a list of the number and the words of each
+    message."""
     loans = {tuple(side.txn): [] for side in sides}
     for side, apdu in told(sides, since=since)[0]:
         loans[tuple(side.txn)].append((apdu["number"], words_of(side, apdu)))

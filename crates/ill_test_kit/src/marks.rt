@@ -6,8 +6,8 @@
 //! call that may answer out of memory the shim refuses one growth, at first the first. If the call answers out of
 //! memory, the shim refuses the next growth in the next call. So a caller that repeats the call until no growth is
 //! refused has each growth refused once. In a quiet call, which cannot answer out of memory, the shim refuses every
-//! growth. The shim tells `tools/want-of-memory` each growth that it refused. It also tells each call that
-//! answers out of memory without a refusal, or gives another answer after one.
+//! growth. The shim tells `tools/out-of-memory` each growth that it refused. It also tells each call that answers out
+//! of memory without a refusal, or gives another answer after one.
 
 use std::alloc::Global;
 

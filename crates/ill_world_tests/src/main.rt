@@ -8,7 +8,7 @@
 //! Then `rt try < file | diff file -` prints nothing if all is right.
 //!
 //! Marks surround calls of `ill_world`, and a call is repeated while a growth is refused (`tries`, `performing`). So
-//! `tools/want-of-memory` refuses each growth of each call once, and the printed page must not change. Ample memory is
+//! `tools/out-of-memory` refuses each growth of each call once, and the printed page must not change. Ample memory is
 //! given to scripts that are longer than `performing` says, and to the events of `ending`.
 #![tactic(auto)]
 

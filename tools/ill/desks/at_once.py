@@ -1,11 +1,11 @@
-"""Several commands at once on one desk: no change is lost, and no number of a loan is told twice.
+"""Several commands at once on one desk: no change is lost, and no number of a loan is printed twice.
 
 In each round four commands start together on one desk. Each kind of round has its turn: four new loans; four answers in
 one loan; two actions beside a `take` of three messages and a `status`; four `new` of one file; four answers, one of
-which is killed; and an action beside an `inbox`, an `outbox` and an `exchange` of three mails, with none of them killed
-or one. A round fails if a command that was not killed ends with another fault than its own. It fails if a change that
-was told is not in the desk afterwards, if a number was told twice, or if a file is left beside the desk. The seed sets
-the moments of the kills.
+which is killed; and an action beside an `inbox`, an `outbox` and an `exchange` of three message files, with none of
+them killed or one. A round fails if a command that was not killed ends with another fault than its own. It fails if a
+change that was printed is not in the desk afterwards, if a number was printed twice, or if a file is left beside the
+desk. The seed sets the moments of the kills.
 """
 import collections
 import os
@@ -222,8 +222,8 @@ KINDS = (new_loans, answers, a_take_beside, new_desks, a_killed_answer, nights, 
 
 
 def prepare(desks):
-    """Makes a requester's desk of three loans and a responder's desk of the first. Makes the mail that ships all three
-    items."""
+    """Makes a requester's desk of three loans and a responder's desk of the first. Makes the message file that ships
+    all three items."""
     desks.run(["new", "requester", "requester"])
     desks.run(["new", "shipping", "responder"])
     for loan in ("T1", "T2", "T3"):

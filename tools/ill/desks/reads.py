@@ -175,7 +175,7 @@ LISTED = {"": WORKS, "--open": [name for name in WORKS if name != OVER], "--mine
 def listed(sides, flag, today=None, due_before=None, state=None, ahead=AHEAD, find=None, notes=None, news=None):
     """Yields each loan that `list` lists as the words of its work and its side, in the order of the list. `flag` is a
     key of `LISTED`. The next five parameters are the values of options, and None stands for one that is not given.
-    `notes` has the notes of loans, and `news` what is told of each. With `--mine` a loan that has news is listed,
+    `notes` has the notes of loans, and `news` what is printed of each. With `--mine` a loan that has news is listed,
     whatever its work."""
     for name in WORKS:
         for side in by_deadline(sides):
@@ -230,8 +230,8 @@ def list_lines(sides, flag, today=None, due_before=None, state=None, ahead=AHEAD
 
 
 def morning_lines(sides, today, news, notes=None, days=None):
-    """Returns the lines of `list --mine --since DAY`. `news` has what is told of each loan, and `notes` the notes that
-    are shown. `days` has the day since which a loan stands as it does."""
+    """Returns the lines of `list --mine --since DAY`. `news` has what is printed of each loan, and `notes` the notes
+    that are shown. `days` has the day since which a loan stands as it does."""
     rows = list(listed(sides, "--mine", today, news=news))
     cells = [["  " + (side.due or "-") if name in HANDS else "news:", column(side.txn[0]), column(side.txn[1]),
               "; ".join(words for _, words in news[tuple(side.txn)]) or "-"] for name, side in rows]
@@ -262,7 +262,7 @@ def list_objects(sides, flag, today=None, due_before=None, state=None, ahead=AHE
 
 def heard_objects(side, news):
     """Returns the news of a loan as objects. Returns None if `news` is None: no day is given since which news are
-    told."""
+    printed."""
     return news and [{"number": number, "words": words} for number, words in news[tuple(side.txn)]]
 
 

@@ -81,7 +81,7 @@ class Script:
             self.add(f"deliver {other} {number}", loan)
 
     def event(self, loan):
-        """Adds lines for a random event: of a library, of the mail, of a store, or a crash."""
+        """Adds lines for a random event: of a library, of the transport, of a store, or a crash."""
         side, kind = self.draw.choice(SIDES), self.draw.random()
         if kind < 0.2:
             self.wish(self.draw.choice(WISHES), loan)

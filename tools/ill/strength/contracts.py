@@ -54,7 +54,7 @@ UNNAMED = r"^record `|is not in scope|has no field|has no `"
 UNREAD = UNNAMED + r"|is no name|operand is missing|expected the end|cannot continue"
 # What is printed of an error, and not of a macro whose name has the word, as `by-macro: thiserror::Error`.
 ERROR = r"(?!by-macro: ).*\berror\b"
-# What may become of an edit, and how that is told of a wrong body and of a right one.
+# What may become of an edit, and how that is reported of a wrong body and of a right one.
 AT_GOAL, BY_ANSWERS, FOR_WANT, PROVED, UNTRIED = "at a goal", "by answers", "for want", "proved", "untried"
 WRONG = {AT_GOAL: "refused at a goal", BY_ANSWERS: "refused by an answer of the right body",
          FOR_WANT: "refused, but open for want of a proof alone", PROVED: "NOT REFUSED", UNTRIED: "NOT REFUSED"}
@@ -507,7 +507,7 @@ def known(is_gate):
 
 def perform(asked, is_gate):
     """Tries the edits of these crates. `asked` maps a crate to the names of its edits, or to no names for all. Returns
-    true if all is well. If `is_gate`, tries the edits of the gate alone."""
+    true if all succeed. If `is_gate`, tries the edits of the gate alone."""
     for crate in asked:
         build_below(crate)
     # The longest first. While a crate waits for a lane, the checks of others go on.

@@ -113,12 +113,12 @@ def check_paths(words, crates, everything, place):
     any."""
     for word in filter(looks_like_path, words):
         path = re.sub(r"\b(NAME|TYPE)\b", "*", word.rstrip("/"))
-        fronts = ["", "*/"]
+        prefixes = ["", "*/"]
         if crates and word.endswith((".rt", ".antt")) and not word.startswith("crates/"):
-            fronts = [f"crates/{crate}/{deep}" for crate in crates for deep in ("", "*/")]
-        patterns = [front + path for front in fronts]
+            prefixes = [f"crates/{crate}/{deep}" for crate in crates for deep in ("", "*/")]
+        patterns = [prefix + path for prefix in prefixes]
         is_there = any(matches(other, patterns) for other in everything)
-        expect("paths", is_there, place, f"there is no {word}" + (" here" if fronts[0] else ""))
+        expect("paths", is_there, place, f"there is no {word}" + (" here" if prefixes[0] else ""))
 
 
 def names(everything):

@@ -59,11 +59,11 @@ def libraries():
 def passed_on(root):
     """Yields what a file exports by `pub use`: the path, the name at its end, and the name that it has then."""
     for path, group, renamed in USE.findall(root.read_text()):
-        front, _, last = path.rpartition("::")
+        prefix, _, last = path.rpartition("::")
         for part in group.split(",") if group else [last + renamed]:
             old, _, new = part.strip().partition(" as ")
             if old:
-                yield path if group else front, old, new or old
+                yield path if group else prefix, old, new or old
 
 
 def exported(root, prefix=""):
@@ -112,10 +112,10 @@ def fault_of(answer):
         return None
     depth, last = 0, 0
     inside = answer[len("Result<"):-1]
-    for place, letter in enumerate(inside):
+    for offset, letter in enumerate(inside):
         depth += (letter in "<([") - (letter in ">)]")
         if letter == "," and depth == 0:
-            last = place + 1
+            last = offset + 1
     return inside[last:].strip().lstrip("(").split(",")[0].strip()
 
 

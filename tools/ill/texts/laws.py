@@ -79,11 +79,11 @@ def definitions(path, contract):
     """Yields the definitions that a contract of a source names, in its order, each with its file."""
     single, whole = names_in(path)
     code = re.sub(r"(?m)^ +ensures \w+", "", contract)
-    for front, word in re.findall(r"(?<![\w.⟦])(?:(\w+)\.)?(\w+)", code):
-        if front in whole:
-            yield defined(whole[front]._replace(name=word), path)
+    for prefix, word in re.findall(r"(?<![\w.⟦])(?:(\w+)\.)?(\w+)", code):
+        if prefix in whole:
+            yield defined(whole[prefix]._replace(name=word), path)
         else:
-            for name in (front, word):
+            for name in (prefix, word):
                 if name in single:
                     yield defined(single[name], path)
 

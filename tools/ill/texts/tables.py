@@ -173,7 +173,7 @@ def source_rows(table, masks, states):
 
 
 def source_row(found, text, start, path, masks, states):
-    """Returns the row that a match `found` has. The array begins at the place `start` of the text of the source."""
+    """Returns the row that a match `found` has. The array begins at the offset `start` of the text of the source."""
     place = f"{path}:{text.count(chr(10), 0, start + found.start()) + 1}"
     cells = [cell.strip() for cell in found[1].split(",") if cell.strip()]
     if len(cells) != 5:

@@ -51,7 +51,7 @@ static int begin(int quiet) {
   return 0;
 }
 
-/* Ends what a mark has begun, and tells if the answer of the call is wrong. Returns true if the mark is refused, so
+/* Ends what a mark has begun, and reports if the answer of the call is wrong. Returns true if the mark is refused, so
    that the call is made again. */
 static int end(size_t mark) {
   is_open = 0;

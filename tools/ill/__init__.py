@@ -9,8 +9,8 @@ program.
 
 The others are parts of one script. `texts` compares texts with sources for tools/texts, and `strength` tries wrong
 bodies for tools/strength. `desks` has the parts of tools/desks; `pages`, `slips`, `objects`, `damaged` and `manual` are
-parts of tools/check-program. The nights of tools/crash are `nights`, and `bodies` has the wrong bodies that
-tools/exchange tries. `mail_server` has the servers of tools/mail-server.
-`browsing` has the parts of tools/browser, `driving` the browser that it drives, and `serving` its web servers. `month` is
-its month, and `libraries` are those whose staff it simulates.
+parts of tools/check-program. The nights of tools/crash are `nights`, and `bodies` has the mutants that tools/exchange
+tries. `mail_server` has the servers of tools/mail-server. `browsing` has the parts of tools/browser, `driving` the
+browser that it drives, and `serving` its web servers. `month` is its month, and `libraries` are those whose staff it
+simulates.
 """

@@ -33,7 +33,7 @@ class House:
     """Two libraries, and the transport between them."""
 
     def __init__(self, program, folder):
-        """Makes the desks and the folders of mail of both libraries."""
+        """Makes the desks and the folders of message files of both libraries."""
         self.ill, self.folder = harness.Program(program), folder
         for desk, role in (("borrow", "requester"), ("lend", "responder")):
             os.makedirs(f"{folder}/{desk}/in")
@@ -53,7 +53,7 @@ class House:
             for name in os.listdir(f"{own}/out"):
                 os.rename(f"{own}/out/{name}", f"{self.folder}/{there}/in/{name}")
 
-    def told(self, desk, txn, what):
+    def field(self, desk, txn, what):
         """Returns the value of the first line of `ill loan` whose first word is `what`, at a library's desk."""
         lines = self.ill.well(["loan", self.desk(desk), "G1", txn]).decode().splitlines()
         return dict(line.partition(" ")[::2] for line in reversed(lines))[what]
@@ -66,7 +66,7 @@ class House:
 
     def state(self, desk, txn):
         """Returns the state of a loan."""
-        return self.told(desk, txn, "state")
+        return self.field(desk, txn, "state")
 
     def bytes(self, desk):
         """Returns the record of a desk."""
@@ -157,8 +157,8 @@ class Clerk:
 
     def console(self, *meant):
         """Returns a fault if the console has other messages than one of each status in `meant`; else None."""
-        told = self.browser.messages()
-        found = [next((status for status in ("401", "403", "409", "500", "503") if f"status of {status}" in it), it) for it in told]
+        shown = self.browser.messages()
+        found = [next((status for status in ("401", "403", "409", "500", "503") if f"status of {status}" in it), it) for it in shown]
         return harness.differs("console", found, list(meant))
 
 
@@ -167,7 +167,7 @@ def differs(what, found, wanted):
     return harness.differs(what, str(found), str(wanted))
 
 
-def is_told(clerk, *words):
+def is_printed(clerk, *words):
     """Returns a fault if the notice of the page lacks one of these texts; else None."""
     notice = clerk.notice()
     return None if all(word in notice for word in words) else f"the notice is {notice!r}"
@@ -176,7 +176,7 @@ def is_told(clerk, *words):
 # ---- A loan
 
 def one_loan(clerk, txn="T1", server="lighttpd"):
-    """Plays a loan with conditions and a renewal, and nights between, by forms alone."""
+    """Performs a loan with conditions and a renewal, and nights between, by forms alone."""
     house, statuses = clerk.site.house, [clerk.asks(txn, day="2025-03-20")]
     shown = clerk.browser.text("h2")
     steps = [("lend", "answer", "conditional", None), ("borrow", "reply", "yes", None), ("lend", "ship", None, "2025-03-15"),
@@ -187,7 +187,7 @@ def one_loan(clerk, txn="T1", server="lighttpd"):
         statuses.append(clerk.at(library, txn).does(verb, word, day))
     house.night()
     ends = [house.state(library, txn) for library in ("borrow", "lend")]
-    REPORT.tell(f"a loan with conditions and a renewal, by forms and nights, behind {server}", differs("statuses", statuses, [200] * 9),
+    REPORT.case(f"a loan with conditions and a renewal, by forms and nights, behind {server}", differs("statuses", statuses, [200] * 9),
                 differs("title", shown, TITLE), differs("states", ends, ["RETURNED", "CHECKED-IN"]), clerk.console())
 
 
@@ -199,7 +199,7 @@ def cancelled(clerk):
         statuses.append(clerk.at(library, "T2").does(verb, word))
     house.night()
     ends = [house.state(library, "T2") for library in ("borrow", "lend")]
-    REPORT.tell("a cancel, agreed to", differs("statuses", statuses, [200] * 3), differs("states", ends, ["CANCELLED"] * 2),
+    REPORT.case("a cancel, agreed to", differs("statuses", statuses, [200] * 3), differs("states", ends, ["CANCELLED"] * 2),
                 clerk.console())
 
 
@@ -210,7 +210,7 @@ def refused(clerk):
         house.night()
         statuses.append(clerk.at(library, "T3").does(verb, word))
     house.night()
-    REPORT.tell("conditions, refused", differs("statuses", statuses, [200] * 3), clerk.console(),
+    REPORT.case("conditions, refused", differs("statuses", statuses, [200] * 3), clerk.console(),
                 differs("state", house.state("borrow", "T3"), house.state("lend", "T3")))
 
 
@@ -224,10 +224,12 @@ def changed_between(clerk):
     house.ill.well(["act", house.desk("borrow"), "G1", "Web-1", "cancel"])
     before = house.bytes("borrow")
     first = clerk.does("cancel")
-    told, forms = is_told(clerk, "Nothing was done", "the loan has changed"), len(clerk.browser.all(clerk.form("cancel")))
-    REPORT.tell("changed in between", differs("status", first, 409), told, differs("forms to cancel", forms, 0), clerk.console("409"))
+    missing = is_printed(clerk, "Nothing was done", "the loan has changed")
+    forms = len(clerk.browser.all(clerk.form("cancel")))
+    REPORT.case("changed in between", differs("status", first, 409), missing, differs("forms to cancel", forms, 0),
+                clerk.console("409"))
     clerk.browser.leave(clerk.browser.reload)
-    REPORT.tell("a reload of a 409", differs("status", clerk.status(), 409), clerk.console("409"),
+    REPORT.case("a reload of a 409", differs("status", clerk.status(), 409), clerk.console("409"),
                 None if house.bytes("borrow") == before else "the desk has changed")
 
 
@@ -237,7 +239,7 @@ def reloaded(clerk):
     statuses = [clerk.does("cancel")]
     before = clerk.site.house.bytes("borrow")
     clerk.browser.leave(clerk.browser.reload)
-    REPORT.tell("a reload after an action", differs("statuses", [*statuses, clerk.status()], [200] * 2), clerk.console(),
+    REPORT.case("a reload after an action", differs("statuses", [*statuses, clerk.status()], [200] * 2), clerk.console(),
                 differs("notice", clerk.notice(), ""), None if clerk.site.house.bytes("borrow") == before else "the desk has changed")
 
 
@@ -250,7 +252,7 @@ def back_button(clerk):
     clerk.browser.back()
     is_old = bool(clerk.browser.all(clerk.form("cancel")))
     status = clerk.does("cancel") if is_old else 200
-    REPORT.tell("the back button", differs("status", status, 409 if is_old else 200), clerk.console(*["409"] * is_old),
+    REPORT.case("the back button", differs("status", status, 409 if is_old else 200), clerk.console(*["409"] * is_old),
                 None if house.bytes("borrow") == before else "the desk has changed")
 
 
@@ -264,8 +266,8 @@ def double_click(clerk):
     clerk.browser.leave(lambda: clerk.browser.call("POST", "/actions", {"actions": [
         {"type": "pointer", "id": "mouse", "actions": moves}]}))
     clerk.browser.messages()
-    REPORT.tell("a double click", differs("state", house.state("borrow", "Web-3"), "CANCEL-PENDING"),
-                differs("messages", house.told("borrow", "Web-3", "messages"), "2/2"),
+    REPORT.case("a double click", differs("state", house.state("borrow", "Web-3"), "CANCEL-PENDING"),
+                differs("messages", house.field("borrow", "Web-3", "messages"), "2/2"),
                 differs("status of the desks", clerk.at("borrow").status(), 200), clerk.console())
 
 
@@ -294,7 +296,7 @@ def ten_at_once(clerk):
     fields = [tuple(it.split("=", 1)) for it in clerk.browser.run(script, clerk.form("cancel"))]
     with concurrent.futures.ThreadPoolExecutor(10) as pool:
         found = sorted(pool.map(lambda _: posts(clerk.site, fields), range(10)))
-    REPORT.tell("ten equal forms at once, behind the server", differs("statuses", found, [303] + [409] * 9), clerk.console())
+    REPORT.case("ten equal forms at once, behind the server", differs("statuses", found, [303] + [409] * 9), clerk.console())
 
 
 def busy(clerk):
@@ -306,8 +308,8 @@ def busy(clerk):
         fcntl.flock(lock, fcntl.LOCK_EX)
         look = clerk.at("borrow", "Web-5").status()
         status = clerk.does("cancel")
-    REPORT.tell("a busy desk", differs("status of the page", look, 200), differs("status", status, 503), clerk.console("503"),
-                is_told(clerk, "busy", "Look again"), None if house.bytes("borrow") == before else "the desk has changed")
+    REPORT.case("a busy desk", differs("status of the page", look, 200), differs("status", status, 503), clerk.console("503"),
+                is_printed(clerk, "busy", "Look again"), None if house.bytes("borrow") == before else "the desk has changed")
 
 
 def damaged(clerk, servers, program):
@@ -321,12 +323,12 @@ def damaged(clerk, servers, program):
     button = clerk.fills("cancel")
     harness.write(desk, b"ILL2?")
     clerk.browser.leave(lambda: clerk.browser.press(button))
-    REPORT.tell("a form at a damaged desk", differs("status", clerk.status(), 500), clerk.console("500"),
-                is_told(clerk, "damaged", "the operator"), None if harness.read(desk) == b"ILL2?" else "the desk has changed")
+    REPORT.case("a form at a damaged desk", differs("status", clerk.status(), 500), clerk.console("500"),
+                is_printed(clerk, "damaged", "the operator"), None if harness.read(desk) == b"ILL2?" else "the desk has changed")
     clerk.at("both")
     text = clerk.browser.text()
-    REPORT.tell("a damaged desk beside another", differs("status", clerk.status(), 200), clerk.console(),
-                None if "cannot be read" in text and "T1" in text else "it is not told")
+    REPORT.case("a damaged desk beside another", differs("status", clerk.status(), 200), clerk.console(),
+                None if "cannot be read" in text and "T1" in text else "it is not shown")
 
 
 @contextlib.contextmanager
@@ -362,8 +364,8 @@ def full_disk(clerk, servers, program):
         query = urllib.parse.urlencode({"desk": desk, "group": "G1", "transaction": "Damaged-1"})
         clerk.browser.go(clerk.site.url("disk", f"?{query}"))
         status = clerk.does("cancel")
-        REPORT.tell("a full disk" if disk else "a limit of the size of files", differs("status", status, 503), clerk.console("503"),
-                    is_told(clerk, "written", "Look again", "the operator"),
+        REPORT.case("a full disk" if disk else "a limit of the size of files", differs("status", status, 503), clerk.console("503"),
+                    is_printed(clerk, "written", "Look again", "the operator"),
                     None if harness.read(desk) == before else "the desk has changed")
 
 
@@ -376,7 +378,7 @@ def two_clerks(clerk, other):
     other.at("borrow")
     other.asks("Web-7")
     diary = harness.read(f"{house.desk('borrow')}.diary").decode()
-    REPORT.tell("two clerks", differs("statuses", found, [200, 409]), clerk.console(), other.console("409"), None if re.search(
+    REPORT.case("two clerks", differs("statuses", found, [200, 409]), clerk.console(), other.console("409"), None if re.search(
         r"anna .*Web-6", diary) and re.search(r"bert .*Web-7", diary) and not re.search(r"bert .*Web-6", diary) else f"the diary: {diary!r}")
 
 
@@ -385,8 +387,8 @@ def same_number(clerk, other):
     button = other.fills_request("Web-9", "Rivers")
     first = clerk.asks("Web-9", "Maps")
     other.browser.leave(lambda: other.browser.press(button))
-    REPORT.tell("two requests with one number", differs("statuses", [first, other.status()], [200, 409]), clerk.console(),
-                other.console("409"), is_told(other, "Nothing was done", "its number was taken"),
+    REPORT.case("two requests with one number", differs("statuses", [first, other.status()], [200, 409]), clerk.console(),
+                other.console("409"), is_printed(other, "Nothing was done", "its number was taken"),
                 differs("title", other.browser.text("h2"), "Maps"))
 
 
@@ -396,7 +398,7 @@ def foreign_form(clerk, name, place):
     clerk.browser.go(place)
     clerk.browser.messages()
     clerk.browser.leave(lambda: clerk.browser.press(clerk.browser.one("button")))
-    REPORT.tell(f"a form of {name}", differs("status", clerk.status(), 403), clerk.console("403"),
+    REPORT.case(f"a form of {name}", differs("status", clerk.status(), 403), clerk.console("403"),
                 None if clerk.site.house.bytes("borrow") == before else "the desk has changed")
 
 
@@ -415,7 +417,7 @@ def strangers(clerk, servers):
         found = urllib.request.urlopen(clerk.site.url("borrow"), timeout=60).status
     except urllib.error.HTTPError as error:
         found = error.code
-    REPORT.tell("no login", differs("status", found, 401))
+    REPORT.case("no login", differs("status", found, 401))
     page = page_of_others(clerk)
     harness.write(f"{servers.folder}/www/evil.html", page)
     neighbour = servers.lighttpd()
@@ -483,7 +485,7 @@ def as_seen(clerk):
                 clerk.browser.go(url)
                 faults += [f"{width} {scheme}: {fault}" for fault in faults_seen(clerk.browser.run(LOOK))]
         clerk.browser.messages()
-        REPORT.tell(f"{name}, as it is seen", *sorted(set(faults))[:4])
+        REPORT.case(f"{name}, as it is seen", *sorted(set(faults))[:4])
     clerk.browser.devtools("Emulation.clearDeviceMetricsOverride")
     clerk.browser.devtools("Emulation.setEmulatedMedia", features=[])
 
@@ -506,7 +508,7 @@ def by_keyboard(clerk):
     enter = [{"type": "keyDown", "value": "\ue007"}, {"type": "keyUp", "value": "\ue007"}]
     clerk.browser.leave(lambda: clerk.browser.call("POST", "/actions", {"actions": [
         {"type": "key", "id": "keys", "actions": enter}]}))
-    REPORT.tell("an action by the keyboard alone", *faults[:3], clerk.console(),
+    REPORT.case("an action by the keyboard alone", *faults[:3], clerk.console(),
                 differs("state", clerk.site.house.state("borrow", "S5"), "CANCEL-PENDING"))
 
 
@@ -517,7 +519,7 @@ def short_loan(name, clerk, txn):
     `anna`."""
     found = [clerk.asks(txn), clerk.does("cancel")]
     diary = harness.read(f"{clerk.site.house.desk('borrow')}.diary").decode()
-    REPORT.tell(name, differs("statuses", found, [200, 200]), clerk.console(),
+    REPORT.case(name, differs("statuses", found, [200, 200]), clerk.console(),
                 differs("state", clerk.site.house.state("borrow", txn), "CANCEL-PENDING"),
                 None if re.search(rf"anna .*{txn}", diary) else f"the diary: {harness.short(diary)}")
 
@@ -543,12 +545,12 @@ def limits(clerk, server):
     """Sends forms without a login, without a length, and of the greatest length and one byte more. No desk changes."""
     before, site = clerk.site.house.bytes("borrow"), clerk.site
     found = [sends(site, b"a=b", 3, user=None), sends(site, b""), *(sends(site, b"a" * size, size) for size in (4096, 4097))]
-    REPORT.tell(f"no login, no length and too long a form, to {server}", differs("statuses", found, [401, 411, 400, 413]),
+    REPORT.case(f"no login, no length and too long a form, to {server}", differs("statuses", found, [401, 411, 400, 413]),
                 None if clerk.site.house.bytes("borrow") == before else "the desk has changed")
 
 
 def at_tls(clerk, server, txn):
-    """Plays a short loan at a server with TLS. Then sends a foreign form, and the forms of `limits`."""
+    """Performs a short loan at a server with TLS. Then sends a foreign form, and the forms of `limits`."""
     short_loan(f"{server} at a name, with TLS", clerk, txn)
     foreign_form(clerk, f"a page of nobody, to {server}", "data:text/html," + urllib.parse.quote(page_of_others(clerk)))
     limits(clerk, server)
@@ -560,7 +562,7 @@ def other_origin(clerk, servers):
     servers.script("borrow", "--origin", "http://other.example", "--today", DAY, house.desk("borrow"))
     before = house.bytes("borrow")
     status = clerk.asks("O9")
-    REPORT.tell("another origin than the operator's", differs("status", status, 403), clerk.console("403"),
+    REPORT.case("another origin than the operator's", differs("status", status, 403), clerk.console("403"),
                 None if house.bytes("borrow") == before else "the desk has changed")
 
 
@@ -589,7 +591,7 @@ class Stage:
         return Clerk(browser, Site(self.servers, self.house, origin, folder), user)
 
     def at_lighttpd(self):
-        """Plays the loans and what goes wrong behind lighttpd, on the loopback."""
+        """Performs the loans and what goes wrong behind lighttpd, on the loopback."""
         port = self.servers.lighttpd()
         clerk = self.clerk(f"http://127.0.0.1:{port}")
         for part in (one_loan, cancelled, refused, changed_between, reloaded, back_button, double_click, ten_at_once, busy):
@@ -604,7 +606,7 @@ class Stage:
         attempt(by_keyboard, clerk)
 
     def at_a_name(self):
-        """Plays a loan behind lighttpd at a name. Without TLS the origin decides, and with it the site."""
+        """Performs a loan behind lighttpd at a name. Without TLS the origin decides, and with it the site."""
         port = self.servers.lighttpd()
         clerk = self.clerk(f"http://{HOST}:{port}")
         short_loan("lighttpd at a name, without TLS", clerk, "O1")
@@ -617,7 +619,7 @@ class Stage:
         at_tls(self.clerk(f"https://{HOST}:{port}"), "lighttpd", "O2")
 
     def at_a_proxy(self):
-        """Plays a loan behind nginx, which sends another Host to lighttpd."""
+        """Performs a loan behind nginx, which sends another Host to lighttpd."""
         behind = self.servers.lighttpd()
         port = self.servers.proxy(behind)
         short_loan("behind a proxy, without TLS", self.clerk(f"http://{HOST}:{port}"), "P1")
@@ -626,19 +628,19 @@ class Stage:
         short_loan("behind a proxy, with TLS", self.clerk(f"https://{HOST}:{port}"), "P2")
 
     def at_busybox(self):
-        """Plays a loan behind busybox httpd."""
+        """Performs a loan behind busybox httpd."""
         port = self.servers.busybox()
         short_loan("busybox httpd", self.clerk(f"http://127.0.0.1:{port}", folder="cgi-bin"), "B1")
 
     def at_nginx(self):
-        """Plays a whole loan behind nginx at a name, with TLS. Its scripts are run by fcgiwrap."""
+        """Performs a whole loan behind nginx at a name, with TLS. Its scripts are run by fcgiwrap."""
         self.servers.certificate(HOST)
         clerk = self.clerk(f"https://{HOST}:{self.servers.nginx()}")
         one_loan(clerk, "N1", "nginx")
         at_tls(clerk, "nginx", "N2")
 
     def at_apache(self):
-        """Plays a loan behind Apache at a name, with TLS."""
+        """Performs a loan behind Apache at a name, with TLS."""
         self.servers.certificate(HOST)
         self.house.open_to_all()
         port = self.servers.apache(HOST)

@@ -1,6 +1,6 @@
-"""What the program tells of its command line, for the scripts that read it.
+"""What the program says of its command line, for the scripts that read it.
 
-tools/ill/help.jsonl has what `ill help --json` prints, and `make words` writes it. No help tells of that command. Each
+tools/ill/help.jsonl has what `ill help --json` prints, and `make words` writes it. No help names that command. Each
 line is an object, of one of four kinds:
 
 - program: its version, its line and text of help, and all options, also those that `clap` adds;

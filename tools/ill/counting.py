@@ -1,6 +1,6 @@
 """The figures of a desk, as the help of `ill figures` has them, and a diary for it. The sources have no part in it.
 
-A side of the model tells which messages it has taken. So nothing here asks a record whether it shows a message.
+A side of the model says which messages it has taken. So nothing here asks a record whether it shows a message.
 """
 import datetime
 import statistics
@@ -46,18 +46,18 @@ class Counted:
     def __init__(self, side, days, is_kept):
         """Counts a side. `days` has the day of each message that a diary names, by its loan, its word and its
         number. `is_kept` says if there is a file of what came."""
-        told = [(apdu, days.get((tuple(side.txn), what, apdu["number"]))) for apdu, what in messages(side, is_kept)]
-        first = {step: next((day for apdu, day in told if apdu["apdu"] in types), None) for step, types in STEPS.items()}
+        dated = [(apdu, days.get((tuple(side.txn), what, apdu["number"]))) for apdu, what in messages(side, is_kept)]
+        first = {step: next((day for apdu, day in dated if apdu["apdu"] in types), None) for step, types in STEPS.items()}
         self.asked = first["asked"]
-        self.end = self.ended(side.state, [apdu for apdu, _ in told])
+        self.end = self.ended(side.state, [apdu for apdu, _ in dated])
         self.waits = {wait: passed(first[start], first[end]) for wait, (start, end) in WAITS.items()}
 
     @staticmethod
-    def ended(state, told):
+    def ended(state, apdus):
         """Returns how a loan in this state stands: `filled`, `open`, `cancelled` or the reason of a refusal. The reason
-        is that of the first message of `told` that has one, or `unknown`."""
+        is that of the first message of `apdus` that has one, or `unknown`."""
         if state == "NOT-SUPPLIED":
-            reasons = [apdu.get("result", "expired" if apdu["apdu"] == "Expired" else None) for apdu in told]
+            reasons = [apdu.get("result", "expired" if apdu["apdu"] == "Expired" else None) for apdu in apdus]
             return next((reason for reason in reasons if reason in REASONS), "unknown")
         return "filled" if state in LATER else "cancelled" if state == "CANCELLED" else "open"
 

@@ -71,9 +71,9 @@ def bound_memory(most):
     resource.setrlimit(resource.RLIMIT_AS, (most, most))
 
 
-def tell(name, wrong):
-    """Tells of a part. `wrong` has its faults, of which the first is shown."""
-    REPORT.tell(name, *wrong[:1])
+def case(name, wrong):
+    """Reports a part. `wrong` has its faults, of which the first is shown."""
+    REPORT.case(name, *wrong[:1])
 
 
 class Checks:
@@ -85,14 +85,14 @@ class Checks:
         self.ill("new", "here", "requester")
         self.ill("new", "there", "responder")
         for number, course in enumerate(COURSES.values(), 1):
-            self.play(f"T{number}", course)
+            self.perform(f"T{number}", course)
         self.desks = {name: read(f"{folder}/{name}") for name in ("here", "there")}
 
     def ill(self, *words, given=None):
         """Runs the program, which has to end with status 0, and returns its output."""
         return self.program.well(words, given, cwd=self.folder)
 
-    def play(self, transaction, course):
+    def perform(self, transaction, course):
         """Performs a course of `COURSES` at both desks, in the loan G1 with this transaction."""
         steps = course.replace(" here ", "\nhere ").replace(" there ", "\nthere ").splitlines()
         for step in steps:
@@ -122,14 +122,14 @@ class Checks:
         for name, data in self.desks.items():
             is_whole, (_, *loans, _) = self.shown(data)
             lines = [line for loan in loans for line in loan.splitlines() if line.startswith(kept)]
-            told = [line for line in self.ill("status", name).decode().splitlines() if line.startswith(kept)]
+            printed = [line for line in self.ill("status", name).decode().splitlines() if line.startswith(kept)]
             titles = [line[6:] for loan in loans for line in loan.splitlines() if line.startswith("title ")]
-            if not is_whole or lines != told or titles != [*COURSES][:len(titles)] and name == "here":
+            if not is_whole or lines != printed or titles != [*COURSES][:len(titles)] and name == "here":
                 wrong.append(f"{name} is shown otherwise than by ill status")
         texts = []
         self.salvage.report("example", EXAMPLE, False, texts.append)
         wrong += ["the example of docs/FORMATS.md"] * ("".join(texts) != EXAMPLE_LINES)
-        tell("whole desks", wrong)
+        case("whole desks", wrong)
 
     def check_bits(self):
         """Expects that a wrong bit changes only what is shown of its own loan. No such desk is called whole."""
@@ -145,7 +145,7 @@ class Checks:
                 is_other = at >= 7 and (others or len(parts) != len(before) + 2)
                 if is_whole or is_other or parts[0].split("\n")[5:] != ["digest does not fit"]:
                     wrong.append(f"{name}, a wrong bit at {at}: loans {others} are shown otherwise")
-        tell("one wrong bit in each octet", wrong)
+        case("one wrong bit in each octet", wrong)
 
     @staticmethod
     def ends(data):
@@ -167,7 +167,7 @@ class Checks:
                 prefix = sum(end <= size for end in ends)
                 if is_whole or parts[1:1 + prefix] != before[:prefix]:
                     wrong.append(f"{name}, cut behind {size} bytes")
-        tell("a desk that is cut", wrong)
+        case("a desk that is cut", wrong)
 
     def check_digests(self):
         """Expects of desks with a wrong bit, whose digest fits, that those called whole are those that the program
@@ -180,7 +180,7 @@ class Checks:
                 count += is_whole
                 if is_whole != self.is_read(damaged):
                     wrong.append(f"{name}, a wrong bit at {at}, and the digest fits")
-        tell(f"one wrong bit, and a digest that fits: {count} are whole", wrong or ["none is whole"] * (not count))
+        case(f"one wrong bit, and a digest that fits: {count} are whole", wrong or ["none is whole"] * (not count))
 
     def check_invalid_input(self):
         """Expects that invalid input, and desks with many wrong octets, are shown without a failure."""
@@ -191,9 +191,9 @@ class Checks:
                      invalid_input(rng, 5000)]:
             is_whole, parts = self.shown(data)
             if is_whole or len(parts) > 1002:
-                tell("invalid input", [f"{data[:8]} is shown as {parts[:2]}"])
+                case("invalid input", [f"{data[:8]} is shown as {parts[:2]}"])
                 return
-        tell("invalid input", [])
+        case("invalid input", [])
 
     @staticmethod
     def changed(data, rng):
@@ -222,15 +222,15 @@ class Checks:
         wrong = [f"status {words}" for words, status in wanted.items() if self.run(*words, limit=20)[0] != status]
         wrong += ["the folder has changed"] * (self.folder_now() != before)
         wrong += ["a traceback"] * any("Traceback" in self.run(*words)[2] for words in wanted)
-        tell("the command", wrong + [*self.wrong_outputs()])
+        case("the command", wrong + [*self.wrong_outputs()])
 
     def wrong_outputs(self):
         """Yields what is wrong with runs whose output or errors are full or closed."""
         for words in ("here", "wrong-bit", "--help"):
             for stream in (FULL, CLOSED):
-                status, _, told = self.run(words, output=stream)
-                if status != 3 or not told.startswith("ill-salvage: write: ") or told.count("\n") != 1:
-                    yield f"{words}, output {stream}: status {status}, {told}"
+                status, _, printed = self.run(words, output=stream)
+                if status != 3 or not printed.startswith("ill-salvage: write: ") or printed.count("\n") != 1:
+                    yield f"{words}, output {stream}: status {status}, {printed}"
         for words, wanted in (("here", 0), ("wrong-bit", 1), ("missing", 3), ("", 2)):
             for stream in (FULL, CLOSED):
                 status, said, _ = self.run(*words.split(), errors=stream)
@@ -243,7 +243,7 @@ class Checks:
         sys.addaudithook(lambda event, words: opened.append(words) if event == "open" else None)
         self.salvage.read_file(f"{self.folder}/here")
         wrong = [f"it opens {name}" for name, _, flags in opened if flags & (os.O_WRONLY | os.O_RDWR | os.O_CREAT)]
-        tell("nothing is opened for writing", wrong or ["nothing is opened"] * (not opened))
+        case("nothing is opened for writing", wrong or ["nothing is opened"] * (not opened))
 
     def folder_now(self):
         """Returns the name of each thing in the folder, with what `stat_of` returns of it."""
@@ -263,8 +263,8 @@ class Checks:
             file.truncate(1 << 32)
         most = 400 << 20
         status, said, errors = self.run("long", before=lambda: bound_memory(most))
-        is_well = status == 1 and "bytes 67108864, and more" in said and said.count("record whole") == len(COURSES)
-        tell("a file of 4 GiB in 400 MB", [] if is_well else [f"status {status}: {errors[-200:]}"])
+        is_success = status == 1 and "bytes 67108864, and more" in said and said.count("record whole") == len(COURSES)
+        case("a file of 4 GiB in 400 MB", [] if is_success else [f"status {status}: {errors[-200:]}"])
 
 
 def main(program):

@@ -12,10 +12,10 @@ RESULTS = ["conditional", "retry", "unfilled", "locations-provided", "will-suppl
 LONGEST = 361  # octets of a message
 
 
-def digest(mail):
+def digest(file):
     """Returns the digest under which a message file is quarantined. It is that of at most 362 octets, the first of a
     message file that is too long."""
-    return hashlib.sha256(mail[:LONGEST + 1]).hexdigest()
+    return hashlib.sha256(file[:LONGEST + 1]).hexdigest()
 
 
 # ---- The writer

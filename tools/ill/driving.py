@@ -92,7 +92,7 @@ class Browser:
 
     def __init__(self, driver, session):
         """Keeps the driver and the path of the session."""
-        self.driver, self.path, self.told = driver, f"/session/{session}", []
+        self.driver, self.path = driver, f"/session/{session}"
 
     def call(self, method, path, body=None):
         """Calls the driver for this browser, whose path stands before `path`. Returns the value of the answer."""

@@ -1,7 +1,7 @@
 """What the tests of the built program share: folders, a table, runs of a program, verdicts, tasks side by side, helpers
 in C, and stops at calls.
 
-A test compares what has come with what is expected, and tells it with a `Report`: a line `ok: NAME`, or a line
+A test compares what has come with what is expected, and reports it with a `Report`: a line `ok: NAME`, or a line
 `FAILED: NAME:` that shows what came. A run is judged by its status and by the bytes of both its streams.
 
 `Disk` and `stops` are for tools/stop-nth.c: a program is stopped at each of its calls of the system, and may lose what
@@ -145,10 +145,10 @@ STATES = ("IDLE PENDING IN-PROCESS CONDITIONAL CANCEL-PENDING CANCELLED NOT-SUPP
 STATE = re.compile("|".join(rf"(?<![-/A-Z]){re.escape(state)}(?![-/A-Z])" for state in STATES))
 
 
-def pairs_in_step():
-    """Returns the pairs of states (requester, responder) in docs/PROTOCOL.md's table of pairs in step."""
+def converged_pairs():
+    """Returns the pairs of states (requester, responder) in docs/PROTOCOL.md's table of converged pairs."""
     part = read(os.path.join(TOP, "docs", "PROTOCOL.md")).decode()
-    part = part.partition("### A pair of states that is in step")[2].partition("\n#")[0]
+    part = part.partition("### A converged pair of states")[2].partition("\n#")[0]
     pairs = set()
     for line in part.splitlines():
         cells = [STATE.findall(cell) for cell in line.split("|")[1:3]]
@@ -173,7 +173,7 @@ def words_of(words):
 
 
 def _source(given, stack):
-    """Returns standard input as `subprocess` takes it. `given` is None for an empty one, bytes, a path or a descriptor.
+    """Returns standard input as `subprocess` takes it. `given` is bytes, a path, a descriptor, or None for empty input.
     `stack` closes what is opened."""
     if given is None:
         return subprocess.DEVNULL
@@ -342,13 +342,13 @@ def expect(is_so, what):
 
 
 class Report:
-    """Tells what came of each case, and remembers if one has failed."""
+    """Reports what came of each case, and remembers if one has failed."""
 
     def __init__(self):
         """Begins without a failure."""
         self.failed = False
 
-    def tell(self, name, *faults):
+    def case(self, name, *faults):
         """Prints a line for a case, which succeeds if there are no faults but None. Returns True if it is."""
         faults = [fault for fault in faults if fault]
         if faults:
@@ -363,16 +363,16 @@ class Report:
         self.failed = True
 
     def run(self, name, done, status, output, errors):
-        """Tells of a case whose run has to have this status and these streams, as `faults_of` says."""
-        return self.tell(name, *faults_of(done, status, output, errors))
+        """Reports a case whose run has to have this status and these streams, as `faults_of` says."""
+        return self.case(name, *faults_of(done, status, output, errors))
 
     def same(self, name, found, wanted):
-        """Tells of a case that succeeds if both values are equal."""
-        return self.tell(name, differs("it is", found, wanted))
+        """Reports a case that succeeds if both values are equal."""
+        return self.case(name, differs("it is", found, wanted))
 
     def holds(self, name, is_so, why):
-        """Tells of a case that succeeds if `is_so` is true; `why` is its fault else."""
-        return self.tell(name, None if is_so else why)
+        """Reports a case that succeeds if `is_so` is true; `why` is its fault else."""
+        return self.case(name, None if is_so else why)
 
     @staticmethod
     def skip(name, why):
@@ -442,7 +442,7 @@ def side_by_side(tasks, workers):
         yield task, answers[task]
 
 
-def tell_all(tasks, workers):
+def report_all(tasks, workers):
     """Performs tasks, `workers` of them at a time, and prints a line for each. Returns the exit status of the
     script."""
     fine = True

@@ -50,7 +50,7 @@ class Books:
 
     def __init__(self, role):
         """Begins the books of a desk without loans. `days` has the day of each line of the diary, and `last` the day of
-        each loan's last line. `news` has the words of what this day told of each loan."""
+        each loan's last line. `news` has the words of what is new of each loan on this day."""
         self.role, self.sides, self.notes = role, {}, {}
         self.diary, self.days, self.last, self.news = b"", {}, {}, collections.defaultdict(list)
 
@@ -86,7 +86,7 @@ class Books:
             self.news[side.txn] += [words_of(side, apdu)] * ((side.txn, *what) not in self.days)
             self.enter(side.txn, *what, day)
 
-    def told(self, side):
+    def news_of(self, side):
         """Returns the words of what is shown of a loan: an open answer of an earlier day, and what came on this day."""
         left = [words_of(side, apdu) for apdu in side.came if is_open(apdu, self.notes.get(side.txn, ""))]
         return [words for words in left if words not in self.news[side.txn]] + self.news[side.txn]
@@ -128,7 +128,7 @@ class Staff:
         """Begins to count for a user at a browser. `count` has clicks, pages, fields and actions, and `slowest` is the
         most milliseconds that a page took."""
         self.browser, self.user, self.count, self.slowest = browser, user, collections.Counter(), 0
-        self.meant = []  # the statuses of which the console may tell
+        self.meant = []  # the statuses that the console may report
 
     def go(self, url):
         """Loads a page that has a bookmark, and returns its status."""
@@ -170,8 +170,8 @@ class Library:
     """A library: its desk, its web server, who works there, and what the model says of its desk."""
 
     def __init__(self, programs, folder, name, role, browser, user):
-        """Makes the desk and the folders of mail, and begins the web server. `browser` is that of `user`, who works
-        there."""
+        """Makes the desk and the folders of message files, and begins the web server. `browser` is that of `user`, who
+        works there."""
         self.name, self.folder, self.ill = name, f"{folder}/{name}", harness.Program(programs[1])
         for part in ("in", "out"):
             os.makedirs(f"{self.folder}/{part}")
@@ -240,7 +240,7 @@ class Library:
 
     def row(self, txn, side, morning):
         """Returns the row that a loan must have on the page of the desks."""
-        notes, news = [self.books.notes[txn]] if txn in self.books.notes else [], self.books.told(side)
+        notes, news = [self.books.notes[txn]] if txn in self.books.notes else [], self.books.news_of(side)
         date = f"due {iso(side.due)}" if side.due else f"expires {iso(side.expiry())}" if side.expiry() else ""
         return {"title": shown(side.asked()["item"]), "loan": list(txn), "state": morning.state(Loan.of(side)), "date": date,
                 "small": [*notes, f"since {iso(self.books.last[txn])}", *(f"news: {it}" for it in news)],
@@ -288,8 +288,8 @@ class Library:
         """Performs a run of the night: takes the letters of the library `sender`, and sends it one. If `has_dates`, the
         run issues before that what the day makes due. A letter that was cut wants a person, and nothing else does."""
         words = ["--key", self.key, "--today", self.day, *(["--overdue", "--expire"] if has_dates else [])]
-        copy, beat, come, go = (f"{self.folder}/{name}" for name in ("copy", "beat", "in", "out"))
-        done = self.ill.run(["exchange", *words, "--copy", copy, "--beat", beat, self.desk, come, go])
+        copy, heartbeat, come, go = (f"{self.folder}/{name}" for name in ("copy", "beat", "in", "out"))
+        done = self.ill.run(["exchange", *words, "--copy", copy, "--beat", heartbeat, self.desk, come, go])
         is_cut = None in self.come.values()
         harness.expect((done.status, bool(done.errors), b"not-sealed" in done.output) == (int(is_cut), is_cut, is_cut),
                        f"{self.name}, the night to {self.day}: {done.status} {harness.short(done.output + done.errors, 600)}")
@@ -312,7 +312,7 @@ def first_other(found, wanted):
     return f"{heads[0]} in place of {heads[1]}"
 
 
-class Mail:
+class Transport:
     """The transport between the libraries. It loses letters, and brings some late, twice or cut."""
 
     # How likely each fate of a letter is, in percent.

@@ -19,7 +19,7 @@ from ill.harness import read, write
 REPORT = harness.Report()
 MAN = os.path.join(harness.TOP, "man", "ill.1")
 COMPLETIONS = os.path.join(harness.TOP, "completions")
-TOLD = os.path.join(harness.TOP, command_line.FILE)
+PRINTED_HELP = os.path.join(harness.TOP, command_line.FILE)
 WIDTH = 80
 EXPLAIN = "--explain"
 ROLES = ("requester", "responder")
@@ -113,17 +113,17 @@ class Help:
                 yield f"option {command} {option}" + (f" {value}" if value else "")
 
 
-def tell_only(who, lines):
+def report_only(who, lines):
     """Prints these lines, as what only `who` has."""
     for line in sorted(lines):
         print(f"only {who} has: {line}", flush=True)
 
 
-# ---- The command line, as the program tells it
+# ---- The command line, as the program prints it
 
-def compare_told(ill):
+def compare_printed(ill):
     """Compares tools/ill/help.jsonl with what the program prints. A further word there is refused as no command."""
-    REPORT.run("ill help --json", ill.run("help --json"), 0, read(TOLD), b"")
+    REPORT.run("ill help --json", ill.run("help --json"), 0, read(PRINTED_HELP), b"")
     for words in ("help --json act", "help act --json", "--explain help --json"):
         REPORT.run(f"ill {words}", ill.run(words), 2, b"", "error: unrecognized subcommand '--json'\n")
 
@@ -188,11 +188,11 @@ def usages(lines):
 def compare_page(known, page):
     """Compares the usages of the man page with those of the help. The heads of commands on a shelf are left out."""
     heads = [head for head in page.heads("COMMANDS") if not head.startswith("shelf ")]
-    told = collections.Counter(usages([*heads, "shelf COMMAND", "help [COMMAND]"]))
+    printed = collections.Counter(usages([*heads, "shelf COMMAND", "help [COMMAND]"]))
     wanted = collections.Counter(known.facts())
-    tell_only("the help", wanted - told)
-    tell_only("the other", told - wanted)
-    REPORT.holds("COMMANDS of the man page", wanted and wanted == told, "they differ")
+    report_only("the help", wanted - printed)
+    report_only("the other", printed - wanted)
+    REPORT.holds("COMMANDS of the man page", wanted and wanted == printed, "they differ")
 
 
 def render_page():
@@ -202,7 +202,7 @@ def render_page():
         return
     done = harness.run(["man", "--warnings", "-l", MAN], env={**os.environ, "MANWIDTH": str(WIDTH)})
     lines = harness.run(["col", "-b"], done.output).output.splitlines()
-    REPORT.tell(f"man renders the page in {WIDTH} columns without a warning",
+    REPORT.case(f"man renders the page in {WIDTH} columns without a warning",
                 None if done.output else "there is no page", done.errors.decode(errors="replace").strip(),
                 *(f"wide: {line.decode(errors='replace')}" for line in lines if len(line) > WIDTH))
 
@@ -323,7 +323,7 @@ class Offers:
         self.all_offer(("take --key", "take one --key", "send one G1 T1 1 --key", "key --show"), *self.files)
 
     def of_folders(self):
-        """Adds lines for folders of mail."""
+        """Adds lines for folders of message files."""
         self.all_offer(("inbox one", "inbox -- one", "outbox one", "outbox one --stream", "exchange one",
                         "exchange one --copy two folder", "exchange --today 20250301 --overdue one",
                         "exchange -- one folder"), *self.folders)
@@ -363,13 +363,13 @@ class Offers:
         self.offers(f"ill act {day}{file} G1 T1 -", EXPLAIN, "--help", "--today", "--by", "--seen", "--dry-run", "--long")
         self.offers(f"ill act {day}{file} -- G1 T1 --")
 
-    def compare(self, shell, told):
-        """Compares what a shell has offered with what it has to. `told` has the lines in their order, each with its
-        words."""
-        wanted, others = lines_of_offers(self.rows), lines_of_offers(told)
-        tell_only("the help", wanted - others)
-        tell_only(shell, others - wanted)
-        REPORT.tell(f"what {shell} offers", None if wanted == others else "they differ")
+    def compare(self, shell, printed):
+        """Compares what a shell has offered with what it has to. `printed` has the lines in their order, each with
+        its words."""
+        wanted, others = lines_of_offers(self.rows), lines_of_offers(printed)
+        report_only("the help", wanted - others)
+        report_only(shell, others - wanted)
+        REPORT.case(f"what {shell} offers", None if wanted == others else "they differ")
 
 
 def beginning(prefix, words):
@@ -455,7 +455,7 @@ def run_shell(words, given=None, output="terminal", **known):
 
 
 def version_of(words, **known):
-    """Returns the version that a shell tells."""
+    """Returns the version that a shell reports."""
     return harness.run(words, env={**os.environ, **known}).output.decode().strip()
 
 
@@ -550,7 +550,7 @@ def perform(name, lines, program):
     write("example.md", "".join(f"{line}\n" for line in lines))
     done = harness.run([os.path.join(harness.TOOLS, "run-document"), program, "example.md"], errors=subprocess.STDOUT,
                        limit=None)
-    if not REPORT.tell(name, f"status {done.status}" if done.status else None):
+    if not REPORT.case(name, f"status {done.status}" if done.status else None):
         print(done.output.decode(errors="replace"), end="", flush=True)
 
 
@@ -561,7 +561,7 @@ def main(program):
     os.environ.update(PATH=f"{os.getcwd()}/bin:{os.environ['PATH']}", LC_ALL="C")
     ill = harness.Program(program)
     ill.path = os.path.abspath("bin/ill")
-    compare_told(ill)
+    compare_printed(ill)
     known, page = Help(ill), Page()
     compare_page(known, page)
     render_page()

@@ -13,7 +13,7 @@ from ill import harness
 from ill.counting import Figures
 from ill.desks.reads import slip_parts
 from ill.driving import Driver, missing
-from ill.libraries import DESKS, KNOWN, Library, Mail
+from ill.libraries import DESKS, KNOWN, Library, Transport
 from ill.model import REQUESTER, RESPONDER
 from ill.notes import is_found
 from ill.screen import shown
@@ -66,7 +66,7 @@ class Month:
         self.here = Library(programs, folder, "borrow", REQUESTER, browser, "anna")
         self.there = Library(programs, folder, "lend", RESPONDER, browser, "bert")
         self.here.ill.well(["key", self.here.key])
-        self.mail, self.numbers, self.once, self.place = Mail(self.chance), {}, set(), 0
+        self.transport, self.numbers, self.once, self.place = Transport(self.chance), {}, set(), 0
         self.exchange = harness.load("exchange")
 
     def libraries(self):
@@ -161,7 +161,7 @@ class Month:
         staff, before = library.staff, harness.read(library.desk)
         status = staff.click(library.filled("ship", [], f"{FIRST.year - 1}{self.day()[4:]}"))
         library.draw("wrong-date", once="wrong date")
-        REPORT.tell("a wrong due date", harness.differs("status", status, 409),
+        REPORT.case("a wrong due date", harness.differs("status", status, 409),
                     None if "Nothing was done" in staff.alert() else f"the notice is {staff.alert()!r}",
                     None if harness.read(library.desk) == before else "the desk has changed")
 
@@ -197,21 +197,21 @@ class Month:
 
     def night(self, is_good):
         """Performs a night: the run of the requester, that of the responder, and the requester's again. After a good
-        night, which loses nothing, expects that both are in step."""
+        night, which loses nothing, expects that both are converged."""
         if not is_good:
-            self.mail.bring_late()
+            self.transport.bring_late()
         for own, other in ((self.here, self.there), (self.there, self.here), (self.here, self.there)):
             own.run(other, own is self.there and self.place >= BY_CRON)
-            self.mail.carry(own, other, is_good)
+            self.transport.carry(own, other, is_good)
         if is_good:
-            self.expect_in_step()
+            self.expect_converged()
 
-    def expect_in_step(self):
-        """Expects that both sides of each loan are in step, or that it is over for both."""
+    def expect_converged(self):
+        """Expects that both sides of each loan are converged, or that it is over for both."""
         here, there = ({txn: {"state": side.state, "due": side.due or "-", "marks": " ".join(side.marks())}
                         for txn, side in library.books.sides.items()} for library in self.libraries())
         for txn in here.keys() | there.keys():
-            self.exchange.expect_in_step(txn, here.get(txn, self.exchange.NONE), there.get(txn, self.exchange.NONE))
+            self.exchange.expect_converged(txn, here.get(txn, self.exchange.NONE), there.get(txn, self.exchange.NONE))
 
     def is_over(self):
         """Returns true if all loans are over at both ends, and end alike."""
@@ -251,34 +251,35 @@ class Month:
             faults = self.complaints()
             harness.expect(not faults, f"{self.day()}: the console has {faults}")
             self.place += 1
-        self.tell()
+        self.report()
 
     def complaints(self):
         """Returns the messages of the console that no status explains. With them stands a text for each status that was
-        meant, and that no message tells."""
-        told = self.here.staff.browser.messages()
+        meant, and that no message says."""
+        shown = self.here.staff.browser.messages()
         for status in self.here.staff.meant + self.there.staff.meant:
-            found = next((it for it in told if f"status of {status}" in it), None)
-            told.remove(found) if found else told.append(f"nothing of the status {status}")
+            found = next((it for it in shown if f"status of {status}" in it), None)
+            shown.remove(found) if found else shown.append(f"nothing of the status {status}")
         self.here.staff.meant, self.there.staff.meant = [], []
-        return told
+        return shown
 
     # ---- What came of it
 
-    def tell(self):
-        """Tells how many loans are over, what became of letters, what staff did, the figures and the pages of loans."""
-        REPORT.tell(f"a month in a browser: {len(TITLES)} loans over in {self.place} days, and both desks as the model has them")
-        REPORT.tell("letters: " + ", ".join(f"{count} {fate}" for fate, count in self.mail.count.items()),
-                    *(f"none {fate}" for fate in Mail.FATES if not self.mail.count[fate]))
+    def report(self):
+        """Reports how many loans are over, what became of letters, what staff did, the figures and the pages of
+        loans."""
+        REPORT.case(f"a month in a browser: {len(TITLES)} loans over in {self.place} days, and both desks as the model has them")
+        REPORT.case("letters: " + ", ".join(f"{count} {fate}" for fate, count in self.transport.count.items()),
+                    *(f"none {fate}" for fate in Transport.FATES if not self.transport.count[fate]))
         for library in self.libraries():
             staff = library.staff
             counts = ", ".join(f"{staff.count[it]} {it}" for it in ("actions", "clicks", "fields", "pages"))
             is_slow = staff.slowest > SLOW and not harness.IS_SHORT
-            REPORT.tell(f"{staff.user}: {counts}, the slowest in {staff.slowest:.0f} ms", "it is slow" if is_slow else None)
-            self.tell_figures(library)
-            self.tell_loans(library)
+            REPORT.case(f"{staff.user}: {counts}, the slowest in {staff.slowest:.0f} ms", "it is slow" if is_slow else None)
+            self.report_figures(library)
+            self.report_loans(library)
 
-    def tell_figures(self, library):
+    def report_figures(self, library):
         """Compares the figures of all days, as their page shows them, with the model."""
         staff, books, last = library.staff, library.books, self.day(-1)
         staff.go(library.url())
@@ -288,17 +289,17 @@ class Month:
         library.draw("figures", once="figures")
         found = staff.browser.run(KNOWN).splitlines()
         wanted = Figures(list(books.sides.values()), books.days, (FIRST.strftime("%Y%m%d"), last.replace("-", ""))).lines()
-        REPORT.tell(f"{staff.user}: the figures", None if found == wanted else f"{found} in place of {wanted}")
+        REPORT.case(f"{staff.user}: the figures", None if found == wanted else f"{found} in place of {wanted}")
 
     @staticmethod
-    def tell_loans(library):
+    def report_loans(library):
         """Compares the page of each loan, which has all that is known of it, with the model."""
         staff, books, faults = library.staff, library.books, []
         for txn in books.sides:
             staff.go(library.url() + library.query(txn))
             found, wanted = staff.browser.run(KNOWN).splitlines(), books.lines(txn)
             faults += [f"{txn}: {found} in place of {wanted}"] * (found != wanted)
-        REPORT.tell(f"{staff.user}: the pages of {len(books.sides)} loans", *faults[:1])
+        REPORT.case(f"{staff.user}: the pages of {len(books.sides)} loans", *faults[:1])
 
     def end(self):
         """Ends the web servers."""

@@ -38,9 +38,10 @@ class Morning:
         """Reads the tables for a day. A due date is soon if it is at most `ahead` days away."""
         self.today, self.ahead, found = today, ahead, dict(work.tables())
         self.kinds = {kind: (words, verbs.split(", ") if verbs else []) for _, (kind, words, verbs) in found["Work"]}
-        self.lines = {role: told(found[f"State of the {role}"]) for role in SECTION}
-        self.words = {role: told([(place, (cells[0], "", cells[1]))
-                                  for place, cells in table_lines(f"{SECTION[role]}.2 Its states")]) for role in SECTION}
+        self.lines = {role: documented(found[f"State of the {role}"]) for role in SECTION}
+        self.words = {role: documented([(place, (cells[0], "", cells[1]))
+                                        for place, cells in table_lines(f"{SECTION[role]}.2 Its states")])
+                      for role in SECTION}
 
     def is_past(self, day):
         """Returns true if a day is before today. None is never past."""
@@ -58,11 +59,11 @@ class Morning:
         """Returns the kind of work with a loan, by its name in the table."""
         facts = {**loan.facts, "on.has_expired": self.is_past(loan.expiry), "on.is_overdue": self.is_past(loan.due),
                  "on.is_due_soon": self.is_soon(loan.due)}
-        return work.work_told(self.lines[loan.role][loan.state], facts)
+        return work.documented_work(self.lines[loan.role][loan.state], facts)
 
     def state(self, loan):
         """Returns the words for the state of a loan."""
-        return work.work_told(self.words[loan.role][loan.state], loan.facts)
+        return work.documented_work(self.words[loan.role][loan.state], loan.facts)
 
     def allows(self, loan, verb):
         """Returns true if the day allows an action: an Overdue wants a due date that is past, and an Expire an expiry
@@ -103,6 +104,7 @@ def works():
     return {words: bool(verbs) for words, verbs in morning_of(None, AHEAD).kinds.values()}
 
 
-def told(rows):
-    """Returns what a table says of each state, by the name of the state, as `work.told` does. `rows` are its lines."""
-    return work.told(rows, {word: word for _, cells in rows for word in cells[0].split(", ")})
+def documented(rows):
+    """Returns what a table says of each state, by the name of the state, as `work.documented` does. `rows` are its
+    lines."""
+    return work.documented(rows, {word: word for _, cells in rows for word in cells[0].split(", ")})

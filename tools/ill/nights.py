@@ -65,11 +65,11 @@ class Night:
 
     hows = (*KILLS, *LOSSES, *FAULTS)
 
-    def __init__(self, program, shim, folder, words, mails, claimed=()):
+    def __init__(self, program, shim, folder, words, message_files, claimed=()):
         """Makes the folder `template`, of which each run gets a copy. `claimed` names the message files that a killed
         run has claimed."""
         self.program, self.shim, self.folder, self.words = program, shim, folder, words
-        self.mails, self.claimed = mails, dict(claimed)
+        self.message_files, self.claimed = message_files, dict(claimed)
         self.template, self.at = (os.path.join(folder, name) for name in ("template", "at"))
         self.log = os.path.join(folder, "log")
         for name in ("in", "out"):
@@ -104,8 +104,8 @@ class Night:
             shutil.copy(os.path.join(scratch, "loan"), os.path.join(self.template, "loan"))
             shutil.rmtree(scratch)
         self.write("loan", self.records[0])
-        for name, (mail, _) in self.mails.items():
-            self.write("loan.mail/in/0000000001/" + name if name in self.claimed else "in/" + name, mail)
+        for name, (file, _) in self.message_files.items():
+            self.write("loan.mail/in/0000000001/" + name if name in self.claimed else "in/" + name, file)
         self.write("loan.new", b"ILL1")
 
     @staticmethod
@@ -144,7 +144,7 @@ class Night:
                 self.write(new_of(name), b"ILL1")
 
     def run_whole(self):
-        """Performs the whole night, and keeps what it tells and its calls of the system."""
+        """Performs the whole night, and keeps what it prints and its calls of the system."""
         self.leave_over()
         self.begin()
         self.whole = self.run()
@@ -163,7 +163,7 @@ class Night:
     def find_parts(self):
         """Yields the records of nights in which some of the message files that are taken are left out, also none or
         all. Of each there is the record that `inbox` makes, and that of the whole night."""
-        taken = [name for name, (_, fate) in self.mails.items() if fate == "taken"]
+        taken = [name for name, (_, fate) in self.message_files.items() if fate == "taken"]
         for some in itertools.product((False, True), repeat=len(taken)):
             for words in (["inbox", "loan", "in"], self.words):
                 self.begin()
@@ -180,13 +180,13 @@ class Night:
         files = self.files()
         expect(files.get("loan") in self.records + (self.parts if is_part else []), "FILE has another record")
         at = 1 if files["loan"] in self.parts else self.records.index(files["loan"])
-        taken = [mail for mail, fate in self.mails.values() if fate == "taken"]
+        taken = [file for file, fate in self.message_files.values() if fate == "taken"]
         came, rest = messages_of(files.get("loan.came", b""))
-        for name, (mail, fate) in self.mails.items():
-            is_there = any(body == mail for path, body in files.items() if path.startswith(("in/", "loan.mail/")))
-            is_done = fate == "done" or fate == "taken" and at > 0 and mail in came
-            expect(is_there or is_done, f"the mail {name} is lost")
-        expect(set(came) <= set(taken) and any(mail.startswith(rest) for mail in taken + [b""]), "FILE.came has something else")
+        for name, (file, fate) in self.message_files.items():
+            is_there = any(body == file for path, body in files.items() if path.startswith(("in/", "loan.mail/")))
+            is_done = fate == "done" or fate == "taken" and at > 0 and file in came
+            expect(is_there or is_done, f"the message file {name} is lost")
+        expect(set(came) <= set(taken) and any(file.startswith(rest) for file in taken + [b""]), "FILE.came has something else")
         expect(at == 0 or is_part or set(taken) <= set(came), "a message is taken, and not in FILE.came")
         out = {name: body for name, body in files.items() if name.startswith("out/") and not is_new(name)}
         for name, body in out.items():
@@ -197,8 +197,8 @@ class Night:
             expect(files.get("copy") in [None, *self.records, *self.parts], "the copy is not whole")
         if is_part:
             return
-        expect(not output.endswith(b"\n") or output in self.prefixes(), "other lines are told")
-        expect(at > 0 or len(self.records) == 1 or b"\ntaken " not in output, "it is told, and not saved")
+        expect(not output.endswith(b"\n") or output in self.prefixes(), "other lines are printed")
+        expect(at > 0 or len(self.records) == 1 or b"\ntaken " not in output, "it is printed, and not saved")
 
     def prefixes(self):
         """Returns the outputs of the whole night up to each of its lines."""
@@ -213,17 +213,17 @@ class Night:
         if len(self.records) == 1:
             left.discard("loan.new")  # only who saves removes it
         expect(not left, f"left: {left}")
-        for name, (mail, fate) in self.mails.items():
+        for name, (file, fate) in self.message_files.items():
             if fate in ("taken", "done"):
-                expect(mail not in [body for path, body in files.items() if path.startswith(("in/", "loan.mail/in/"))],
-                       f"the mail {name} is not removed")
+                expect(file not in [body for path, body in files.items() if path.startswith(("in/", "loan.mail/in/"))],
+                       f"the message file {name} is not removed")
             elif fate == "left":
-                expect(files.get("in/" + name) == mail, f"the mail {name} is not back in its folder")
+                expect(files.get("in/" + name) == file, f"the message file {name} is not back in its folder")
             else:
-                place = "loan.mail/aside/" + hashlib.sha256(mail).hexdigest()
-                expect(files.get(place) == mail, f"the mail {name} is not put aside")
+                place = "loan.mail/aside/" + hashlib.sha256(file).hexdigest()
+                expect(files.get(place) == file, f"the message file {name} is not quarantined")
                 why = files.get(place + ".why")
-                expect(why == fate.encode() + b"\n", f"why is {name} put aside: {why}")
+                expect(why == fate.encode() + b"\n", f"why is {name} quarantined: {why}")
         return files
 
     def judge_again(self):
@@ -231,9 +231,9 @@ class Night:
         night that was never stopped."""
         status, output, errors = self.run()
         expect(status == self.whole[0] or status == 0 and self.whole[0] == 1, f"again: {status}, {errors}")
-        asking = [(name, mail) for name, (mail, fate) in self.mails.items() if fate == "done"]
-        for name, mail in asking:
-            write(os.path.join(self.at, "in", name), mail)
+        asking = [(name, file) for name, (file, fate) in self.message_files.items() if fate == "done"]
+        for name, file in asking:
+            write(os.path.join(self.at, "in", name), file)
         if asking:
             self.run()
         files, end = self.judge_end(), dict(self.end)
@@ -285,26 +285,26 @@ class Night:
 
 class ShelfNight(Night):
     """A night of the shelf `s`. Its message files have their paths; with each stand its bytes, what becomes of it, and
-    the desk that takes it or quarantines it. A message file of a retired group is `gone` if it is answered, and `told`
-    if not."""
+    the desk that takes it or quarantines it. A message file of a retired group is `gone` if it is answered, and
+    `printed` if not."""
 
     hows = (*KILLS, *LOSSES, "EIO", "EACCES", "short", "broken")
 
-    def __init__(self, program, shim, folder, words, role, mails=()):
+    def __init__(self, program, shim, folder, words, role, message_files=()):
         """Makes the template with a new shelf of this role. `own` is the path of the shelf's own desk, which has no
         loans. `again` has further statuses that the night may have when it runs again."""
-        super().__init__(program, shim, folder, words, dict(mails))
+        super().__init__(program, shim, folder, words, dict(message_files))
         self.role, self.own, self.again = role, "s/.shelf", ()
         self.ill("shelf", "new", "s", role)
 
-    def record_with(self, name, mails):
+    def record_with(self, name, message_files):
         """Returns the record that a desk of the template, or a new one, has after `ill take` of these message files."""
         scratch = os.path.join(self.folder, "scratch")
         if os.path.exists(os.path.join(self.template, name)):
             shutil.copy(os.path.join(self.template, name), scratch)
         else:
             self.ill("new", scratch, self.role)
-        subprocess.run([self.program, "take", scratch], input=b"".join(mails), capture_output=True)
+        subprocess.run([self.program, "take", scratch], input=b"".join(message_files), capture_output=True)
         record = self.read(self.folder, "scratch")
         os.remove(scratch)
         return record
@@ -313,20 +313,20 @@ class ShelfNight(Night):
         """Puts the message files where they are before the night, with what an earlier crash has left beside. Finds the
         records of each desk: that of now, that after its message files, and those after some of them."""
         self.desks, self.some = {self.own: [self.read(self.template, self.own)]}, {}
-        for name in {desk for _, fate, desk in self.mails.values() if fate == "taken"}:
+        for name in {desk for _, fate, desk in self.message_files.values() if fate == "taken"}:
             taken = self.taken_at(name)
             first = self.read(self.template, name) if os.path.exists(os.path.join(self.template, name)) else None
             begun = [] if first else [self.record_with(name, [])]
             self.desks[name] = [first] + begun + [self.record_with(name, taken)]
             self.some[name] = [self.record_with(name, part) for size in range(len(taken) + 1)
                                for part in itertools.combinations(taken, size)]
-        for path, (mail, _, _) in self.mails.items():
-            self.write(path, mail)
+        for path, (file, _, _) in self.message_files.items():
+            self.write(path, file)
         self.write("s/A.%s.new" % self.role, b"ILL1")
 
     def taken_at(self, name):
         """Returns the message files that a desk takes, in their order."""
-        return [mail for mail, fate, desk in self.mails.values() if fate == "taken" and desk == name]
+        return [file for file, fate, desk in self.message_files.values() if fate == "taken" and desk == name]
 
     def prepare(self):
         """Performs the whole night, which has to leave the last record of each desk."""
@@ -353,14 +353,15 @@ class ShelfNight(Night):
             expect(files.get(name) in allowed, f"{name} has another record")
             saved[name] = files.get(name) not in records[:1] or len(records) == 1
             taken, (came, rest) = self.taken_at(name), messages_of(files.get(name + ".came", b""))
-            is_prefix = any(mail.startswith(rest) for mail in taken + [b""])
+            is_prefix = any(file.startswith(rest) for file in taken + [b""])
             expect(set(came) <= set(taken) and is_prefix, f"{name}.came has others")
             is_all = files.get(name) == records[-1]
             expect(not is_all or is_part or set(taken) <= set(came), f"it is taken, and not in {name}.came")
-        for path, (mail, fate, desk) in self.mails.items():
-            is_there = any(body == mail for at, body in files.items() if at.startswith("in/") or ".mail/" in at)
-            is_done = fate in ("gone", "told") or fate == "taken" and saved[desk] and mail in files.get(desk + ".came", b"")
-            expect(is_there or is_done, f"the mail {path} is lost")
+        for path, (file, fate, desk) in self.message_files.items():
+            is_there = any(body == file for at, body in files.items() if at.startswith("in/") or ".mail/" in at)
+            is_taken = fate == "taken" and saved[desk] and file in files.get(desk + ".came", b"")
+            is_done = fate in ("gone", "printed") or is_taken
+            expect(is_there or is_done, f"the message file {path} is lost")
         for name, body in files.items():
             if name.startswith("out/") and not is_new(name):
                 expect(body and (body == self.end.get(name) or is_part), f"{name} is not whole")
@@ -371,14 +372,14 @@ class ShelfNight(Night):
         self.judge_marks(files, output)
         if not is_part:  # if the lines of a desk cannot be written, the others go on
             is_prefix = how in FAULTS or not output.endswith(b"\n") or output in self.prefixes()
-            expect(is_prefix, "other lines are told")
+            expect(is_prefix, "other lines are printed")
             for section in output.split(b"s/")[1:]:
-                name, is_told = "s/" + section.split(b":")[0].decode(), b" taken " in section.split(b"\ntaken ")[0]
-                expect(not is_told or saved[name], f"it is told, and not saved at {name}")
+                name, is_printed = "s/" + section.split(b":")[0].decode(), b" taken " in section.split(b"\ntaken ")[0]
+                expect(not is_printed or saved[name], f"it is printed, and not saved at {name}")
 
     def judge_marks(self, files, output):
         """Expects that each mark has the last word of its group, and that the retired group R has no desk. A run that
-        retires B leaves its mark, or all of its desk. What `output` tells is done in `files`."""
+        retires B leaves its mark, or all of its desk. What `output` prints is done in `files`."""
         for path, body in files.items():
             is_mark = body == b"retired\n" + of_group(path.split("/")[-1][:1].encode(), UNFILLED)
             expect(not path.endswith(".retired") or is_mark, f"{path} has another mark")
@@ -390,7 +391,7 @@ class ShelfNight(Night):
             is_retired = name + ".retired" in files and not beside
             expect(output != b"done\n" or is_retired, f"it says done, and left is {beside}")
         if self.words[1] == "act":
-            expect(output != b"done PENDING - 1/1\n" or "s/N.requester" in files, "it is told, and not saved")
+            expect(output != b"done PENDING - 1/1\n" or "s/N.requester" in files, "it is printed, and not saved")
 
     def judge_end(self):
         """Expects that all is done: nothing is left over, and each message file is where it belongs. Returns the
@@ -398,17 +399,17 @@ class ShelfNight(Night):
         files = self.files()
         left = {path for path in files if path.endswith((".new", ".lck")) or is_new(path)}
         expect(left <= {"s/A.%s.new" % self.role}, f"left: {left}")
-        for path, (mail, fate, desk) in self.mails.items():
-            if fate in ("taken", "gone", "told"):
-                there = [at for at, body in files.items() if body == mail and "in/" in at]
-                expect(not there, f"the mail {path} is at {there}")
+        for path, (file, fate, desk) in self.message_files.items():
+            if fate in ("taken", "gone", "printed"):
+                there = [at for at, body in files.items() if body == file and "in/" in at]
+                expect(not there, f"the message file {path} is at {there}")
             elif fate == "left":
-                expect(files.get(path) == mail, f"the mail {path} is not back in its folder")
+                expect(files.get(path) == file, f"the message file {path} is not back in its folder")
             else:
-                place = f"{desk}.mail/aside/" + hashlib.sha256(mail).hexdigest()
-                expect(files.get(place) == mail, f"the mail {path} is not put aside")
+                place = f"{desk}.mail/aside/" + hashlib.sha256(file).hexdigest()
+                expect(files.get(place) == file, f"the message file {path} is not quarantined")
                 why = files.get(place + ".why")
-                expect(why == fate.encode() + b"\n", f"why is {path} put aside: {why}")
+                expect(why == fate.encode() + b"\n", f"why is {path} quarantined: {why}")
         return files
 
     @staticmethod
@@ -422,9 +423,9 @@ class ShelfNight(Night):
         """Performs the night again, with the message files of retired groups that a partner brings again. Expects the
         files of a night that was never stopped. Message files of a group that this night has retired begin nothing, and
         are answered."""
-        for path, (mail, fate, _) in self.mails.items():
+        for path, (file, fate, _) in self.message_files.items():
             if fate == "gone":
-                write(os.path.join(self.at, path), mail)
+                write(os.path.join(self.at, path), file)
         status, _, errors = self.run()
         statuses = (self.whole[0], 0 if self.whole[0] == 1 else self.whole[0], *self.again)
         expect(status in statuses, f"again: {status}, {errors}")
@@ -453,14 +454,14 @@ def shelf_of_responder(program, shim, folder, *words):
     """Returns a night of a shelf of two desks and a retired group. A killed run has claimed a message file, and sorted
     another. A group is new. One message file alone begins a loan at each desk, so their order says nothing of the
     records."""
-    mails = {"s/.unsorted.mail/in/0000000001/a": (of_group(b"A", request(b"T2")), "taken", "s/A.responder"),
-             "s/B.responder.mail/in/0000000001/b": (of_group(b"B", request(b"T2")), "taken", "s/B.responder"),
-             "in/1": (of_group(b"A", encode(0x66, b"T1", 2)), "taken", "s/A.responder"),
-             "in/2": (of_group(b"N", request(b"T1")), "taken", "s/N.responder"),
-             "in/3": (b"junk", "short at 4", "s/.shelf"), "in/4": (of_group(b"R", request(b"T1")), "gone", ""),
-             "in/5": (of_group(b"X", shipped(b"T1")), "wrong-role", "s/.shelf"),
-             "in/6": (of_group(b"R", request(b"T9")), "told", "")}
-    night = ShelfNight(program, shim, folder, words, "responder", mails)
+    message_files = {"s/.unsorted.mail/in/0000000001/a": (of_group(b"A", request(b"T2")), "taken", "s/A.responder"),
+                     "s/B.responder.mail/in/0000000001/b": (of_group(b"B", request(b"T2")), "taken", "s/B.responder"),
+                     "in/1": (of_group(b"A", encode(0x66, b"T1", 2)), "taken", "s/A.responder"),
+                     "in/2": (of_group(b"N", request(b"T1")), "taken", "s/N.responder"),
+                     "in/3": (b"junk", "short at 4", "s/.shelf"), "in/4": (of_group(b"R", request(b"T1")), "gone", ""),
+                     "in/5": (of_group(b"X", shipped(b"T1")), "wrong-role", "s/.shelf"),
+                     "in/6": (of_group(b"R", request(b"T9")), "printed", "")}
+    night = ShelfNight(program, shim, folder, words, "responder", message_files)
     for group in ("A", "B", "R"):
         night.ill("shelf", "take", "s", given=of_group(group.encode(), request(b"T1")))
     night.ill("shelf", "act", "s", "R", "T1", "--today", "20250301", "answer", "unfilled")
@@ -472,11 +473,11 @@ def shelf_of_responder(program, shim, folder, *words):
 def shelf_of_requester(program, shim, folder, *words):
     """Returns a night of a shelf of two desks, which sends. A killed run has claimed a message file, and one message
     file is of a group that the shelf lacks."""
-    mails = {"s/.unsorted.mail/in/0000000001/a": (of_group(b"A", shipped(b"T1")), "taken", "s/A.requester"),
-             "in/1": (of_group(b"B", shipped(b"T1")), "taken", "s/B.requester"),
-             "in/2": (b"junk", "short at 4", "s/.shelf"),
-             "in/3": (of_group(b"X", shipped(b"T1")), "left", "")}
-    night = ShelfNight(program, shim, folder, words, "requester", mails)
+    message_files = {"s/.unsorted.mail/in/0000000001/a": (of_group(b"A", shipped(b"T1")), "taken", "s/A.requester"),
+                     "in/1": (of_group(b"B", shipped(b"T1")), "taken", "s/B.requester"),
+                     "in/2": (b"junk", "short at 4", "s/.shelf"),
+                     "in/3": (of_group(b"X", shipped(b"T1")), "left", "")}
+    night = ShelfNight(program, shim, folder, words, "requester", message_files)
     for group in ("A", "B"):
         night.ill("shelf", "act", "s", group, "T1", "--new-group", "request", "none", "Maps")
     os.mkdir(os.path.join(night.template, "copy"))
@@ -527,9 +528,9 @@ def requester(program, shim, folder, *words):
     """Returns a night of a requester. Three messages are taken, of which a killed run has claimed one. Two message
     files are quarantined, and one is of a loan that the desk lacks."""
     conditional = encode(0x64, b"T1", 1, element(0x84, b"\1"))
-    mails = {"a": (shipped(b"T3"), "taken"), "1": (conditional, "taken"), "2": (shipped(b"T2"), "taken"),
-             "3": (b"junk", "short at 4"), "4": (request(b"T1"), "wrong-role"), "5": (shipped(b"T9"), "left")}
-    night = Night(program, shim, folder, words, mails, {"a": 1})
+    message_files = {"a": (shipped(b"T3"), "taken"), "1": (conditional, "taken"), "2": (shipped(b"T2"), "taken"),
+                     "3": (b"junk", "short at 4"), "4": (request(b"T1"), "wrong-role"), "5": (shipped(b"T9"), "left")}
+    night = Night(program, shim, folder, words, message_files, {"a": 1})
     night.ill("new", "loan", "requester")
     for loan in ("T1", "T2", "T3"):
         night.ill("act", "loan", "G1", loan, "request", "none", "Maps")
@@ -540,8 +541,8 @@ def requester(program, shim, folder, *words):
 def responder(program, shim, folder, *words):
     """Returns a night of a responder. A message is taken, one asks in a loan that is over, one loan is overdue, and one
     expires."""
-    mails = {"1": (request(b"T4"), "taken"), "2": (request(b"T2"), "done")}
-    night = Night(program, shim, folder, words, mails)
+    message_files = {"1": (request(b"T4"), "taken"), "2": (request(b"T2"), "done")}
+    night = Night(program, shim, folder, words, message_files)
     night.ill("new", "loan", "responder")
     night.ill("take", "loan", given=request(b"T1") + request(b"T2") + request(b"T3", element(0x85, b"20250302")))
     night.ill("act", "loan", "G1", "T1", "--today", "20250301", "ship", "20250310")
@@ -555,7 +556,7 @@ def responder(program, shim, folder, *words):
 def sender(program, shim, folder, *words):
     """Returns a night of a responder's desk that sends, and is asked in a loan that is over."""
     night = responder(program, shim, folder, *words)
-    night.mails, night.records = {}, night.records[:1]
+    night.message_files, night.records = {}, night.records[:1]
     shutil.rmtree(os.path.join(night.template, "in"))
     os.mkdir(os.path.join(night.template, "in"))
     night.write("loan.mail/asked", request(b"T2"))

@@ -29,7 +29,7 @@ TITLES = {
     "unseen": "\u00ad\u200b\u2060\u2064 \u200c\u200d \U000e0001\U000e007f\U000e0080",
     "script": "<script>alert(1)</script>", "longest": "é" * 100}
 
-# The loans: who does what in turn, and whether its message is carried to the other desk ('>') or not.
+# The loans: the actions of both desks, one after another. After an action with '>' its message is carried.
 COURSES = {
     "asked": "here request none Maps",
     "begun": "here request 20250310 Maps>",
@@ -171,12 +171,12 @@ def loan_lines(loan):
         lines += ["", *message_lines(apdu, shown)]
     for apdu in loan["came"]:
         lines += ["", *message_lines(apdu, shown), "came yes"]
-    return lines + [""] * bool(loan["history"]) + [history_line(told) for told in loan["history"]]
+    return lines + [""] * bool(loan["history"]) + [history_line(entry) for entry in loan["history"]]
 
 
-def history_line(told):
-    """Returns the line of what the diary tells of a message."""
-    return f"history {day(told['day'])} {shown(or_dash(told['by']))} {told['what']} {told['number']}"
+def history_line(entry):
+    """Returns the line of what the diary says of a message."""
+    return f"history {day(entry['day'])} {shown(or_dash(entry['by']))} {entry['what']} {entry['number']}"
 
 
 def note_lines(label, loan):
@@ -263,7 +263,7 @@ def each(lines_of):
 
 # ---- the program
 
-# What `list --mine` tells on standard error if no day is given.
+# What `list --mine` prints on standard error if no day is given.
 LEFT_OUT = re.compile(rb"(?:ill: [^\n]* may want a hand by (?:its date|their dates): give --today DAY\n)?")
 
 
@@ -286,8 +286,8 @@ def unique(pairs):
 def compare(kind, words, lines_of, given=None):
     """Compares the output of a command with `--json` with its output without it. `kind` names the definition of the
     schema for its objects, and `lines_of` makes lines of these."""
-    told = run([*words, "--json"], given).decode("utf-8")
-    compare_texts(kind, " ".join(words), lines_of, told, run(words, given).decode("utf-8"))
+    printed = run([*words, "--json"], given).decode("utf-8")
+    compare_texts(kind, " ".join(words), lines_of, printed, run(words, given).decode("utf-8"))
 
 
 def compare_texts(kind, place, lines_of, text, lines):
@@ -313,7 +313,7 @@ def carry(source, target, txn, number):
     run(["take", target], run(["send", source, *txn, number]))
 
 
-def play(txn, course):
+def perform(txn, course):
     """Performs the course of a loan at both desks."""
     for step in re.findall(r"(here|there|late) ([^>]*?)(>|(?= (?:here|there|late) )|$)", course):
         who, words, carried = step
@@ -350,7 +350,7 @@ def compare_desks():
     txns = [titled(name, title) for name, title in TITLES.items()]
     for name, course in COURSES.items():
         txns.append(["Group of this", name])
-        play(txns[-1], course)
+        perform(txns[-1], course)
     for txn, title in zip(txns, TITLES.values()):
         run(["note", "here", *txn, title])
     compare("list", ["list", "here"], list_lines(False))
@@ -409,9 +409,9 @@ def compare_words():
             faults.append(f"docs/ill.schema.json: the words of {name} are {words}, and those of the sources {sources}")
     news = re.findall(r'"([^"]+)"', read(f"{TOP}/crates/ill_beside/src/news_words.rt").decode().partition("#[cfg")[0])
     fixed, dated = SCHEMA["$defs"]["words"]["anyOf"]
-    told = [word for word in news if not word.endswith(" ") and word != "renewal refused"]
-    if sorted(told) != sorted(fixed["enum"]):
-        faults.append(f"docs/ill.schema.json: the words of news are not those of the sources, {told}")
+    undated = [word for word in news if not word.endswith(" ") and word != "renewal refused"]
+    if sorted(undated) != sorted(fixed["enum"]):
+        faults.append(f"docs/ill.schema.json: the words of news are not those of the sources, {undated}")
     if sorted(word[:-1] for word in news if word.endswith(" ")) != sorted(dated["pattern"][2:].partition(")")[0].split("|")):
         faults.append(f"docs/ill.schema.json: the words of news with a day are not those of the sources, {news}")
     works = re.findall(r'=> "([^"]+)"', read(f"{TOP}/crates/ill_work/src/work.rt").decode())

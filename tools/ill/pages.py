@@ -66,9 +66,9 @@ ATTRIBUTES = set("lang charset name content http-equiv dir scope class".split())
 HEAD = ["Title", "Loan", "State", "Date", "Actions"]
 
 
-def tell(name, faults):
-    """Tells of a case. Some of its faults are shown."""
-    REPORT.tell(name, *faults[:4])
+def case(name, faults):
+    """Reports a case. Some of its faults are shown."""
+    REPORT.case(name, *faults[:4])
 
 
 def ill(*words, given=b""):
@@ -216,18 +216,18 @@ def loans_of(desk, begun, morning):
     titles, acted = begun
     txns = [line.partition(" ")[2] for line in lines("status", desk) if line.startswith("transaction ")]
     for txn in txns:
-        told = dict(line.partition(" ")[::2] for line in reversed(lines("loan", desk, GROUP, txn)))
-        due, expiry = day_or_none(told["due"]), day_or_none(told["expiry"])
-        loan = Loan(told["role"], told["state"], told["marks"].split(), due, expiry)
+        printed = dict(line.partition(" ")[::2] for line in reversed(lines("loan", desk, GROUP, txn)))
+        due, expiry = day_or_none(printed["due"]), day_or_none(printed["expiry"])
+        loan = Loan(printed["role"], printed["state"], printed["marks"].split(), due, expiry)
         date = f"due {iso(due)}" if due else f"expires {iso(expiry)}" if expiry else ""
-        verbs = [verb for verb in told["now"].split() if verb != "-" and morning.allows(loan, verb)]
-        notes = [shown(NOTE)] if "note" in told else []
+        verbs = [verb for verb in printed["now"].split() if verb != "-" and morning.allows(loan, verb)]
+        notes = [shown(NOTE)] if "note" in printed else []
         since = [f"since {iso(acted[desk, txn])}"] if (desk, txn) in acted else []
         yield loan, [shown(titles[txn]), notes + since, GROUP, txn, morning.state(loan), date, verbs]
 
 
 def check_desk(page, desk, begun, today):
-    """Compares what a page tells of a desk with what `loan` tells, by the tables of docs/PROTOCOL.md. `begun` is what
+    """Compares what a page says of a desk with what `loan` prints, by the tables of docs/PROTOCOL.md. `begun` is what
     `begin` has returned, and `today` the day of the page."""
     morning = Morning(today)
     loans = list(loans_of(desk, begun, morning))
@@ -239,7 +239,7 @@ def check_desk(page, desk, begun, today):
     faults += [f"{len(one[3])} rows of {one[0]}" for one, other in zip(found, wanted) if len(one[3]) != len(other[3])]
     counts = morning.counts([loan for loan, _ in loans])
     faults += [] if page.counts.get(desk) == counts else [f"{page.counts.get(desk)} and not {counts}"]
-    tell(f"{desk} on {today}: {len(loans)} loans in {len(wanted)} tables, with titles, states, days and verbs", faults)
+    case(f"{desk} on {today}: {len(loans)} loans in {len(wanted)} tables, with titles, states, days and verbs", faults)
 
 
 def check_unread():
@@ -248,14 +248,14 @@ def check_unread():
     with open("here", "rb") as whole, open("<i>", "wb") as damaged:
         damaged.write(whole.read()[:-1])
     done = ill("report", "here", "<i>", "none", "there", "--today", DAY)
-    page, told = Page(done.stdout.decode()), done.stderr.decode().splitlines()
-    fault = told[-1].removeprefix("ill: ") if told else ""
+    page, printed = Page(done.stdout.decode()), done.stderr.decode().splitlines()
+    fault = printed[-1].removeprefix("ill: ") if printed else ""
     wanted = {"<i>": f"This desk cannot be read: {fault}", "none": "This desk cannot be read: no-record"}
-    faults = page.faults + [f"{page.unread}"] * (page.unread != wanted) + [f"{told}"] * (
-        told != [f"ill: <i>: {fault}", "ill: none: no-record", f"ill: {fault}"])
+    faults = page.faults + [f"{page.unread}"] * (page.unread != wanted) + [f"{printed}"] * (
+        printed != [f"ill: <i>: {fault}", "ill: none: no-record", f"ill: {fault}"])
     faults += [f"status {done.returncode}"] * (done.returncode != 2)
     faults += [f"no part of {desk}" for desk in ("here", "there") if desk not in page.tables]
-    tell("desks that cannot be read have their faults on the page, beside the others", faults)
+    case("desks that cannot be read have their faults on the page, beside the others", faults)
 
 
 def brightness(colour):
@@ -300,7 +300,7 @@ def check_style(style):
     used = re.findall(r"(?:color|background|fill|stroke|border[a-z-]*): ([^;}]*)", style)
     faults += [f"a colour with no name: {use}" for use in used if "#" in use or "rgb" in use]
     faults += [f"{word} in the style" for word in ("url(", "@import", "http", "expression") if word in style]
-    tell(f"colours: a contrast of {least:.2f} at least", faults)
+    case(f"colours: a contrast of {least:.2f} at least", faults)
 
 
 def check_text(text):
@@ -309,7 +309,7 @@ def check_text(text):
     head = text[:1024]
     policy = "<meta http-equiv=\"Content-Security-Policy\" content=\"default-src 'none'; style-src 'unsafe-inline'\">"
     faults += [f"no {word}" for word in (policy, "<meta charset=\"utf-8\">", "name=\"viewport\"") if word not in head]
-    tell("the page has no scripts, and no references", faults)
+    case("the page has no scripts, and no references", faults)
 
 
 def chromium():
@@ -337,7 +337,7 @@ def check_browser(text, titles):
             file.write(text)
         seen = Page(browse(browser, folder, "--dump-dom", f"file://{folder}/page.html"))
         found = {row[0] for tables in seen.tables.values() for table in tables for row in table[3]}
-        tell("Chromium finds the same titles", [repr(shown(title)) for title in titles if shown(title) not in found])
+        case("Chromium finds the same titles", [repr(shown(title)) for title in titles if shown(title) not in found])
         for width in (320, 800, 1200):
             check_width(browser, folder, text, width)
     finally:
@@ -358,7 +358,7 @@ def check_width(browser, folder, text, width):
     faults = ["it was not rendered"] if found is None else []
     if found and (int(found[1]) > width or found[2] != "0"):
         faults.append(f"it is {found[1]} pixels wide, with {found[2]} foreign elements")
-    tell(f"at {width} pixels nothing stands beyond the edge", faults)
+    case(f"at {width} pixels nothing stands beyond the edge", faults)
     if os.environ.get("SHOTS"):
         browse(browser, folder, f"--window-size={width},6000", f"--screenshot={os.environ['SHOTS']}/{width}.png",
                f"file://{folder}/frame.html")
@@ -374,7 +374,7 @@ def main(program):
                          (["here", "there"], "20250502"), (["there"], DAY)):
         text = ill("report", *words, "--today", today).stdout.decode()
         page = Page(text)
-        tell(f"the page of {' and '.join(words)} is well formed", page.faults)
+        case(f"the page of {' and '.join(words)} is well formed", page.faults)
         for desk in words:
             check_desk(page, desk, begun, today)
     check_text(text)
@@ -383,16 +383,17 @@ def main(program):
     name = "a<b>&\"'\u202Ec"
     os.rename("here", name)
     page = Page(ill("report", name, "--today", DAY).stdout.decode())
-    tell("the name of a file is shown as text", [] if page.file == shown(name) and not page.faults else [repr(page.file)])
+    case("the name of a file is shown as text", [] if page.file == shown(name) and not page.faults else [repr(page.file)])
     lines("new", "empty", "requester")
     page = Page(ill("report", "empty", "--today", DAY).stdout.decode())
-    told = "To do: 0. Open: 0. Loans: 0. Room for 1000 more."
-    tell("a desk without loans has a page", page.faults or [str(page.counts)] * (page.counts != {"empty": told} or bool(page.tables)))
+    printed = "To do: 0. Open: 0. Loans: 0. Room for 1000 more."
+    case("a desk without loans has a page",
+         page.faults or [str(page.counts)] * (page.counts != {"empty": printed} or bool(page.tables)))
     for words, status, said in ((["report", "empty"], 2, ""),
                                 (["report", "empty", "--today", "20250230"], 2, "ill: arguments\n")):
         done = ill(*words)
         is_right = done.returncode == status and not done.stdout and (not said or done.stderr.decode() == said)
-        tell(f"ill {' '.join(words)}", [] if is_right else [f"{done.returncode} {done.stderr.decode()}"])
+        case(f"ill {' '.join(words)}", [] if is_right else [f"{done.returncode} {done.stderr.decode()}"])
     text = ill("report", name, "there", "--today", DAY).stdout.decode()
     check_browser(text, begun[0].values())
     return REPORT.status()

@@ -11,7 +11,7 @@ TOP = harness.TOP  # tools/texts may set another folder, which is laid out alike
 
 
 # Crates of tests that call rooms by the rooms' own names, and not by those that a library passes on.
-TESTS_OF_ROOMS = {"ill_desk_tests", "ill_disk_tests", "ill_mail_disk_kit", "ill_post_tests", "ill_room_tests"}
+TESTS_OF_ROOMS = {"ill_desk_tests", "ill_disk_tests", "ill_message_disk_kit", "ill_post_tests", "ill_room_tests"}
 
 
 class Unread(Exception):
@@ -88,7 +88,7 @@ class Comparison:
         if not is_so:
             self.faults.append(fault)
 
-    def told(self):
+    def summary(self):
         """Returns a text that says how many of each kind were compared."""
         return ", ".join(f"{count} {kind}" for kind, count in sorted(self.counts.items()))
 

@@ -135,7 +135,7 @@ class Case:
                                      ("role", slip.texts.get("p"), ["Asked by us" if desk == "here" else "Lent by us"])):
             faults += [f"the {label} is {found!r}, not {wanted!r}"] if found != wanted else []
         faults += check_head(text) + check_bars(slip, code)
-        REPORT.tell(f"the slip of {' '.join(names)} at {desk}", *faults[:4])
+        REPORT.case(f"the slip of {' '.join(names)} at {desk}", *faults[:4])
         return text
 
 

@@ -1,6 +1,6 @@
 """The news of a desk, as `ill news` writes them, in the words of its help. The sources have no part in it.
 
-A side of the model tells which messages it has taken. So nothing here asks a record whether it shows a message.
+A side of the model says which messages it has taken. So nothing here asks a record whether it shows a message.
 """
 import functools
 import re
@@ -101,7 +101,7 @@ def by_name(messages):
     return {(tuple(side.txn), apdu["number"]): (side, apdu) for side, apdu in messages}
 
 
-def told(sides, last=None, since=None):
+def printed_messages(sides, last=None, since=None):
     """Returns the last messages that are printed, each with its side, and how many there are in all. `last` is the most
     that are printed, or None for all. `since` is a `Since`, or None."""
     all_of = [(side, apdu) for side in sides for apdu in side.came]
@@ -110,17 +110,17 @@ def told(sides, last=None, since=None):
 
 
 def heard(sides, since):
-    """Returns what is printed of each loan since a day: the loan -> a list of the number and the words of each
+    """Returns what is printed about each loan since a day: the loan -> a list of the number and the words of each
     message."""
     loans = {tuple(side.txn): [] for side in sides}
-    for side, apdu in told(sides, since=since)[0]:
+    for side, apdu in printed_messages(sides, since=since)[0]:
         loans[tuple(side.txn)].append((apdu["number"], words_of(side, apdu)))
     return loans
 
 
 def news_lines(sides, last=None, since=None):
-    """Returns the lines of `news`. The parameters are those of `told`."""
-    rows, count = told(sides, last, since)
+    """Returns the lines of `news`. The parameters are those of `printed_messages`."""
+    rows, count = printed_messages(sides, last, since)
     cells = [[*map(column, side.txn), str(apdu["number"]), words_of(side, apdu)] for side, apdu in rows]
     widths = [max(map(len, texts)) for texts in zip(*cells)]
     widths[2:3] = [3] if widths else []
@@ -131,7 +131,7 @@ def news_lines(sides, last=None, since=None):
 
 def news_objects(sides, last=None, file=None, since=None):
     """Returns the objects of `news`, with the path `file` of the desk if it is given. The others are the parameters of
-    `told`."""
+    `printed_messages`."""
     return [{"kind": "news", "group": side.txn[0], "transaction": side.txn[1], "number": apdu["number"],
              "words": words_of(side, apdu), "item": side.asked()["item"], **({"file": file} if file else {})}
-            for side, apdu in told(sides, last, since)[0]]
+            for side, apdu in printed_messages(sides, last, since)[0]]

@@ -18,8 +18,8 @@ fn main(rt: HostRuntime) -> ExitCode {
     ExitCode::from(status)
 }
 
-/// Takes the descriptors of the standard streams that are closed, before any file can get one of them. A stream that was
-/// closed is then empty, and nothing can be written to it. If there is no `/dev/null`, closed streams stay closed.
+/// Takes the descriptors of the standard streams that are closed, before any file can get one of them. A stream that
+/// was closed is then empty, and nothing can be written to it. If there is no `/dev/null`, closed streams stay closed.
 fn hold_streams(rt: &HostRuntime) -> [Option<File>; 3] {
     [nothing(rt), nothing(rt), nothing(rt)]
 }

@@ -8,7 +8,7 @@ use Rattle.std.proofs.lemmas.Option.{same_Some}
 use Rattle.std.proofs.lemmas.Slice.Eq.{bytes_eq-Decides}
 use Rattle.ill_record.specs.Ranges.{Each}
 use Rattle.ill_words.specs.Words.{◌>>=◌}
-use Rattle.ill_beside.specs.Diary.{Named, Said, Told, history_of, is_named, is_of_record, part_at}
+use Rattle.ill_beside.specs.Diary.{Named, Said, PrintedPart, history_of, is_named, is_of_record, part_at}
 use Rattle.ill_beside.specs.Diary.{part_of, part_said, said_by, tells_of}
 
 -- ---- one line: what it adds to the history
@@ -70,11 +70,11 @@ found_there says test (first ∷ others) message is =
 -- `messages` are the messages of the record of a loan.
 module _ (messages : List Named) where
   -- The part is ours: it tells of one of `messages`.
-  abbrev pub IsOurs : Told → Type 0
+  abbrev pub IsOurs : PrintedPart → Type 0
   IsOurs part = is_of_record messages part ≡ true
 
   -- If a part is ours, and the others are, all are.
-  with_one : (part : Option Told) (others : List Told) → IfSome part IsOurs → Each IsOurs others
+  with_one : (part : Option PrintedPart) (others : List PrintedPart) → IfSome part IsOurs → Each IsOurs others
       → Each IsOurs (option_to_list part ++ others)
   unfolding Each
   with_one None others ours each = each

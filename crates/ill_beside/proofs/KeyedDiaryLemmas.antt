@@ -14,7 +14,7 @@ use Rattle.ill_beside.specs.Diary.{Named, Said, named, said_by}
 use Rattle.ill_beside.specs.KeyedDiary.{key_said, last_after, last_kept, last_named, later, latest, latest_among, looks_last}
 use Rattle.ill_beside.specs.KeyedDiary.{with_line}
 use Rattle.ill_beside.specs.Places.{ArePlaces, ByKey, has_key}
-use Rattle.ill_beside.specs.Since.{day_said, day_told, last_day}
+use Rattle.ill_beside.specs.Since.{day_said, day_printed, last_day}
 use Rattle.ill_beside.proofs.PlacesLemmas.{counted, kept_enough}
 
 -- ---- keys: they may be compared in either order
@@ -160,14 +160,14 @@ module _ (messages : List Named) where
   -- Let `day` be the day of the latest line so far. After `lines` the last day is again that of the latest line.
   lines_count : (place : ℕ) (last : List ℕ → Option LastLine) → ((key : List ℕ) → IsBefore place (last key))
       → (day : Option Date) → day ≡ day_of_line (latest last messages) → (lines : List (List ℕ))
-      → fold (λ found line. option_or (day_told messages line) found) day lines
+      → fold (λ found line. option_or (day_printed messages line) found) day lines
       ≡ day_of_line (latest (λ key. (fold (with_line key) (place, last key) lines).1) messages)
   lines_count place last before day is [] = is
   lines_count place last before day is (line ∷ lines) =
       lines_count (suc place) (λ key. last_after key place (said_by line) (last key))
       (λ key. after_before key place (said_by line) (last key) (before key))
-      (option_or (day_told messages line) day)
-      (ap (option_or (day_told messages line)) is ∙ line_counts place last before (said_by line)) lines
+      (option_or (day_printed messages line) day)
+      (ap (option_or (day_printed messages line)) is ∙ line_counts place last before (said_by line)) lines
 
   -- The day of the latest of the last lines of `messages` is the last day of `lines`.
   pub latest_counts : (lines : List (List ℕ)) → day_of_line (latest (last_named lines) messages) ≡ last_day messages lines

@@ -22,7 +22,8 @@ use Rattle.ill_values.proofs.Texts.{date_utf8}
 use Rattle.ill_words.specs.Words.{◌>>=◌}
 use Rattle.ill_text.specs.Diary.{message_key, name_or_dash, stamp_text}
 use Rattle.ill_text.specs.Keys.{key, key_byte, loan_key}
-use Rattle.ill_beside.specs.Diary.{EndsWith, IsWord, Named, Said, Told, at_space, history_of, is_space, part_at, part_of, said_by}
+use Rattle.ill_beside.specs.Diary.{EndsWith, IsWord, Named, Said, PrintedPart, at_space, history_of, is_space, part_at, part_of}
+use Rattle.ill_beside.specs.Diary.{said_by}
 use Rattle.ill_beside.specs.Diary.{said_in, said_on, says_of}
 use Rattle.ill_beside.proofs.DiaryLaws.{last_tells}
 
@@ -211,7 +212,7 @@ last_part messages (first ∷ before) line says message is found =
     let later = last_part messages before line says message is found in
     let part = option_to_list (part_at messages (before ++ line ∷ []) first) in (
       part ++ later.0,
-      ap (λ (parts : List Told). part ++ parts) later.1
+      ap (λ (parts : List PrintedPart). part ++ parts) later.1
           ∙ sym (append_assoc part later.0 (part_of says message ∷ [])),
     )
 

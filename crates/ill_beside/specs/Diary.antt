@@ -124,7 +124,7 @@ messages_of side kept =
 
 -- A part of the history of a loan: the day as eight digits and with hyphens, the name of a person or a dash, and the
 -- message.
-pub record Told : Type 0 where
+pub record PrintedPart : Type 0 where
   pub day : List ℕ
   pub iso : List ℕ
   pub by : List ℕ
@@ -132,12 +132,12 @@ pub record Told : Type 0 where
   pub number : ℕ
 
 -- Returns what a part tells.
-abbrev pub told : Part → Told
-told part =
+abbrev pub printed : Part → PrintedPart
+printed part =
     record { day = part.day; iso = part.iso; by = part.by.now; what = part.what.now; number = part.number }
 
 -- Returns the part of the history that a line tells of a message.
-abbrev pub part_of : Said → Named → Told
+abbrev pub part_of : Said → Named → PrintedPart
 part_of line message = record {
   day = date_text line.day;
   iso = iso_text line.day;
@@ -157,42 +157,42 @@ is_named key lines = list_any (λ line. has_key key (said_by line)) lines
 
 -- Returns the part of the history that a line tells of the first of `messages` with the key that it names. Returns None
 -- if no message has this key, or a line of `later` names this key too.
-abbrev pub part_said : (messages : List Named) → (later : List (List ℕ)) → Said → Option Told
+abbrev pub part_said : (messages : List Named) → (later : List (List ℕ)) → Said → Option PrintedPart
 part_said messages later line =
     if is_named line.message later then None
     else option_map (part_of line) (find (λ message. bytes_eq message.key line.message) messages)
 
 -- Returns the part of the history that a line tells, if it tells one. `later` are the lines after it.
-abbrev pub part_at : (messages : List Named) → (later : List (List ℕ)) → List ℕ → Option Told
+abbrev pub part_at : (messages : List Named) → (later : List (List ℕ)) → List ℕ → Option PrintedPart
 part_at messages later text = said_by text >>= part_said messages later
 
 -- Returns the history of a loan that has `messages`, by the lines of a diary: the last line of each message counts.
-unfoldable pub history_of : (messages : List Named) → (lines : List (List ℕ)) → List Told
+unfoldable pub history_of : (messages : List Named) → (lines : List (List ℕ)) → List PrintedPart
 history_of messages [] = []
 history_of messages (line ∷ later) = option_to_list (part_at messages later line) ++ history_of messages later
 
 -- Returns true if a part tells of `message`: it has its word and its number.
-abbrev pub tells_of : Told → Named → Bool
+abbrev pub tells_of : PrintedPart → Named → Bool
 tells_of part message = bytes_eq message.what part.what && message.number == part.number
 
 -- Returns true if a part tells of one of `messages`.
-abbrev pub is_of_record : (messages : List Named) → Told → Bool
+abbrev pub is_of_record : (messages : List Named) → PrintedPart → Bool
 is_of_record messages part = list_any (tells_of part) messages
 
 -- A history ends with `part`.
-abbrev pub EndsWith : List Told → Told → Type 0
-EndsWith history part = (before : List Told) × (history ≡ before ++ part ∷ [])
+abbrev pub EndsWith : List PrintedPart → PrintedPart → Type 0
+EndsWith history part = (before : List PrintedPart) × (history ≡ before ++ part ∷ [])
 
 -- ---- the text
 
 -- Returns the line of a part of the history: the day, the name of a person or a dash, and the message.
-abbrev pub part_line : Told → List ℕ
+abbrev pub part_line : PrintedPart → List ℕ
 part_line part =
     line (codes "history") (part.day
     ++ (codes " " ++ (escaped part.by ++ (codes " " ++ (part.what ++ (codes " " ++ decimal part.number))))))
 
 -- Returns the lines of a history after an empty line. A loan without a history has none.
-abbrev pub history_lines : List Told → List ℕ
+abbrev pub history_lines : List PrintedPart → List ℕ
 history_lines [] = []
 history_lines (part ∷ parts) = codes "\n" ++ flat_map part_line (part ∷ parts)
 
@@ -203,15 +203,15 @@ abbrev pub person : List ℕ → Option (List ℕ)
 person by = if bytes_eq by (codes "-") then None else Some by
 
 -- Returns the fields of a part of the history: the day, the name of a person, the message and its number.
-abbrev pub part_fields : Told → List Field
+abbrev pub part_fields : PrintedPart → List Field
 part_fields part =
     (codes "day", quoted part.iso) ∷ (codes "by", optional quoted (person part.by))
     ∷ (codes "what", quoted part.what) ∷ (codes "number", decimal part.number) ∷ []
 
 -- Returns the object of a part of the history.
-abbrev pub part_object : Told → List ℕ
+abbrev pub part_object : PrintedPart → List ℕ
 part_object part = object (part_fields part)
 
 -- Returns the field of a history: an array of its parts, in their order.
-abbrev pub history_fields : List Told → List Field
+abbrev pub history_fields : List PrintedPart → List Field
 history_fields parts = (codes "history", array part_object parts) ∷ []

@@ -56,9 +56,9 @@ lender_words due Expired = codes "expired"
 lender_words due other = news_words due other
 
 -- Returns the words of a message in the news of a side's loan: those of `lender_words` if the side is a responder.
-abbrev pub told_words : Side → Body → List ℕ
-told_words (sides.Requester x) body = news_words (due_date_of (sides.Requester x)) body
-told_words (sides.Responder y) body = lender_words (due_date_of (sides.Responder y)) body
+abbrev pub printed_words : Side → Body → List ℕ
+printed_words (sides.Requester x) body = news_words (due_date_of (sides.Requester x)) body
+printed_words (sides.Responder y) body = lender_words (due_date_of (sides.Responder y)) body
 
 -- Returns true if the words begin with `no: `.
 abbrev pub says_no : List ℕ → Bool

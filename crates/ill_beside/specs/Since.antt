@@ -40,12 +40,12 @@ day_said messages says =
     option_map (λ message. says.day) (find (λ message. bytes_eq message.key says.message) messages)
 
 -- Returns the day that a line tells: its own day, if the line names one of `messages`. Else returns None.
-abbrev pub day_told : (messages : List Named) → List ℕ → Option Date
-day_told messages text = said_by text >>= day_said messages
+abbrev pub day_printed : (messages : List Named) → List ℕ → Option Date
+day_printed messages text = said_by text >>= day_said messages
 
 -- Returns the day of the last of `lines` that names one of `messages`, if one does.
 abbrev pub last_day : (messages : List Named) → (lines : List (List ℕ)) → Option Date
-last_day messages lines = fold (λ found line. option_or (day_told messages line) found) None lines
+last_day messages lines = fold (λ found line. option_or (day_printed messages line) found) None lines
 
 -- Returns the day since which a loan stands as it does, if the annex tells it.
 unfoldable pub since_of : AnnexRead → Side → Option Date

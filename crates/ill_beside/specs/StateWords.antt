@@ -9,8 +9,8 @@ use Rattle.ill_core.specs.State.{state_name}
 use Rattle.ill_record.specs.declared.side.Side.{Side}
 use Rattle.ill_record.specs.declared.side.Side.TheVariants as sides
 
--- Returns the words for a requester's state. `declined` says that it declined the conditions, `received` that it issued a
--- Received, and `checked_in` that it has the checked-in mark. A state that no requester has keeps its name.
+-- Returns the words for a requester's state. `declined` says that it declined the conditions, `received` that it issued
+-- a Received, and `checked_in` that it has the checked-in mark. A state that no requester has keeps its name.
 abbrev pub requester_words : State → Bool → Bool → Bool → List ℕ
 requester_words Idle declined received checked_in = codes "Nothing is asked for yet."
 requester_words Pending declined received checked_in = codes "The request is open, as far as we know."

@@ -5,7 +5,7 @@ ghost use Rattle.std.specs.List.{flat_map};
 ghost use Rattle.std.specs.Fmt.{decimal};
 ghost use Rattle.ill_text.specs.Diary.{message_key};
 ghost use Rattle.ill_text.specs.Json.{array, joined, member, optional, quoted, value_text};
-ghost use Rattle.ill_beside.specs.Diary.{at_space, body_verb, has_key, history_fields, history_lines, history_of, is_named, issued_named, messages_of, named, named_by, part_at, part_fields, part_line, part_object, part_said, person, request_taken, said, said_by, said_in, said_on, taken_named, told};
+ghost use Rattle.ill_beside.specs.Diary.{at_space, body_verb, has_key, history_fields, history_lines, history_of, is_named, issued_named, messages_of, named, named_by, part_at, part_fields, part_line, part_object, part_said, person, request_taken, said, said_by, said_in, said_on, taken_named, printed};
 ghost use Rattle.ill_beside.specs.Heard.{is_heard};
 
 use crate::heard::is_heard;
@@ -207,26 +207,26 @@ pub fn history_of<'a>(
     messages: &[Message],
     lines: &'a [Vec<u8>],
 ) -> Result<Vec<Part<'a>>, OutOfMemory>
-    ensures { IfOk result (λ parts. map told parts.items
+    ensures { IfOk result (λ parts. map printed parts.items
         ≡ history_of (map named messages.now) (map (λ line. line.items) lines.now)) }
 {
     let mut parts = Vec::new(alloc);
     let mut rest = lines;
     while let Some((line, later)) = rest.split_first() {
-        push_told(&mut parts, messages, line, later)?;
+        push_printed(&mut parts, messages, line, later)?;
         rest = later;
     }
     Ok(parts)
 }
 
 /// Appends the part of the history that `line` tells, if it tells one. `later` are the lines after it.
-fn push_told<'a>(
+fn push_printed<'a>(
     parts: &mut Vec<Part<'a>>,
     messages: &[Message],
     line: &'a [u8],
     later: &[Vec<u8>],
 ) -> Result<(), OutOfMemory>
-    ensures { OnOk result (map told parts.new.items ≡ map told parts.old.items
+    ensures { OnOk result (map printed parts.new.items ≡ map printed parts.old.items
         ++ option_to_list (part_at (map named messages.now) (map (λ line. line.items) later.now) line.now)) }
 {
     if let Some(part) = part_at(messages, later, line) {
@@ -237,7 +237,7 @@ fn push_told<'a>(
 
 /// Returns the part of the history that `line` tells, if it tells one. `later` are the lines after it.
 fn part_at<'a>(messages: &[Message], later: &[Vec<u8>], line: &'a [u8]) -> Option<Part<'a>>
-    ensures { option_map told result
+    ensures { option_map printed result
         ≡ part_at (map named messages.now) (map (λ line. line.items) later.now) line.now }
 {
     match said_by(line) {
@@ -249,7 +249,7 @@ fn part_at<'a>(messages: &[Message], later: &[Vec<u8>], line: &'a [u8]) -> Optio
 /// Returns the part of the history that `entry` tells of the first of `messages` with the key that it names. Returns
 /// `None` if no message has this key, or a line of `later` names this key too.
 fn part_said<'a>(messages: &[Message], later: &[Vec<u8>], entry: &Entry<'a>) -> Option<Part<'a>>
-    ensures { option_map told result
+    ensures { option_map printed result
         ≡ part_said (map named messages.now) (map (λ line. line.items) later.now) (said entry.now) }
 {
     match message_with(messages, entry.message.as_bytes()) {
@@ -293,7 +293,7 @@ fn has_key(key: &[u8], line: &[u8]) -> bool
 
 /// Appends the lines of the history `parts` after an empty line. A loan without a history has none.
 pub fn push_history(text: &mut Vec<u8>, parts: &[Part<'_>]) -> Result<(), OutOfMemory>
-    ensures { OnOk result (text.new.items ≡ text.old.items ++ history_lines (map told parts.now)) }
+    ensures { OnOk result (text.new.items ≡ text.old.items ++ history_lines (map printed parts.now)) }
 {
     if parts.is_empty() {
         return Ok(());
@@ -304,7 +304,7 @@ pub fn push_history(text: &mut Vec<u8>, parts: &[Part<'_>]) -> Result<(), OutOfM
 
 /// Appends the line of each of `parts`.
 fn push_parts(text: &mut Vec<u8>, parts: &[Part<'_>]) -> Result<(), OutOfMemory>
-    ensures { OnOk result (text.new.items ≡ text.old.items ++ flat_map part_line (map told parts.now)) }
+    ensures { OnOk result (text.new.items ≡ text.old.items ++ flat_map part_line (map printed parts.now)) }
 {
     for part in parts {
         push_part(text, part)?;
@@ -314,7 +314,7 @@ fn push_parts(text: &mut Vec<u8>, parts: &[Part<'_>]) -> Result<(), OutOfMemory>
 
 /// Appends the line of `part`.
 fn push_part(text: &mut Vec<u8>, part: &Part<'_>) -> Result<(), OutOfMemory>
-    ensures { OnOk result (text.new.items ≡ text.old.items ++ part_line (told part.now)) }
+    ensures { OnOk result (text.new.items ≡ text.old.items ++ part_line (printed part.now)) }
 {
     let mut value = Vec::from_slice(*text.allocator(), &part.day)?;
     value.push(b' ')?;
@@ -338,7 +338,7 @@ fn push_what(value: &mut Vec<u8>, part: &Part<'_>) -> Result<(), OutOfMemory>
 #[tactic(auto, unfolding(ill_text::specs::Json::joined))]
 pub fn push_history_field(text: &mut Vec<u8>, parts: &[Part<'_>]) -> Result<(), OutOfMemory>
     ensures { OnOk result (text.new.items ≡ text.old.items
-        ++ joined member (codes ",") (history_fields (map told parts.now))) }
+        ++ joined member (codes ",") (history_fields (map printed parts.now))) }
 {
     push_plain(text, ",")?;
     push_label(text, "history")?;
@@ -347,7 +347,7 @@ pub fn push_history_field(text: &mut Vec<u8>, parts: &[Part<'_>]) -> Result<(), 
 
 /// Appends an array of the objects of `parts`.
 fn push_part_objects(text: &mut Vec<u8>, parts: &[Part<'_>]) -> Result<(), OutOfMemory>
-    ensures { OnOk result (text.new.items ≡ text.old.items ++ array part_object (map told parts.now)) }
+    ensures { OnOk result (text.new.items ≡ text.old.items ++ array part_object (map printed parts.now)) }
 {
     push_array(text, parts, &PartObjects)
 }
@@ -356,7 +356,7 @@ fn push_part_objects(text: &mut Vec<u8>, parts: &[Part<'_>]) -> Result<(), OutOf
 struct PartObjects;
 
 impl<'a> ItemForm<Part<'a>> for PartObjects {
-    ghost text_of = { λ _ part. part_object (told part) };
+    ghost text_of = { λ _ part. part_object (printed part) };
 
     fn push(&self, text: &mut Vec<u8>, part: &Part<'a>) -> Result<(), OutOfMemory> {
         push_part_object(text, part)
@@ -365,7 +365,7 @@ impl<'a> ItemForm<Part<'a>> for PartObjects {
 
 /// Appends the object of `part`.
 fn push_part_object(text: &mut Vec<u8>, part: &Part<'_>) -> Result<(), OutOfMemory>
-    ensures { OnOk result (text.new.items ≡ text.old.items ++ part_object (told part.now)) }
+    ensures { OnOk result (text.new.items ≡ text.old.items ++ part_object (printed part.now)) }
 {
     push_plain(text, "{")?;
     push_part_fields(text, part)?;
@@ -375,7 +375,7 @@ fn push_part_object(text: &mut Vec<u8>, part: &Part<'_>) -> Result<(), OutOfMemo
 /// Appends the fields of `part`.
 #[tactic(auto, unfolding(ill_text::specs::Json::joined))]
 fn push_part_fields(text: &mut Vec<u8>, part: &Part<'_>) -> Result<(), OutOfMemory>
-    ensures { OnOk result (text.new.items ≡ text.old.items ++ joined member [] (part_fields (told part.now))) }
+    ensures { OnOk result (text.new.items ≡ text.old.items ++ joined member [] (part_fields (printed part.now))) }
 {
     push_members(
         text,

@@ -13,7 +13,7 @@ ghost use Rattle.ill_beside.specs.BadNotes.{MisjudgesNote};
 ghost use Rattle.ill_record.specs.Ranges.{Each};
 ghost use Rattle.ill_beside.specs.Diary.{EndsWith, IsWord, Named, Said, history_of, is_named, is_of_record, part_of, said_by, says_of};
 ghost use Rattle.ill_text.specs.Diary.{message_key, name_or_dash, stamp_text};
-ghost use Rattle.ill_beside.specs.Since.{day_told, last_day};
+ghost use Rattle.ill_beside.specs.Since.{day_printed, last_day};
 ghost use Rattle.ill_beside.specs.Heard.{requester_heard};
 ghost use Rattle.ill_beside.specs.NewsWords.{news_words, says_no};
 ghost use Rattle.ill_beside.specs.Notes.{line_of, note_of};
@@ -104,13 +104,13 @@ pub fn the_last_line_ends_the_history()
 #[tactic(auto, using(crate::proofs::SinceLaws::last_counts))]
 pub fn the_last_line_tells_since_when()
     ensures { (messages : List Named) (lines : List (List ℕ)) (line : List ℕ) (day : Date) →
-        day_told messages line ≡ Some day → last_day messages (lines ++ line ∷ []) ≡ Some day }
+        day_printed messages line ≡ Some day → last_day messages (lines ++ line ∷ []) ≡ Some day }
 {}
 
 /// A line that names no message of the record changes no day.
 #[tactic(auto, using(crate::proofs::SinceLaws::others_stay))]
 pub fn another_line_tells_no_day()
-    ensures { (messages : List Named) (lines : List (List ℕ)) (line : List ℕ) → day_told messages line ≡ None →
+    ensures { (messages : List Named) (lines : List (List ℕ)) (line : List ℕ) → day_printed messages line ≡ None →
         last_day messages (lines ++ line ∷ []) ≡ last_day messages lines }
 {}
 
@@ -119,5 +119,5 @@ pub fn another_line_tells_no_day()
 pub fn an_entered_line_tells_its_day()
     ensures { (messages : List Named) (line : List ℕ) (says : Said) (message : Named) → said_by line ≡ Some says →
         find (λ other. bytes_eq other.key says.message) messages ≡ Some message →
-        day_told messages line ≡ Some says.day }
+        day_printed messages line ≡ Some says.day }
 {}

@@ -2,7 +2,7 @@
 
 ghost use Rattle.std.specs.Prelude.{◌≡◌, ◌++◌, IfOk};
 ghost use Rattle.ill_values.specs.Day.{iso_text};
-ghost use Rattle.ill_beside.specs.NewsWords.{answer_words, lender_words, news_words, refused_words, told_words};
+ghost use Rattle.ill_beside.specs.NewsWords.{answer_words, lender_words, news_words, refused_words, printed_words};
 
 use ill_saved::Side;
 use ill_values::{AnswerResult, Body, Day, OutOfMemory};
@@ -42,8 +42,8 @@ pub fn news_words(alloc: Global, due: Option<Day>, body: &Body) -> Result<Vec<u8
 }
 
 /// Returns the words of a message with this body in the news of the loan of `side`.
-pub fn told_words(alloc: Global, side: &Side, body: &Body) -> Result<Vec<u8>, OutOfMemory>
-    ensures { IfOk result (λ words. words.items ≡ told_words side.now body.now) }
+pub fn printed_words(alloc: Global, side: &Side, body: &Body) -> Result<Vec<u8>, OutOfMemory>
+    ensures { IfOk result (λ words. words.items ≡ printed_words side.now body.now) }
 {
     match side {
         Side::Requester(_) => news_words(alloc, side.due(), body),

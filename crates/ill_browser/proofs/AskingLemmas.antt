@@ -9,7 +9,7 @@ use Rattle.ill_browser.specs.declared.fault.VisitFault.TheVariants as refusals
 use Rattle.ill_browser.specs.Fields.{fields_in}
 use Rattle.ill_browser.specs.Visit.{RulesShown, VisitShown, body_size, decimal_value, form_size, has_user, is_form, is_look}
 use Rattle.ill_browser.specs.Visit.{is_numeral, is_own, is_post, is_root, size_said}
-use Rattle.ill_browser.specs.Wanted.{Asked, asked_by, asked_with, looked_of, posted_of, wanted_of}
+use Rattle.ill_browser.specs.Wanted.{Asked, asked_by, asked_with, asked_by_query, asked_by_form, wanted_of}
 
 -- ---- choices
 
@@ -120,7 +120,7 @@ pub record AsksByForm (rules : RulesShown) (v : VisitShown) (body : List ℕ) (a
   pub form : is_form v ≡ true
   pub few : length body ≤ 4096
   pub no_query : (length v.query == 0) ≡ true
-  pub posts : posted_of (fields_in body) ≡ Ok asked
+  pub posts : asked_by_form (fields_in body) ≡ Ok asked
 
 -- If a request is no look and gives `Ok asked`, it has no query, and `posted` is `Ok asked`.
 by_form_if : (look : Bool) (looked posted : Result Asked VisitFault) (no_query : Bool) (asked : Asked) → look ≡ false
@@ -131,10 +131,11 @@ by_form_if true looked posted no_query asked not_look e = search rules
 
 -- If `v` is no look and its fields ask for `asked`, it has no query, and its body asks.
 by_form : (v : VisitShown) (body : List ℕ) (asked : Asked) → is_look v ≡ false → asked_by v body ≡ Ok asked
-    → ((length v.query == 0) ≡ true) × (posted_of (fields_in body) ≡ Ok asked)
+    → ((length v.query == 0) ≡ true) × (asked_by_form (fields_in body) ≡ Ok asked)
 unfolding asked_by
 by_form v body asked not_look e =
-    by_form_if (is_look v) (looked_of (fields_in v.query)) (posted_of (fields_in body)) (length v.query == 0) asked not_look e
+    by_form_if (is_look v) (asked_by_query (fields_in v.query)) (asked_by_form (fields_in body)) (length v.query == 0) asked
+    not_look e
 
 -- If a request is a look and gives `Ok asked`, `looked` is `Ok asked`.
 by_query_if : (look : Bool) (looked other : Result Asked VisitFault) (asked : Asked) → look ≡ true
@@ -144,9 +145,9 @@ by_query_if false looked other asked look e = search rules
 
 -- If `v` is a look and its fields ask for `asked`, the fields of its query ask for it.
 by_query : (v : VisitShown) (body : List ℕ) (asked : Asked) → is_look v ≡ true → asked_by v body ≡ Ok asked
-    → looked_of (fields_in v.query) ≡ Ok asked
+    → asked_by_query (fields_in v.query) ≡ Ok asked
 unfolding asked_by
-by_query v body asked look e = by_query_if (is_look v) (looked_of (fields_in v.query)) _ asked look e
+by_query v body asked look e = by_query_if (is_look v) (asked_by_query (fields_in v.query)) _ asked look e
 
 -- If a request sends a form and asks for `asked`, it is a form as `AsksByForm` says.
 pub asks_by_form : (rules : RulesShown) (v : VisitShown) (body : List ℕ) (asked : Asked) → is_post v ≡ true
@@ -187,7 +188,7 @@ asks_few rules v body asked e =
 
 -- If a request looks at a page and asks for `asked`, the fields of its query ask for it.
 pub asks_by_query : (rules : RulesShown) (v : VisitShown) (body : List ℕ) (asked : Asked) → is_look v ≡ true
-    → wanted_of rules v body ≡ Ok asked → looked_of (fields_in v.query) ≡ Ok asked
+    → wanted_of rules v body ≡ Ok asked → asked_by_query (fields_in v.query) ≡ Ok asked
 asks_by_query rules v body asked look e = by_query v body asked look (asks_whole rules v body asked e).by
 
 -- If a request asks for something, its method is GET or POST.

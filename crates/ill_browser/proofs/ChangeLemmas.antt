@@ -9,7 +9,7 @@ use Rattle.ill_browser.specs.Fields.{Pair, are_named, count_named, fields_in, on
 use Rattle.ill_browser.specs.OwnForm.{IsOwnForm}
 use Rattle.ill_browser.specs.Visit.{RulesShown, VisitShown, is_look, is_post}
 use Rattle.ill_browser.specs.Wanted.{Asked, LoanAsked, Act, Note, act_named, act_names, is_change, loan_named, note_named}
-use Rattle.ill_browser.specs.Wanted.{note_names, or_fields, posted_of, wanted_of}
+use Rattle.ill_browser.specs.Wanted.{note_names, or_fields, asked_by_form, wanted_of}
 use Rattle.ill_browser.proofs.AskingLemmas.{asks_by_form, asks_by_query, look_or_post}
 use Rattle.ill_browser.proofs.LookLemmas.{looks_at, looks_change_nothing}
 use Rattle.ill_browser.proofs.NamingLemmas.{bind_gave, choice_gave, has_loan, named_by, no_stranger, not_both, not_twice}
@@ -48,9 +48,9 @@ note fields asked named e =
 refused : (fields : List Pair) (asked : Asked) (refusal : VisitFault) → Err refusal ≡ Ok asked → Posts fields asked
 refused fields asked refusal e = search rules
 
--- If `posted_of fields` is `Ok asked`, the fields ask for `asked` as an act or as a note (`Posts`). The tests of
--- `posted_of` are taken in their order.
-pub posts : (fields : List Pair) (asked : Asked) → posted_of fields ≡ Ok asked → Posts fields asked
+-- If `asked_by_form fields` is `Ok asked`, the fields ask for `asked` as an act or as a note (`Posts`). The tests of
+-- `asked_by_form` are taken in their order.
+pub posts : (fields : List Pair) (asked : Asked) → asked_by_form fields ≡ Ok asked → Posts fields asked
 posts fields asked e =
     ⊎_elim (λ at. act_posted fields asked at.0 at.1) (λ e.
     ⊎_elim (λ at. note fields asked at.0 at.1) (λ e. refused fields asked _ e)

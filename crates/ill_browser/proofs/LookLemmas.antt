@@ -9,7 +9,8 @@ use Rattle.ill_browser.specs.declared.fault.VisitFault.{VisitFault}
 use Rattle.ill_browser.specs.BadAsking.{is_among, query_names}
 use Rattle.ill_browser.specs.Fields.{Pair, are_named, count_named, only_named}
 use Rattle.ill_browser.specs.Wanted.{Asked, LoanAsked, Desks, Loan, Slip, Figures, ◌>>=◌, day_named, figures_named, figures_names}
-use Rattle.ill_browser.specs.Wanted.{find_names, found_named, is_change, is_slip, loan_named, loan_names, looked_of, or_fields}
+use Rattle.ill_browser.specs.Wanted.{find_names, found_named, is_change, is_slip, loan_named, loan_names, asked_by_query}
+use Rattle.ill_browser.specs.Wanted.{or_fields}
 use Rattle.ill_browser.specs.Wanted.{page_named, slip_named, slip_names}
 use Rattle.ill_browser.proofs.NamingLemmas.{are_once, bind_gave, choice_gave, has_loan, if_some, named_by, no_doubled}
 use Rattle.ill_browser.proofs.NamingLemmas.{no_stranger}
@@ -89,9 +90,9 @@ figures fields asked named e =
 refused : (fields : List Pair) (asked : Asked) (refusal : VisitFault) → Err refusal ≡ Ok asked → LooksAt fields asked
 refused fields asked refusal e = search rules
 
--- If `looked_of fields` is `Ok asked`, the fields ask for `asked` as one of the five pages (`LooksAt`). The tests of
--- `looked_of` are taken in their order.
-pub looks_at : (fields : List Pair) (asked : Asked) → looked_of fields ≡ Ok asked → LooksAt fields asked
+-- If `asked_by_query fields` is `Ok asked`, the fields ask for `asked` as one of the five pages (`LooksAt`). The tests
+-- of `asked_by_query` are taken in their order.
+pub looks_at : (fields : List Pair) (asked : Asked) → asked_by_query fields ≡ Ok asked → LooksAt fields asked
 looks_at fields asked e =
     ⊎_elim (λ at. desks fields asked at.0 at.1) (λ e.
     ⊎_elim (λ at. found fields asked at.0 at.1) (λ e.

@@ -146,24 +146,25 @@ abbrev pub or_fields : Option Asked → Result Asked VisitFault
 or_fields (Some asked) = Ok asked
 or_fields None = Err Fields
 
--- Returns the slip or the figures that a query asks for.
-abbrev pub looked_beside : List Pair → Result Asked VisitFault
-looked_beside fields =
+-- Returns the slip or the figures that a query asks for, or the refusal `Fields` if it asks for neither.
+abbrev pub slip_or_figures : List Pair → Result Asked VisitFault
+slip_or_figures fields =
     if are_named slip_names fields then or_fields (slip_named fields)
     else if are_named figures_names fields then or_fields (figures_named fields)
     else Err Fields
 
--- Returns the page that a query asks for: that of the desks, if it has no fields.
-abbrev pub looked_of : List Pair → Result Asked VisitFault
-looked_of fields =
+-- Returns the page that a query asks for, or the refusal `Fields`. A query without fields asks for the page of the
+-- desks.
+abbrev pub asked_by_query : List Pair → Result Asked VisitFault
+asked_by_query fields =
     if length fields == 0 then Ok (Desks None)
     else if are_named find_names fields then or_fields (found_named fields)
     else if are_named loan_names fields then or_fields (page_named fields)
-    else looked_beside fields
+    else slip_or_figures fields
 
 -- Returns the act or the note that the fields of a form ask for.
-abbrev pub posted_of : List Pair → Result Asked VisitFault
-posted_of fields =
+abbrev pub asked_by_form : List Pair → Result Asked VisitFault
+asked_by_form fields =
     if are_named act_names fields then or_fields (act_named fields)
     else if are_named note_names fields then or_fields (note_named fields)
     else Err Fields
@@ -171,8 +172,8 @@ posted_of fields =
 -- Returns what a request with this body asks for, by its fields alone.
 unfoldable pub asked_by : VisitShown → (body : List ℕ) → Result Asked VisitFault
 asked_by v body =
-    if is_look v then looked_of (fields_in v.query)
-    else if length v.query == 0 then posted_of (fields_in body)
+    if is_look v then asked_by_query (fields_in v.query)
+    else if length v.query == 0 then asked_by_form (fields_in body)
     else Err Fields
 
 -- Returns what a request with `body` asks for if the length of `body` is the size, or else `Cut`. A refusal in place of

@@ -1,5 +1,5 @@
-//! What a browser asks of the desks of a library: the meaning of a request that a web server hands over (CGI, RFC 3875).
-//! A request names desks and loans, and opens no file.
+//! What a browser asks of the desks of a library: the meaning of a request that a web server hands over (CGI, RFC
+//! 3875). A request names desks and loans, and opens no file.
 #![tactic(auto)]
 
 mod body;

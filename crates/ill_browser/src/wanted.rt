@@ -5,7 +5,7 @@ ghost use Rattle.std.specs.Result.{result_ok};
 ghost use Rattle.ill_values.specs.TxnId.{txn_id_of};
 ghost use Rattle.ill_browser.specs.Fields.{field_shown, only_named};
 ghost use Rattle.ill_browser.specs.Visit.{body_size, rules_shown, visit_shown};
-ghost use Rattle.ill_browser.specs.Wanted.{Answers, Reads, ReadsNamed, act_named, asked_by, day_named, figures_named, found_named, is_slip, loan_asked, loan_named, looked_beside, looked_of, note_named, or_fields, posted_of, slip_named, wanted_of};
+ghost use Rattle.ill_browser.specs.Wanted.{Answers, Reads, ReadsNamed, act_named, asked_by, day_named, figures_named, found_named, is_slip, loan_asked, loan_named, slip_or_figures, asked_by_query, note_named, or_fields, asked_by_form, slip_named, wanted_of};
 
 use crate::body::read_body;
 use crate::fault::VisitFault;
@@ -117,7 +117,7 @@ fn asked_by(alloc: Global, visit: &Visit<'_>, body: &[u8]) -> Result<Wanted, Vis
 
 /// Reads the page that the fields of a query ask for.
 fn looked(alloc: Global, fields: &[Field<'_>]) -> Result<Wanted, VisitFault>
-    ensures { Reads (looked_of (map field_shown fields.now)) result }
+    ensures { Reads (asked_by_query (map field_shown fields.now)) result }
 {
     if fields.is_empty() {
         Ok(Wanted::Desks { find: None })
@@ -126,13 +126,13 @@ fn looked(alloc: Global, fields: &[Field<'_>]) -> Result<Wanted, VisitFault>
     } else if are_named(fields, &LOAN_NAMES) {
         Ok(Wanted::Loan(loan(alloc, fields)?))
     } else {
-        looked_beside(alloc, fields)
+        slip_or_figures(alloc, fields)
     }
 }
 
 /// Reads the slip or the figures that the fields of a query ask for.
-fn looked_beside(alloc: Global, fields: &[Field<'_>]) -> Result<Wanted, VisitFault>
-    ensures { Reads (looked_beside (map field_shown fields.now)) result }
+fn slip_or_figures(alloc: Global, fields: &[Field<'_>]) -> Result<Wanted, VisitFault>
+    ensures { Reads (slip_or_figures (map field_shown fields.now)) result }
 {
     if are_named(fields, &SLIP_NAMES) {
         slip(alloc, fields)
@@ -199,7 +199,7 @@ fn day(fields: &[Field<'_>], name: &str) -> Result<Day, VisitFault>
 
 /// Reads the act or the note that the fields of a form ask for. Refuses fields that ask for neither with `Fields`.
 fn posted(alloc: Global, fields: &[Field<'_>]) -> Result<Wanted, VisitFault>
-    ensures { Reads (posted_of (map field_shown fields.now)) result }
+    ensures { Reads (asked_by_form (map field_shown fields.now)) result }
 {
     if are_named(fields, &ACT_NAMES) {
         act(alloc, fields)

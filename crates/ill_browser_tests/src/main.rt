@@ -8,7 +8,8 @@
 //!
 //! - `# ..`, or an empty line: printed unchanged.
 //! - `look NAME:TEXT ..`: a request of a page.
-//! - `post BODY NAME:TEXT ..`: a form of a page of the desk, which anna sent, with this body and its length. `-` is none.
+//! - `post BODY NAME:TEXT ..`: a form of a page of the desk, which anna sent, with this body and its length. `-` is
+//!   none.
 //!
 //! A `NAME:TEXT` is another text of the environment: `path`, `query`, `site`, `origin`, `user`, `type` or `length`. Or
 //! `method` is another method. Or `open` is any text, and the operator wants no user. The operator's origin is

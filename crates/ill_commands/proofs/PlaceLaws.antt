@@ -12,38 +12,38 @@ use Rattle.ill_commands.specs.Note.{NotesAtFile}
 use Rattle.ill_commands.specs.Streams.{Streams}
 
 -- If no desk starts at `place`, no action that is done or tried there ends well.
-pub acts_nowhere : {S : Type 0} (place : PlaceOf S) (asked : Asking) (is_long is_well : Bool) (before after : Option (List ℕ))
-    → ((desk : DeskOf DeskContents S) → StartsAt place desk → ⊥) → ActsAtFile place asked is_long before after (Ok is_well) → ⊥
-acts_nowhere place asked is_long is_well before after elsewhere (inl fails) = absurd fails.0
-acts_nowhere place asked is_long is_well before after elsewhere (inr acts) = elsewhere acts.0 acts.2
+pub acts_nowhere : {S : Type 0} (place : PlaceOf S) (asked : Asking) (is_long is_success : Bool) (before after : Option (List ℕ))
+    → ((desk : DeskOf DeskContents S) → StartsAt place desk → ⊥) → ActsAtFile place asked is_long before after (Ok is_success) → ⊥
+acts_nowhere place asked is_long is_success before after elsewhere (inl fails) = absurd fails.0
+acts_nowhere place asked is_long is_success before after elsewhere (inr acts) = elsewhere acts.0 acts.2
 
 -- If no desk starts at `place`, no `take` ends well there.
-pub takes_nowhere : {S : Type 0} (place : PlaceOf S) (form : TakeForm) (is_well : Bool) (old new : Streams)
-    → ((desk : DeskOf DeskContents S) → StartsAt place desk → ⊥) → TakesAtFile place form old (Ok is_well) new → ⊥
-takes_nowhere place form is_well old new elsewhere (inl fails) = absurd fails.0.0
-takes_nowhere place form is_well old new elsewhere (inr takes) = elsewhere takes.0 takes.2
+pub takes_nowhere : {S : Type 0} (place : PlaceOf S) (form : TakeForm) (is_success : Bool) (old new : Streams)
+    → ((desk : DeskOf DeskContents S) → StartsAt place desk → ⊥) → TakesAtFile place form old (Ok is_success) new → ⊥
+takes_nowhere place form is_success old new elsewhere (inl fails) = absurd fails.0.0
+takes_nowhere place form is_success old new elsewhere (inr takes) = elsewhere takes.0 takes.2
 
 -- If no desk starts at `place`, no `send` ends well there.
-pub sends_nowhere : {S : Type 0} (place : PlaceOf S) (message : MessageOf) (is_well : Bool) (before after : Option (List ℕ))
-    → ((desk : DeskOf DeskContents S) → StartsAt place desk → ⊥) → SendsAtFile place message before after (Ok is_well) → ⊥
-sends_nowhere place message is_well before after elsewhere (inl fails) = absurd fails.0
-sends_nowhere place message is_well before after elsewhere (inr sends) = elsewhere sends.0 sends.1
+pub sends_nowhere : {S : Type 0} (place : PlaceOf S) (message : MessageOf) (is_success : Bool) (before after : Option (List ℕ))
+    → ((desk : DeskOf DeskContents S) → StartsAt place desk → ⊥) → SendsAtFile place message before after (Ok is_success) → ⊥
+sends_nowhere place message is_success before after elsewhere (inl fails) = absurd fails.0
+sends_nowhere place message is_success before after elsewhere (inr sends) = elsewhere sends.0 sends.1
 
 -- If no desk starts at `place`, no `status` ends well there.
-pub shows_nowhere : {S : Type 0} (place : PlaceOf S) (form : Form) (is_well : Bool) (before after : Option (List ℕ))
-    → ((desk : DeskOf DeskContents S) → StartsAt place desk → ⊥) → ShowsFile place form before after (Ok is_well) → ⊥
-shows_nowhere place form is_well before after elsewhere (inl fails) = absurd fails.0
-shows_nowhere place form is_well before after elsewhere (inr shows) = elsewhere shows.0 shows.1
+pub shows_nowhere : {S : Type 0} (place : PlaceOf S) (form : Form) (is_success : Bool) (before after : Option (List ℕ))
+    → ((desk : DeskOf DeskContents S) → StartsAt place desk → ⊥) → ShowsFile place form before after (Ok is_success) → ⊥
+shows_nowhere place form is_success before after elsewhere (inl fails) = absurd fails.0
+shows_nowhere place form is_success before after elsewhere (inr shows) = elsewhere shows.0 shows.1
 
 -- If no desk starts at `place`, no `slip` ends well there.
-pub slips_nowhere : {S : Type 0} (place : PlaceOf S) (txn : Qualifiers) (is_well : Bool) (before after : Option (List ℕ))
-    → ((desk : DeskOf DeskContents S) → StartsAt place desk → ⊥) → SlipAtFile place txn before after (Ok is_well) → ⊥
-slips_nowhere place txn is_well before after elsewhere (inl fails) = absurd fails.0
-slips_nowhere place txn is_well before after elsewhere (inr slips) = elsewhere slips.0 slips.1
+pub slips_nowhere : {S : Type 0} (place : PlaceOf S) (txn : Qualifiers) (is_success : Bool) (before after : Option (List ℕ))
+    → ((desk : DeskOf DeskContents S) → StartsAt place desk → ⊥) → SlipAtFile place txn before after (Ok is_success) → ⊥
+slips_nowhere place txn is_success before after elsewhere (inl fails) = absurd fails.0
+slips_nowhere place txn is_success before after elsewhere (inr slips) = elsewhere slips.0 slips.1
 
 -- If no desk starts at `place`, no `note` ends well there.
-pub notes_nowhere : {S : Type 0} (place : PlaceOf S) (txn : Qualifiers) (words : List ℕ) (is_well : Bool)
+pub notes_nowhere : {S : Type 0} (place : PlaceOf S) (txn : Qualifiers) (words : List ℕ) (is_success : Bool)
     (before after : Option (List ℕ))
-    → ((desk : DeskOf DeskContents S) → StartsAt place desk → ⊥) → NotesAtFile place txn words before after (Ok is_well) → ⊥
-notes_nowhere place txn words is_well before after elsewhere (inl fails) = absurd fails.0
-notes_nowhere place txn words is_well before after elsewhere (inr notes) = elsewhere notes.0 notes.1
+    → ((desk : DeskOf DeskContents S) → StartsAt place desk → ⊥) → NotesAtFile place txn words before after (Ok is_success) → ⊥
+notes_nowhere place txn words is_success before after elsewhere (inl fails) = absurd fails.0
+notes_nowhere place txn words is_success before after elsewhere (inr notes) = elsewhere notes.0 notes.1

@@ -10,9 +10,9 @@ use Rattle.ill_text.specs.declared.fault.ToolFault.{ToolFault}
 use Rattle.ill_text.specs.declared.form.Form.{Form}
 use Rattle.ill_text.specs.Fault.{IsOpenFault}
 use Rattle.ill_text.specs.Output.{WritesText}
-use Rattle.ill_files.specs.Opening.{FailsToOpen, GoesWell, after_writing, all_well}
+use Rattle.ill_files.specs.Opening.{FailsToOpen, Succeeds, after_writing, all_succeed}
 use Rattle.ill_place.specs.Place.{IsAt, PlaceOf, StartsAt}
-use Rattle.ill_desk.specs.Performing.{CommandState, HeldAndLanded, command_state, view_of, with_input}
+use Rattle.ill_desk.specs.Performing.{CommandState, HeldAndCommitted, command_state, view_of, with_input}
 use Rattle.ill_desk.specs.New.{BeginsIn, RunsNew}
 use Rattle.ill_desk.specs.ActAs.{Asking, RunsActAs}
 use Rattle.ill_desk.specs.Telling.{wording}
@@ -44,18 +44,18 @@ abbrev pub NewAtFile : {S : Type 0} → PlaceOf S → Role → Option (List ℕ)
 NewAtFile {S} place role before after result =
     FailsToOpen before after result
     ⊎ ((old new : S) × (begun : Result (Unit {0}) ToolFault) × BeginsDesk place role old begun new
-    × RunsNew (codes "done\n") before after begun × (result ≡ all_well begun))
+    × RunsNew (codes "done\n") before after begun × (result ≡ all_succeed begun))
 
 -- ---- actions
 
 -- After an action with the answer `acted`, the item of its loan was written, if `is_long` is true and there is no
 -- fault.
-abbrev pub TellsItem : (is_long : Bool) → (item : Option (List ℕ)) → (acted : Result Bool ToolFault) → Option (List ℕ) →
+abbrev pub PrintsItem : (is_long : Bool) → (item : Option (List ℕ)) → (acted : Result Bool ToolFault) → Option (List ℕ) →
     Option (List ℕ) → Result Bool ToolFault → Type 0
-TellsItem true item (Ok is_well) before after result =
+PrintsItem true item (Ok is_success) before after result =
     (written : Result (Unit {0}) ToolFault) × WritesText before after (item_line item) written
-    × (result ≡ after_writing written (Ok is_well))
-TellsItem is_long item acted before after result = (result ≡ acted) × (after ≡ before)
+    × (result ≡ after_writing written (Ok is_success))
+PrintsItem is_long item acted before after result = (result ≡ acted) × (after ≡ before)
 
 -- The action `asked`, for which a person asks, was performed at a desk, or tried. If `is_long` is true, the item of the
 -- loan was written after it.
@@ -64,7 +64,7 @@ abbrev pub ActsOn : Asking → (is_long : Bool) → (old : CommandState DeskCont
 ActsOn asked is_long old result new =
     (between : Option (List ℕ)) × (acted : Result Bool ToolFault)
     × RunsActAs asked old acted (command_state new.desk between)
-    × TellsItem is_long (item_of (side_with asked.txn (sides_held new.desk.live).sides)) acted between new.written result
+    × PrintsItem is_long (item_of (side_with asked.txn (sides_held new.desk.live).sides)) acted between new.written result
 
 -- The action was performed or tried at the desk of the place. Or its file could not be opened.
 abbrev pub ActsAtFile : {S : Type 0} → PlaceOf S → Asking → (is_long : Bool) → Option (List ℕ) → Option (List ℕ) →
@@ -78,7 +78,7 @@ ActsAtFile {S} place asked is_long before after result =
 -- ---- messages
 
 -- Returns the state of a command on `desk` with these streams.
-abbrev pub with_streams : HeldAndLanded DeskContents → Streams → CommandState DeskContents
+abbrev pub with_streams : HeldAndCommitted DeskContents → Streams → CommandState DeskContents
 with_streams desk streams = with_input streams.unread (command_state desk streams.written)
 
 -- The APDUs of the input were taken at a desk, in this form. Or a file beside it could not be opened, and nothing
@@ -91,7 +91,8 @@ TakesOn form old result new =
 
 -- The APDUs of the input were taken at a desk, which went from `before` to `after`. Its streams went from `old` to
 -- `new`.
-abbrev pub TakesHere : TakeForm → (before after : HeldAndLanded DeskContents) → Streams → Result Bool ToolFault → Streams → Type 0
+abbrev pub TakesHere : TakeForm → (before after : HeldAndCommitted DeskContents) → Streams → Result Bool ToolFault → Streams
+    → Type 0
 TakesHere form before after old result new =
     TakesOn form (with_streams before old) result (with_streams after new)
 
@@ -117,7 +118,7 @@ abbrev pub SendsAtFile : {S : Type 0} → PlaceOf S → MessageOf → Option (Li
 SendsAtFile {S} place message before after result =
     FailsToOpen before after result
     ⊎ ((desk : DeskOf DeskContents S) × StartsAt place desk
-    × GoesWell (RunsSend (found_by txn_held message.txn desk.live.held) message.number before after) result)
+    × Succeeds (RunsSend (found_by txn_held message.txn desk.live.held) message.number before after) result)
 
 -- ---- what is shown
 
@@ -126,7 +127,7 @@ abbrev pub ShowsFile : {S : Type 0} → PlaceOf S → Form → Option (List ℕ)
 ShowsFile {S} place form before after result =
     FailsToOpen before after result
     ⊎ ((desk : DeskOf DeskContents S) × StartsAt place desk
-    × GoesWell (WritesText before after (status_of_desk form desk.live.held)) result)
+    × Succeeds (WritesText before after (status_of_desk form desk.live.held)) result)
 
 -- The transaction `txn` at the desk of the place was shown or drawn. `beside` has the notes, the diary and the messages
 -- that came, whose content no contract tells. Or a file could not be opened.
@@ -135,7 +136,7 @@ abbrev pub LoanAtFile : {S : Type 0} → PlaceOf S → LoanForm → Qualifiers �
 LoanAtFile {S} place form txn before after result =
     FailsToOpen before after result
     ⊎ ((desk : DeskOf DeskContents S) × StartsAt place desk × (beside : FilesBeside)
-    × GoesWell (RunsLoan form beside (found_by txn_held txn desk.live.held) before after) result)
+    × Succeeds (RunsLoan form beside (found_by txn_held txn desk.live.held) before after) result)
 
 -- The slip of the transaction `txn` at the desk of the place was written. Or its file could not be opened.
 abbrev pub SlipAtFile : {S : Type 0} → PlaceOf S → Qualifiers → Option (List ℕ) → Option (List ℕ) → Result Bool ToolFault →
@@ -143,11 +144,11 @@ abbrev pub SlipAtFile : {S : Type 0} → PlaceOf S → Qualifiers → Option (Li
 SlipAtFile {S} place txn before after result =
     FailsToOpen before after result
     ⊎ ((desk : DeskOf DeskContents S) × StartsAt place desk
-    × GoesWell (RunsSlip (found_by txn_held txn desk.live.held) before after) result)
+    × Succeeds (RunsSlip (found_by txn_held txn desk.live.held) before after) result)
 
 -- The record in the store at the place was verified, and its lines written in this form. Or the file could not be
 -- opened.
 abbrev pub VerifiesFile : {S : Type 0} → PlaceOf S → Form → Option (List ℕ) → Option (List ℕ) → Result Bool ToolFault → Type 0
 VerifiesFile {S} place form before after result =
     FailsToOpen before after result
-    ⊎ ((store : S) × IsAt place store × GoesWell (RunsVerify form (place.state store) before after) result)
+    ⊎ ((store : S) × IsAt place store × Succeeds (RunsVerify form (place.state store) before after) result)

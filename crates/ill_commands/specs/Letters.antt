@@ -7,7 +7,7 @@ use Rattle.ill_seal.specs.Letter.{sealed}
 use Rattle.ill_key.specs.KeyCommand.{IsKeyFault}
 use Rattle.ill_key.specs.Letter.{LeavesSealed, OpensLetter, own_sender}
 use Rattle.ill_text.specs.declared.fault.ToolFault.{ToolFault}
-use Rattle.ill_files.specs.Opening.{GoesWell}
+use Rattle.ill_files.specs.Opening.{Succeeds}
 use Rattle.ill_place.specs.Place.{PlaceOf, StartsAt}
 use Rattle.ill_desk.specs.Send.{RunsSendAs}
 use Rattle.ill_commands.specs.AtFile.{MessageOf, SendsAtFile}
@@ -53,7 +53,7 @@ abbrev pub SendsLetterAtFile : {S : Type 0} → PlaceOf S → MessageOf → (bef
 SendsLetterAtFile {S} place message before after result =
     (IsErrAnd result IsKeyFault × (after ≡ before))
     ⊎ ((desk : DeskOf DeskContents S) × StartsAt place desk × (key : List ℕ)
-    × GoesWell (RunsSendAs (sealed key (own_sender (many_sides.role desk.live)))
+    × Succeeds (RunsSendAs (sealed key (own_sender (many_sides.role desk.live)))
     (found_by txn_held message.txn desk.live.held) message.number before after) result)
 
 -- The command `take`. Without a key `Takes` says its effect. With a key `TakesSealed` does.

@@ -11,7 +11,7 @@ use Rattle.ill_text.specs.declared.fault.ToolFault.TheVariants.{Desk}
 use Rattle.ill_text.specs.Output.{WritesText}
 use Rattle.ill_beside.specs.Notes.{kept_line, note_text}
 use Rattle.ill_desk.specs.Take.{KeepsPrefix}
-use Rattle.ill_files.specs.Opening.{FailsToOpen, GoesWell}
+use Rattle.ill_files.specs.Opening.{FailsToOpen, Succeeds}
 use Rattle.ill_place.specs.Place.{PlaceOf, StartsAt}
 use Rattle.ill_commands.specs.declared.note.NoteView.{NoteView}
 
@@ -21,15 +21,15 @@ text_of view = note_text (map (λ word. word.now) view.words.now)
 
 -- Once the line of a note was kept, `done` was written. If it was not kept, the result is its fault, and nothing was
 -- written.
-abbrev pub TellsKept : Result (Unit {0}) ToolFault → Option (List ℕ) → Option (List ℕ) → Result (Unit {0}) ToolFault → Type 0
-TellsKept (Ok done) before after result = WritesText before after (codes "done\n") result
-TellsKept (Err fault) before after result = (result ≡ Err fault) × (after ≡ before)
+abbrev pub PrintsKept : Result (Unit {0}) ToolFault → Option (List ℕ) → Option (List ℕ) → Result (Unit {0}) ToolFault → Type 0
+PrintsKept (Ok done) before after result = WritesText before after (codes "done\n") result
+PrintsKept (Err fault) before after result = (result ≡ Err fault) × (after ≡ before)
 
 -- The notes grew from `kept` to `now` by the line of a note, and the output went from `before` to `after`.
 abbrev pub RunsNote : (line : List ℕ) → (kept now : Option (List ℕ)) → Option (List ℕ) → Option (List ℕ) →
     Result (Unit {0}) ToolFault → Type 0
 RunsNote line kept now before after result =
-    (saved : Result (Unit {0}) ToolFault) × KeepsPrefix line kept now saved × TellsKept saved before after result
+    (saved : Result (Unit {0}) ToolFault) × KeepsPrefix line kept now saved × PrintsKept saved before after result
 
 -- The line of a note was kept in the file of notes. Or that could not be opened, and nothing was written.
 abbrev pub KeepsAtFile : (line : List ℕ) → Option (List ℕ) → Option (List ℕ) → Result (Unit {0}) ToolFault → Type 0
@@ -50,4 +50,4 @@ abbrev pub NotesAtFile : {S : Type 0} → PlaceOf S → Qualifiers → (words : 
 NotesAtFile {S} place txn words before after result =
     FailsToOpen before after result
     ⊎ ((desk : DeskOf DeskContents S) × StartsAt place desk
-    × GoesWell (KeepsNote (side_with txn (sides_held desk.live).sides) (kept_line txn words) before after) result)
+    × Succeeds (KeepsNote (side_with txn (sides_held desk.live).sides) (kept_line txn words) before after) result)

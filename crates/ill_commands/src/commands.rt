@@ -3,11 +3,11 @@
 
 ghost use Rattle.std.specs.Prelude.{◌≡◌, option_copied};
 ghost use Rattle.ill_show.specs.ItemLine.{item_of};
-ghost use Rattle.ill_commands.specs.AtFile.{ActsAtFile, ActsOn, LoanAtFile, NewAtFile, SendsAtFile, ShowsFile, SlipAtFile, TakesAtFile, TakesHere, TellsItem, VerifiesFile, message_of};
+ghost use Rattle.ill_commands.specs.AtFile.{ActsAtFile, ActsOn, LoanAtFile, NewAtFile, SendsAtFile, ShowsFile, SlipAtFile, TakesAtFile, TakesHere, PrintsItem, VerifiesFile, message_of};
 ghost use Rattle.ill_commands.specs.Streams.{streams_of};
 ghost use Rattle.ill_desk.specs.ActAs.{RunsActAs, asking_of};
 ghost use Rattle.ill_desk.specs.Performing.{command_state, view_of};
-ghost use Rattle.ill_files.specs.Opening.{after_writing, all_well};
+ghost use Rattle.ill_files.specs.Opening.{after_writing, all_succeed};
 ghost use Rattle.ill_place.specs.Place.{place_of};
 ghost use Rattle.ill_saved.specs.Desk.{DeskOf};
 ghost use Rattle.ill_saved.specs.ManySides.{DeskContents};
@@ -21,12 +21,12 @@ use ill_desk::take::{TakeForm, run_desk_take_as};
 use ill_files::came::{came_bytes, open_came};
 use ill_files::diary::{open_came_diary, warn_of_diary};
 use ill_files::machine::Machine;
-use ill_files::open::{after_writing, all_well, end};
+use ill_files::open::{after_writing, all_succeed, end};
 use ill_place::place::{DeskFiles, DeskPlace, LockedAt};
 use ill_saved::{Desk, Role, Side, Store};
 use ill_show::item_line::write_item;
 use ill_show::loan::{Beside, LoanView, run_desk_loan};
-use ill_show::numbers::push_told;
+use ill_show::numbers::push_printed;
 use ill_show::status::run_desk_status_as;
 use ill_show::verify::run_desk_verify;
 use ill_slip::slip::run_desk_slip;
@@ -84,7 +84,7 @@ pub fn act_at<T: Files, D: DeskFiles, W: Write, E: Write>(
         (command_state (view_of D.DeskStore.state desk) (W.contents machine.new.writer)) }
 {
     let acted = act_and_enter(machine, file, &mut locked.desk, view);
-    let told = tell_item(
+    let printed = print_item(
         machine.alloc,
         locked.desk.sides().get(view.txn),
         is_long,
@@ -92,7 +92,7 @@ pub fn act_at<T: Files, D: DeskFiles, W: Write, E: Write>(
         &mut machine.writer,
     );
     if acted.is_ok() {
-        tell_numbers_of(
+        print_numbers_of(
             machine.alloc,
             file,
             &locked.desk,
@@ -101,7 +101,7 @@ pub fn act_at<T: Files, D: DeskFiles, W: Write, E: Write>(
         );
     }
     drop(locked);
-    told
+    printed
 }
 
 /// Performs or tries the action of `view` at `desk`. If the day of the action is given, the action is entered in the
@@ -127,14 +127,14 @@ fn act_and_enter<T: Files, S: Store, W: Write, E: Write>(
 
 /// Writes the item of the loan of `side` after the line of an action, if `is_long` is set and the answer `acted` is no
 /// fault. Returns that answer, or the fault of the writing.
-fn tell_item<W: Write>(
+fn print_item<W: Write>(
     alloc: Global,
     side: Option<&Side>,
     is_long: bool,
     acted: Result<bool, ToolFault>,
     writer: &mut W,
 ) -> Result<bool, ToolFault>
-    ensures { TellsItem is_long (item_of (option_copied side.entry)) acted (W.contents writer.old) (W.contents writer.new) result }
+    ensures { PrintsItem is_long (item_of (option_copied side.entry)) acted (W.contents writer.old) (W.contents writer.new) result }
 {
     if acted.is_err() || !is_long {
         return acted;
@@ -144,7 +144,7 @@ fn tell_item<W: Write>(
 
 /// Writes to `errors` the count of the numbers that the loan `txn` has left, if these are few. The line begins with
 /// `file`, the path of the desk.
-fn tell_numbers_of<S: Store, E: Write>(
+fn print_numbers_of<S: Store, E: Write>(
     alloc: Global,
     file: &str,
     desk: &Desk<S>,
@@ -153,7 +153,7 @@ fn tell_numbers_of<S: Store, E: Write>(
 ) {
     let mut line = Vec::new(alloc);
     if let Some(side) = desk.sides().get(txn)
-        && push_told(&mut line, file, side).is_ok()
+        && push_printed(&mut line, file, side).is_ok()
     {
         let _ = errors.write_all(&line);
     }
@@ -242,7 +242,7 @@ pub fn send<T, D: DeskFiles, W: Write, E: Write>(
     let desk = place.open(machine.alloc)?;
     let sent = run_desk_send(machine.alloc, &desk, txn, number, &mut machine.writer);
     drop(desk);
-    all_well(sent)
+    all_succeed(sent)
 }
 
 /// `ill status`: writes the state of each loan of the desk of `place`, in `form`. Returns true, or the fault.
@@ -257,7 +257,7 @@ pub fn status<T, D: DeskFiles, W: Write, E: Write>(
     let desk = place.open(machine.alloc)?;
     let shown = run_desk_status_as(machine.alloc, &desk, form, &mut machine.writer);
     drop(desk);
-    all_well(shown)
+    all_succeed(shown)
 }
 
 /// `ill loan`: shows all that is known of the transaction of `view`, or draws it. Returns true, or the fault.
@@ -280,7 +280,7 @@ pub fn loan<T: Files, D: DeskFiles, W: Write, E: Write>(
     };
     let shown = run_desk_loan(machine.alloc, &desk, view, &beside, &mut machine.writer);
     drop(desk);
-    all_well(shown)
+    all_succeed(shown)
 }
 
 /// `ill slip`: writes the slip of the transaction `txn`. Returns true, or the fault.
@@ -295,7 +295,7 @@ pub fn slip<T, D: DeskFiles, W: Write, E: Write>(
     let desk = place.open(machine.alloc)?;
     let written = run_desk_slip(machine.alloc, &desk, txn, &mut machine.writer);
     drop(desk);
-    all_well(written)
+    all_succeed(written)
 }
 
 /// `ill verify`: checks the record in the file of `place`, and writes its numbers in `form`. Returns true if it is a
@@ -311,5 +311,5 @@ pub fn verify<T, D: DeskFiles, W: Write, E: Write>(
     let mut store = place.store(machine.alloc)?;
     let verified = run_desk_verify(machine.alloc, &mut store, form, &mut machine.writer);
     drop(store);
-    all_well(verified)
+    all_succeed(verified)
 }

@@ -18,8 +18,8 @@ pub struct LateDiary<'a, 'b, 'c, T, E> {
     errors: &'c mut E,
 }
 
-/// Returns the entry of `line` in the diary beside `file`, which is not opened yet. If there was no memory for the line, it
-/// writes a line to the errors, and enters nothing.
+/// Returns the entry of `line` in the diary beside `file`, which is not opened yet. If there was no memory for the
+/// line, it writes a line to the errors, and enters nothing.
 pub fn late_entry<'a, 'b, 'c, T, E: Write>(
     rt: &'a T,
     alloc: Global,

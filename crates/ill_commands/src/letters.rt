@@ -13,7 +13,7 @@ ghost use Rattle.ill_commands.specs.Streams.{streams_of};
 
 use crate::commands::{TakeView, send, take, take_at};
 use ill_files::machine::Machine;
-use ill_files::open::all_well;
+use ill_files::open::all_succeed;
 use ill_key::Key;
 use ill_key::key_file::read_key;
 use ill_key::letter::{open_letter, write_letter};
@@ -132,7 +132,7 @@ fn send_letter<T: Files, D: DeskFiles, W: Write, E: Write>(
     let desk = place.open(machine.alloc)?;
     let sent = send_letter_of(machine, &desk, &key, txn, number);
     drop(desk);
-    all_well(sent)
+    all_succeed(sent)
 }
 
 /// Writes the letter that has the message `number` of the side of `txn` at `desk`, sealed with `key`.

@@ -10,7 +10,7 @@ use ill_beside::notes::{kept_line, note_text};
 use ill_desk::take::keep_bytes;
 use ill_files::machine::Machine;
 use ill_files::notes::open_notes;
-use ill_files::open::all_well;
+use ill_files::open::all_succeed;
 use ill_place::place::{DeskFiles, DeskPlace};
 use ill_saved::{DeskFault, Sides};
 use ill_text::fault::ToolFault;
@@ -42,7 +42,7 @@ pub fn note<T: Files, D: DeskFiles, W: Write, E: Write>(
     let locked = place.open_locked(machine.alloc)?;
     let kept = keep_if_held(machine, place.path, locked.desk.sides(), view);
     drop(locked);
-    all_well(kept)
+    all_succeed(kept)
 }
 
 /// Keeps the note of `view` beside `file`, if `sides` have its loan. Else it fails with `NoSuchTransaction`.

@@ -28,7 +28,7 @@ use Rattle.ill_core.specs.declared.refusal.Refusal.{Refusal}
 use Rattle.ill_core.specs.declared.refusal.Refusal.TheVariants.{OtherTransaction, WrongRole}
 use Rattle.ill_core.specs.declared.taking.Taking.{Taking}
 use Rattle.ill_core.specs.Issued.{Admits, first_refusal}
-use Rattle.ill_core.specs.ResponderDeliveries.{MayWantMemory, answers_no, Takes, take_message, takes_memory, takes}
+use Rattle.ill_core.specs.ResponderDeliveries.{MayRunOutOfMemory, answers_no, Takes, take_message, takes_memory, takes}
 use Rattle.ill_core.specs.Answers.{unless_refused}
 use Rattle.ill_core.proofs.ResponderTransitions.{IsTransition, answers, allows_cancel, refuses_cancel, ships, renews}
 use Rattle.ill_core.proofs.ResponderTransitions.{refuses_renewal, refuses_late, reminds, reminds_renewing, recalls, checks_in}
@@ -264,10 +264,10 @@ admits_none (Some refusal) h = search rules
 -- If the first refusal of an APDU is `None`, the responder answers as `take_message` says.
 pub takes_admitted : (y new : ResponderRecord) (a : Apdu) (answer : Result Taking Refusal)
     → first_refusal y.txn (not (is_requesters a.body)) a ≡ None
-    → MayWantMemory (take_message y a a.body) (takes_memory y a.body) y answer new → Takes y a answer new
+    → MayRunOutOfMemory (take_message y a a.body) (takes_memory y a.body) y answer new → Takes y a answer new
 takes_admitted y new a answer admitted comes =
     let same : takes y a ≡ take_message y a a.body = ap (λ o. unless_refused o y (take_message y a a.body)) admitted in
-    subst (λ expected. MayWantMemory expected (takes_memory y a.body) y answer new) (sym same) comes
+    subst (λ expected. MayRunOutOfMemory expected (takes_memory y a.body) y answer new) (sym same) comes
 
 -- ---- deliveries
 

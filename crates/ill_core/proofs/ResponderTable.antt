@@ -38,7 +38,7 @@ use Rattle.ill_core.specs.ResponderTables.{deed_row, check, check_date, deed_bod
 use Rattle.ill_core.specs.ResponderTables.{issued_after, after_delivery, is_row_with_memory, IsRefused, number_refusal}
 use Rattle.ill_core.specs.ResponderTables.{refusal_of}
 use Rattle.ill_core.specs.ResponderTables.{delivery_guards, delivery_rows, delivery_row, delivery_row_of}
-use Rattle.ill_core.specs.ResponderDeliveries.{MayWantMemory, answers_no, take_message, takes_memory}
+use Rattle.ill_core.specs.ResponderDeliveries.{MayRunOutOfMemory, answers_no, take_message, takes_memory}
 use Rattle.ill_core.specs.ResponderActions.{Transition, leads_to, issues_to, if_allowed, no_date, expiry_of, transition_of, acts}
 use Rattle.ill_core.specs.ResponderActions.{acts_by, Acts}
 use Rattle.ill_core.proofs.Rules.{responder_rules, is_responder}
@@ -200,7 +200,7 @@ implied false b h is = search rules
 -- If `row` is the first that fits and is refused, the definitions allow this refusal.
 pub takes_refused : (y : ResponderRecord) (a : Apdu) (row : Row RequesterKind) (refusal : Refusal)
     → delivery_row y a ≡ Some row → IsRefused row.4 y.issued refusal
-    → MayWantMemory (take_message y a a.body) (takes_memory y a.body) y (Err refusal) y
+    → MayRunOutOfMemory (take_message y a a.body) (takes_memory y a.body) y (Err refusal) y
 takes_refused y a row OutOfMemory is refused =
     let both = and_parts _ _ (implied _ _ (row_grown y a row is) refused.0) in
     (sym (ap (λ answer. answer.0) (takes_numbered y a row is refused.1)) ∙ ap Ok (new_taken row.3 y.state both.1), both.0, refl)

@@ -112,12 +112,12 @@ takes_memory y other = false
 
 -- A call returns the expected answer and record. If the expected answer is `Taken` and `memory` is true, it may return
 -- `OutOfMemory` instead, and not change the record.
-abbrev pub MayWantMemory : Result Taking Refusal × ResponderRecord → Bool → ResponderRecord →
+abbrev pub MayRunOutOfMemory : Result Taking Refusal × ResponderRecord → Bool → ResponderRecord →
     Result Taking Refusal → ResponderRecord → Type 0
-MayWantMemory expected memory old (Err refusals.OutOfMemory) new =
+MayRunOutOfMemory expected memory old (Err refusals.OutOfMemory) new =
     (expected.0 ≡ Ok Taken) × (memory ≡ true) × (new ≡ old)
-MayWantMemory expected memory old answer new = (answer, new) ≡ expected
+MayRunOutOfMemory expected memory old answer new = (answer, new) ≡ expected
 
 -- A responder in record `old` answers APDU `a` with `answer`, and `new` is the record after it.
 abbrev pub Takes : ResponderRecord → Apdu → Result Taking Refusal → ResponderRecord → Type 0
-Takes old a answer new = MayWantMemory (takes old a) (takes_memory old a.body) old answer new
+Takes old a answer new = MayRunOutOfMemory (takes old a) (takes_memory old a.body) old answer new

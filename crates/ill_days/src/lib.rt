@@ -8,8 +8,8 @@ pub mod laws;
 
 use ill_values::{Day, DayFault};
 
-/// Returns the day of `text`, which is eight digits, as `20250315`, or has hyphens, as `2025-03-15` (ISO 8601-1, the basic
-/// and the extended format). The fault of any other text is that of `Day::read`.
+/// Returns the day of `text`, which is eight digits, as `20250315`, or has hyphens, as `2025-03-15` (ISO 8601-1, the
+/// basic and the extended format). The fault of any other text is that of `Day::read`.
 pub fn read_day(text: &[u8]) -> Result<Day, DayFault>
     ensures { result ≡ read_day text.now }
 {

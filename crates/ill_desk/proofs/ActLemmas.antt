@@ -61,12 +61,12 @@ module _ {L K : Type 0} (effects : Effects L K) (key : K) where
     | inr memory ↦ subst (λ (f : ToolFault). RunsTrial effects key named now (Err f) now) (sym memory) (trial_unread named now)
   ]
 
--- If `Tried`, `Done` and `Told` hold, so does the one of them that `was_seen` and `is_trial` choose.
-each_holds : {Tried Done Told : Type 0} (was_seen is_trial : Bool) → Tried → Done → Told
-    → IfSo was_seen (IfSo is_trial Tried Done) Told
-each_holds true true tried done told = tried
-each_holds true false tried done told = done
-each_holds false is_trial tried done told = told
+-- If `Tried`, `Done` and `PrintedMessage` hold, so does the one of them that `was_seen` and `is_trial` choose.
+each_holds : {Tried Done PrintedMessage : Type 0} (was_seen is_trial : Bool) → Tried → Done → PrintedMessage
+    → IfSo was_seen (IfSo is_trial Tried Done) PrintedMessage
+each_holds true true tried done printed = tried
+each_holds true false tried done printed = done
+each_holds false is_trial tried done printed = printed
 
 -- An action for which a person asks may return `OutOfMemory` if it writes and changes nothing.
 pub unseen : (asked : Asking) (now : CommandState DeskContents) → RunsActAs asked now (Err OutOfMemory) now
@@ -94,13 +94,13 @@ entered_or_not false fault line old new same = inr same
 
 -- If the diary changed as `outcome` says, and its words were written with `result`, the diary changed as `result`
 -- says.
-pub enters_told : (words : Words) (before after : Option (List ℕ)) (outcome : DeskOutcome) (now : Shown)
+pub enters_printed : (words : Words) (before after : Option (List ℕ)) (outcome : DeskOutcome) (now : Shown)
     (result : Result Bool ToolFault) (line : List ℕ) (old new : DiaryState)
     → WritesOutcome words before after outcome now result → EntersDone (Ok (is_fine outcome)) line old new
     → EntersDone result line old new
-enters_told words before after outcome now (Ok fine) line old new writes enters =
+enters_printed words before after outcome now (Ok fine) line old new writes enters =
     subst (λ (is : Bool). EntersDone (Ok is) line old new) (sym writes.2.0) enters
-enters_told words before after outcome now (Err fault) line old new writes enters =
+enters_printed words before after outcome now (Err fault) line old new writes enters =
     entered_or_not (is_fine outcome) fault line old new enters
 
 -- If the answer is a fault, `EntersUnlessTried` allows that nothing was entered.
@@ -109,7 +109,7 @@ pub enters_unasked : (is_trial : Bool) (fault : ToolFault) (line : List ℕ) (no
 enters_unasked true fault line now = refl
 enters_unasked false fault line now = inr refl
 
--- If the line of a change was told with `result`, `EntersUnlessTried` allows that nothing was entered.
+-- If the line of a change was printed with `result`, `EntersUnlessTried` allows that nothing was entered.
 pub enters_unseen : (is_trial : Bool) (shown : Shown) (before after : Option (List ℕ)) (result : Result Bool ToolFault)
     (line : List ℕ) (now : DiaryState)
     → WritesChange shown before after result → EntersUnlessTried is_trial result line now now

@@ -14,7 +14,7 @@ use Rattle.ill_desk.specs.declared.take.TakeForm.{TakeForm}
 use Rattle.ill_desk.specs.declared.take.TakesEach.{TakesEach}
 use Rattle.ill_saved.specs.Desk.{DeskOf}
 use Rattle.ill_saved.specs.Holdings.{Effects}
-use Rattle.ill_desk.specs.Performing.{HeldAndLanded, CommandState, command_state, with_input, with_kept}
+use Rattle.ill_desk.specs.Performing.{HeldAndCommitted, CommandState, command_state, with_input, with_kept}
 use Rattle.ill_text.specs.Fault.{ToolFailsCounted}
 use Rattle.ill_desk.specs.Telling.{wording}
 use Rattle.ill_desk.specs.Take.{BorrowedParts, borrowed_parts, CountsTaking, KeepsBorrowed, Progress, progress, TakesMessage}
@@ -166,7 +166,7 @@ pub record IsTaken {X : Type 0} (Runs : Type 0) (is_kept : Bool) (result : Resul
 
 -- An input is taken on a borrowed desk, in the form that its handler has. `view` returns what is known of a desk, and
 -- `failures` the failures of its store. `kept` returns the kept bytes, and `contents` the output.
-module _ {H S D A B C L N W : Type 0} (effects : Effects L N) (view : DeskOf H S → HeldAndLanded L)
+module _ {H S D A B C L N W : Type 0} (effects : Effects L N) (view : DeskOf H S → HeldAndCommitted L)
     (failures : DeskOf H S → ℕ) (kept : D → Option (List ℕ)) (contents : W → Option (List ℕ)) where
   -- Returns the state of the command, without its input, at the state `s` of its handler.
   abbrev command_at : TakesEach H S D A B C × W → CommandState L

@@ -7,14 +7,14 @@ use Rattle.ill_text.specs.declared.fault.ToolFault.{ToolFault}
 use Rattle.ill_text.specs.declared.fault.ToolFault.TheVariants.{Arguments, OutOfMemory}
 use Rattle.ill_text.specs.Diary.{DiaryState, Enters}
 use Rattle.ill_saved.specs.Holdings.{Effects}
-use Rattle.ill_desk.specs.Performing.{HeldAndLanded, CommandState, acted, Performs}
+use Rattle.ill_desk.specs.Performing.{HeldAndCommitted, CommandState, acted, Performs}
 use Rattle.ill_desk.specs.Telling.{is_fine, shown_at, side_line, Reports}
 
 -- An action on the side `key` leads from `old` to `new`, with this result. It was done and saved. Or it was
 -- refused, and nothing changed. Or it was done, and the save failed. Or memory ran out before it was done or
 -- saved.
-abbrev pub ActsAndSaves : {L K : Type 0} → Effects L K → K → HeldAndLanded L → Action → Result DeskOutcome ToolFault →
-    HeldAndLanded L → Type 0
+abbrev pub ActsAndSaves : {L K : Type 0} → Effects L K → K → HeldAndCommitted L → Action → Result DeskOutcome ToolFault →
+    HeldAndCommitted L → Type 0
 ActsAndSaves effects key old action result new =
     Performs effects (Unit {0}) old (acted old.live (effects.acts old.live key action)) result new
 

@@ -17,7 +17,7 @@ use Rattle.ill_text.specs.declared.fault.ToolFault.TheVariants.{OutOfMemory}
 use Rattle.ill_text.specs.Diary.{DiaryState, diary_line}
 use Rattle.ill_text.specs.Output.{WritesText}
 use Rattle.ill_desk.specs.declared.act_as.ActionView.{ActionView}
-use Rattle.ill_desk.specs.Performing.{CommandState, HeldAndLanded, acted, is_change}
+use Rattle.ill_desk.specs.Performing.{CommandState, HeldAndCommitted, acted, is_change}
 use Rattle.ill_desk.specs.Act.{EntersDone, RunsAct}
 use Rattle.ill_desk.specs.Actions.{action_named}
 use Rattle.ill_desk.specs.Telling.{Reports, once_saved, shown_at, side_line}
@@ -62,8 +62,8 @@ WritesChange now before after result =
     (written : Result (Unit {0}) ToolFault) × WritesText before after (changed_line now) written × (result ≡ not_done written)
 
 -- The side is shown as `now`, and was not seen so. The line of this change was written, and nothing else changed.
-abbrev pub TellsChange : {L : Type 0} → Shown → CommandState L → Result Bool ToolFault → CommandState L → Type 0
-TellsChange now old result new = (new.desk ≡ old.desk) × WritesChange now old.written new.written result
+abbrev pub PrintsChange : {L : Type 0} → Shown → CommandState L → Result Bool ToolFault → CommandState L → Type 0
+PrintsChange now old result new = (new.desk ≡ old.desk) × WritesChange now old.written new.written result
 
 -- ---- a trial
 
@@ -76,11 +76,12 @@ tried_shown outcome now = if is_change outcome then once_saved now else now
 abbrev pub trial_line : DeskOutcome → Shown → List ℕ
 trial_line outcome now = side_line outcome (tried_shown outcome now)
 
--- An action on the side `key` was tried, with this result, and nothing was saved. Or memory ran out, and nothing changed.
-abbrev pub TriesAction : {L K : Type 0} → Effects L K → K → HeldAndLanded L → Action → Result DeskOutcome ToolFault →
-    HeldAndLanded L → Type 0
+-- An action on the side `key` was tried, with this result, and nothing was saved. Or memory ran out, and nothing
+-- changed.
+abbrev pub TriesAction : {L K : Type 0} → Effects L K → K → HeldAndCommitted L → Action → Result DeskOutcome ToolFault →
+    HeldAndCommitted L → Type 0
 TriesAction effects key old action result new =
-    (new.landed ≡ old.landed)
+    (new.committed ≡ old.committed)
     × (((result ≡ (acted old.live (effects.acts old.live key action)).0)
     × (new.live ≡ (acted old.live (effects.acts old.live key action)).1))
     ⊎ ((result ≡ Err OutOfMemory) × (new.live ≡ old.live)))
@@ -117,7 +118,7 @@ RunsOrTries asked old result new =
 abbrev pub RunsActAs : Asking → CommandState DeskContents → Result Bool ToolFault → CommandState DeskContents → Type 0
 RunsActAs asked old result new =
     IfSo (is_as_seen asked.seen (shown_at many_sides asked.txn old.desk.live)) (RunsOrTries asked old result new)
-    (TellsChange (shown_at many_sides asked.txn old.desk.live) old result new)
+    (PrintsChange (shown_at many_sides asked.txn old.desk.live) old result new)
 
 -- ---- the diary
 

@@ -22,29 +22,29 @@ use Rattle.ill_desk.specs.Refusals.{refused}
 -- ---- the known state
 
 -- The path of a desk, if it has one, the sides that it holds, and the content of its store, if it is known.
-pub record HeldAndLanded (L : Type 0) : Type 0 where
+pub record HeldAndCommitted (L : Type 0) : Type 0 where
   pub path : Option (List ℕ)
   pub live : L
-  pub landed : Option (Option (List ℕ))
+  pub committed : Option (Option (List ℕ))
 
 -- Returns the path of `desk`, the sides that it holds, and the content of its store, if it is known.
-abbrev pub view_of : {L S : Type 0} → (S → StoreState) → DeskOf L S → HeldAndLanded L
+abbrev pub view_of : {L S : Type 0} → (S → StoreState) → DeskOf L S → HeldAndCommitted L
 view_of state desk = record {
   path = (state desk.store).path;
   live = desk.live;
-  landed = known (state desk.store);
+  committed = known (state desk.store);
 }
 
 -- The state of a command: the desk, what is left of its input, what it keeps of the messages that came, and its output.
 -- A stream whose bytes are not known, or that the command does not have, is `None`.
 pub record CommandState (L : Type 0) : Type 0 where
-  pub desk : HeldAndLanded L
+  pub desk : HeldAndCommitted L
   pub unread : Option (List ℕ)
   pub kept : Option (List ℕ)
   pub written : Option (List ℕ)
 
 -- Returns the state of a command that reads no input and keeps nothing.
-abbrev pub command_state : {L : Type 0} → HeldAndLanded L → Option (List ℕ) → CommandState L
+abbrev pub command_state : {L : Type 0} → HeldAndCommitted L → Option (List ℕ) → CommandState L
 command_state desk written = record { desk = desk; unread = None; kept = None; written = written }
 
 -- Returns `state` with the kept bytes `kept`.
@@ -56,21 +56,21 @@ abbrev pub with_input : {L : Type 0} → Option (List ℕ) → CommandState L �
 with_input unread state = record state { unread = unread }
 
 -- Returns the state in which the desk holds `live`, which is not saved yet.
-abbrev pub with_sides : {L : Type 0} → HeldAndLanded L → L → HeldAndLanded L
+abbrev pub with_sides : {L : Type 0} → HeldAndCommitted L → L → HeldAndCommitted L
 with_sides old live = record old { live = live }
 
 -- Returns the state after a save of the sides that the desk holds.
-abbrev pub saved : {L K : Type 0} → Effects L K → HeldAndLanded L → HeldAndLanded L
+abbrev pub saved : {L K : Type 0} → Effects L K → HeldAndCommitted L → HeldAndCommitted L
 saved effects old = record old {
   live = effects.saves old.live;
-  landed = option_map (λ _. Some (effects.encoding old.live)) old.landed;
+  committed = option_map (λ _. Some (effects.encoding old.live)) old.committed;
 }
 
 -- A failed save leads from `old` to `new`. The desk holds its sides, and its store has the old record or the
 -- new one. The new one is read as the sides that the desk holds.
-abbrev pub IsFaulted : {L K : Type 0} → Effects L K → HeldAndLanded L → HeldAndLanded L → Type 0
+abbrev pub IsFaulted : {L K : Type 0} → Effects L K → HeldAndCommitted L → HeldAndCommitted L → Type 0
 IsFaulted effects old new =
-    (new ≡ old) ⊎ ((new ≡ record old { landed = (saved effects old).landed }) × IsReadAgain effects old.live)
+    (new ≡ old) ⊎ ((new ≡ record old { committed = (saved effects old).committed }) × IsReadAgain effects old.live)
 
 -- ---- the visible outcome
 
@@ -103,19 +103,19 @@ IsChange (Err fault) = ⊥
 
 -- An event with this outcome and these sides (`event`) leads from `old` to `new`, with this result. It happened, and
 -- was saved if it is a change. The saved record is read as these sides. Or the event is a change, and the save
--- failed. Or memory ran out for the event, if it needs memory (`WantsMemory`), or for the save. No other fault is
+-- failed. Or memory ran out for the event, if it needs memory (`RunsOutOfMemory`), or for the save. No other fault is
 -- possible.
-abbrev pub Performs : {L K : Type 0} → Effects L K → Type 0 → HeldAndLanded L → Result DeskOutcome ToolFault × L →
-    Result DeskOutcome ToolFault → HeldAndLanded L → Type 0
-Performs effects WantsMemory old event (Ok outcome) new =
+abbrev pub Performs : {L K : Type 0} → Effects L K → Type 0 → HeldAndCommitted L → Result DeskOutcome ToolFault × L →
+    Result DeskOutcome ToolFault → HeldAndCommitted L → Type 0
+Performs effects RunsOutOfMemory old event (Ok outcome) new =
     (event.0 ≡ Ok outcome)
     × (new ≡ (if is_change outcome then saved effects (with_sides old event.1) else with_sides old event.1))
     × (is_change outcome ≡ true → IsReadAgain effects event.1)
-Performs effects WantsMemory old event (Err (Desk (desks.Store Failed))) new =
+Performs effects RunsOutOfMemory old event (Err (Desk (desks.Store Failed))) new =
     IsChange event.0 × IsFaulted effects (with_sides old event.1) new
-Performs effects WantsMemory old event (Err OutOfMemory) new =
-    (WantsMemory × (new ≡ old)) ⊎ (IsChange event.0 × (new ≡ with_sides old event.1))
-Performs effects WantsMemory old event (Err other) new = ⊥
+Performs effects RunsOutOfMemory old event (Err OutOfMemory) new =
+    (RunsOutOfMemory × (new ≡ old)) ⊎ (IsChange event.0 × (new ≡ with_sides old event.1))
+Performs effects RunsOutOfMemory old event (Err other) new = ⊥
 
 -- ---- many changes, and one save
 
@@ -126,8 +126,8 @@ has_any items = nat_lt 0 (length items)
 -- One save of all `changes` leads from `old` to `new`. The record is read as the sides that the desk holds. Without a
 -- change nothing is saved. If the save failed, the store has the old record or the new one. If memory ran out,
 -- nothing changed. No other fault is possible.
-abbrev pub SavesOnce : {L K X : Type 0} → Effects L K → List X → HeldAndLanded L → Result (Unit {0}) ToolFault
-    → HeldAndLanded L → Type 0
+abbrev pub SavesOnce : {L K X : Type 0} → Effects L K → List X → HeldAndCommitted L → Result (Unit {0}) ToolFault
+    → HeldAndCommitted L → Type 0
 SavesOnce effects changes old (Ok done) new =
     (new ≡ (if has_any changes then saved effects old else old))
     × (has_any changes ≡ true → IsReadAgain effects old.live)
@@ -140,16 +140,16 @@ SavesOnce effects changes old (Err other) new = ⊥
 pub record Run (L A : Type 0) : Type 0 where
   pub live : L
   pub has_changed : Bool
-  pub told : List ℕ
+  pub printed : List ℕ
   pub answer : A
 
 -- Returns the state after a run and its one save. Without a change nothing is saved.
-abbrev pub after_run : {L K A : Type 0} → Effects L K → HeldAndLanded L → Run L A → HeldAndLanded L
+abbrev pub after_run : {L K A : Type 0} → Effects L K → HeldAndCommitted L → Run L A → HeldAndCommitted L
 after_run effects old run =
     if run.has_changed then saved effects (with_sides old run.live) else with_sides old run.live
 
 -- The changes of a run are saved, which leads from `old` to `new`. The record is read as the sides of the run.
-abbrev pub IsSavedRun : {L K A : Type 0} → Effects L K → HeldAndLanded L → Run L A → HeldAndLanded L → Type 0
+abbrev pub IsSavedRun : {L K A : Type 0} → Effects L K → HeldAndCommitted L → Run L A → HeldAndCommitted L → Type 0
 IsSavedRun effects old run new =
     (new ≡ after_run effects old run) × (run.has_changed ≡ true → IsReadAgain effects run.live)
 
@@ -160,11 +160,11 @@ IsSavedRun effects old run new =
 abbrev pub EndsRun : {L K A : Type 0} → Effects L K → Run L A → CommandState L → Result A ToolFault → CommandState L →
     Type 0
 EndsRun effects run old (Ok answer) new =
-    (answer ≡ run.answer) × Appends old.written new.written run.told × IsSavedRun effects old.desk run new.desk
+    (answer ≡ run.answer) × Appends old.written new.written run.printed × IsSavedRun effects old.desk run new.desk
 EndsRun effects run old (Err Write) new =
-    ((size : ℕ) × Appends old.written new.written (take size run.told)) × IsSavedRun effects old.desk run new.desk
+    ((size : ℕ) × Appends old.written new.written (take size run.printed)) × IsSavedRun effects old.desk run new.desk
 EndsRun effects run old (Err (Desk (desks.Store Failed))) new =
     (new.written ≡ old.written) × (run.has_changed ≡ true) × IsFaulted effects (with_sides old.desk run.live) new.desk
 EndsRun effects run old (Err OutOfMemory) new =
-    (new.written ≡ old.written) × (new.desk.landed ≡ old.desk.landed) × (new.desk.path ≡ old.desk.path)
+    (new.written ≡ old.written) × (new.desk.committed ≡ old.desk.committed) × (new.desk.path ≡ old.desk.path)
 EndsRun effects run old (Err other) new = ⊥

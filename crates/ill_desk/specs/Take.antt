@@ -11,8 +11,8 @@ use Rattle.ill_store.specs.declared.store.StoreFault.TheVariants.{Failed}
 use Rattle.ill_der.specs.ShortForm.{encoding}
 use Rattle.ill_der.specs.Handling.{Handles}
 use Rattle.ill_text.specs.Input.{ReadsInput}
-use Rattle.ill_saved.specs.Holdings.{Effects, IsReadAgain, WantsMemory}
-use Rattle.ill_desk.specs.Performing.{HeldAndLanded, CommandState, with_input, handed, is_change, saved}
+use Rattle.ill_saved.specs.Holdings.{Effects, IsReadAgain, RunsOutOfMemory}
+use Rattle.ill_desk.specs.Performing.{HeldAndCommitted, CommandState, with_input, handed, is_change, saved}
 use Rattle.ill_desk.specs.Performing.{IsFaulted, Performs}
 use Rattle.ill_text.specs.Fault.{ToolFailsCounted}
 use Rattle.ill_desk.specs.Telling.{is_fine, shown_at, Wording, Reports}
@@ -22,10 +22,10 @@ use Rattle.ill_desk.specs.Telling.{is_fine, shown_at, Wording, Reports}
 -- The message `a` leads from `old` to `new`, with this result. It was handed to its side, and saved if it was
 -- taken. Or it was taken, and the save failed. Or memory ran out for the message, if it takes memory, or for
 -- the save.
-abbrev pub TakesAndSaves : {L K : Type 0} → Effects L K → HeldAndLanded L → Apdu → Result DeskOutcome ToolFault →
-    HeldAndLanded L → Type 0
+abbrev pub TakesAndSaves : {L K : Type 0} → Effects L K → HeldAndCommitted L → Apdu → Result DeskOutcome ToolFault →
+    HeldAndCommitted L → Type 0
 TakesAndSaves effects old a result new =
-    Performs effects (WantsMemory effects old.live a) old (handed effects old.live a) result new
+    Performs effects (RunsOutOfMemory effects old.live a) old (handed effects old.live a) result new
 
 -- ---- the bytes that are kept
 
@@ -48,7 +48,7 @@ abbrev pub KeepsBefore : {L X : Type 0} → List ℕ → Result X ToolFault → 
 KeepsBefore text (Ok done) old new = Appends old.kept new.kept text
 KeepsBefore text (Err fault) old new =
     Appends old.kept new.kept text
-    ⊎ ((size : ℕ) × Appends old.kept new.kept (take size text) × (new.desk.landed ≡ old.desk.landed))
+    ⊎ ((size : ℕ) × Appends old.kept new.kept (take size text) × (new.desk.committed ≡ old.desk.committed))
 
 -- The message `a` is kept if it was taken and `is_kept` is true. After a fault it is kept before the store
 -- changes.
@@ -60,7 +60,8 @@ KeepsTaken is_kept a (Err fault) old new = KeepsBefore {X = Unit {0}} (kept_text
 
 -- The save of a taken message leads from `old` to `new`. It succeeded, and its record is read as the sides that the
 -- desk holds. Or it failed, or memory ran out and nothing changed. No other fault is possible.
-abbrev pub SavesTaken : {L K : Type 0} → Effects L K → HeldAndLanded L → Result (Unit {0}) ToolFault → HeldAndLanded L → Type 0
+abbrev pub SavesTaken : {L K : Type 0} → Effects L K → HeldAndCommitted L → Result (Unit {0}) ToolFault → HeldAndCommitted L
+    → Type 0
 SavesTaken effects old (Ok done) new = (new ≡ saved effects old) × IsReadAgain effects old.live
 SavesTaken effects old (Err (Desk (desks.Store Failed))) new = IsFaulted effects old new
 SavesTaken effects old (Err OutOfMemory) new = new ≡ old
@@ -83,40 +84,40 @@ abbrev pub progress : {L : Type 0} → CommandState L → Bool → Progress L
 progress state fine = record { state = with_input None state; fine = fine }
 
 -- The message `a` was handed to its side. If it was taken, it was kept (if `is_kept` is true) and saved. The text
--- that `told` gives was written. If memory ran out to read the message, nothing changed. After any other fault this
+-- that `printed` gives was written. If memory ran out to read the message, nothing changed. After any other fault this
 -- was done up to the fault.
 abbrev pub TakesMessage : {L K : Type 0} → Bool → Wording → Effects L K → Handles (Progress L) ToolFault
-TakesMessage is_kept told effects old a (Ok done) new =
+TakesMessage is_kept printed effects old a (Ok done) new =
     (outcome : DeskOutcome) × TakesAndSaves effects old.state.desk a (Ok outcome) new.state.desk
     × KeepsTaken is_kept a (Ok outcome) old.state new.state
     × Appends old.state.written new.state.written
-    (told a outcome (shown_at effects (effects.key_of a) new.state.desk.live))
+    (printed a outcome (shown_at effects (effects.key_of a) new.state.desk.live))
     × (new.fine ≡ old.fine && is_fine outcome)
-TakesMessage is_kept told effects old a (Err fault) new =
+TakesMessage is_kept printed effects old a (Err fault) new =
     ((fault ≡ OutOfMemory) × (new ≡ old))
     ⊎ ((performed : Result DeskOutcome ToolFault) × (text : List ℕ)
     × TakesAndSaves effects old.state.desk a performed new.state.desk
     × KeepsTaken is_kept a performed old.state new.state
     × Appends old.state.written new.state.written text
-    × Reports (told a) performed (shown_at effects (effects.key_of a) new.state.desk.live) text (Err fault))
+    × Reports (printed a) performed (shown_at effects (effects.key_of a) new.state.desk.live) text (Err fault))
 
 -- Returns the answer of the command: its fault, or the flag `fine`.
 abbrev pub answer_of : Result ℕ ToolFault → Bool → Result Bool ToolFault
 answer_of (Ok count) fine = Ok fine
 answer_of (Err fault) fine = Err fault
 
--- The command `take`, which writes texts by `told`, and keeps the messages if `is_kept` is true. Its state went from
+-- The command `take`, which writes texts by `printed`, and keeps the messages if `is_kept` is true. Its state went from
 -- `old` to `new`. If the input was read to its end, the answer is true if nothing was refused or in conflict.
 abbrev pub RunsTaking : {L K : Type 0} → Bool → Wording → Effects L K → CommandState L → Result Bool ToolFault →
     CommandState L → Type 0
-RunsTaking is_kept told effects old result new =
+RunsTaking is_kept printed effects old result new =
     (ended : Result ℕ ToolFault) × (fine : Bool) × (result ≡ answer_of ended fine)
-    × ReadsInput (TakesMessage is_kept told effects) old.unread new.unread (progress old true) ended (progress new fine)
+    × ReadsInput (TakesMessage is_kept printed effects) old.unread new.unread (progress old true) ended (progress new fine)
 
 -- The command `take`, which keeps no message.
 abbrev pub RunsTake : {L K : Type 0} → Wording → Effects L K → CommandState L → Result Bool ToolFault →
     CommandState L → Type 0
-RunsTake told effects old result new = RunsTaking false told effects old result new
+RunsTake printed effects old result new = RunsTaking false printed effects old result new
 
 -- ---- the borrowed desk and file
 

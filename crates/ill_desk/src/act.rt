@@ -110,7 +110,7 @@ pub(crate) struct KeyedAction<'a, K> {
 
 /// Performs `keyed` at `desk`, saves it, and writes the line of the side. If the action is done, `entry` is entered
 /// before the save. Returns true if the action was done, and false if it was refused.
-#[tactic(auto, using(crate::proofs::ActLemmas::enters_told))]
+#[tactic(auto, using(crate::proofs::ActLemmas::enters_printed))]
 pub(crate) fn perform<H: Holdings, S: Store, D: Write, W: Write>(
     alloc: Global,
     desk: &mut AnyDesk<H, S>,

@@ -93,7 +93,7 @@ pub fn run_desk_act_as<S: Store, D: Write, W: Write>(
 {
     match is_as_seen(alloc, view.seen, desk.shown(view.txn)) {
         Ok(true) => act_or_try(alloc, desk, view, entry, writer),
-        Ok(false) => tell_change(alloc, desk.shown(view.txn), writer),
+        Ok(false) => print_change(alloc, desk.shown(view.txn), writer),
         Err(_) => Err(ToolFault::OutOfMemory),
     }
 }
@@ -165,11 +165,11 @@ fn is_as_seen(alloc: Global, seen: Option<&str>, now: Shown) -> Result<bool, Out
 }
 
 /// Writes the line that tells that a side, which is shown as `now`, was not seen so. Returns false.
-fn tell_change<W: Write>(alloc: Global, now: Shown, writer: &mut W) -> Result<bool, ToolFault>
+fn print_change<W: Write>(alloc: Global, now: Shown, writer: &mut W) -> Result<bool, ToolFault>
     ensures { WritesChange now (W.contents writer.old) (W.contents writer.new) result }
 {
     match changed_text(alloc, now) {
-        Ok(line) => told(write_whole(writer, &line)),
+        Ok(line) => printed(write_whole(writer, &line)),
         Err(_) => Err(ToolFault::OutOfMemory),
     }
 }
@@ -186,7 +186,7 @@ fn changed_text(alloc: Global, now: Shown) -> Result<Vec<u8>, OutOfMemory>
 }
 
 /// Returns the answer after a line that tells a change: false, or the fault of the writing.
-fn told(written: Result<(), ToolFault>) -> Result<bool, ToolFault>
+fn printed(written: Result<(), ToolFault>) -> Result<bool, ToolFault>
     ensures { result ≡ not_done written }
 {
     match written {

@@ -1,5 +1,5 @@
-//! The engines of commands that a person gives a desk: new, act, take and send, over any store and any stream. No file and
-//! no lock is known here.
+//! The engines of commands that a person gives a desk: new, act, take and send, over any store and any stream. No file
+//! and no lock is known here.
 #![tactic(auto)]
 
 pub mod act;

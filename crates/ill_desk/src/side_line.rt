@@ -30,43 +30,43 @@ pub fn report<W: Write>(
     Ok(is_fine(outcome))
 }
 
-/// A message whose outcome is told.
+/// A message whose outcome is printed.
 #[derive(Clone, Copy)]
-pub struct Told<'a, 'b> {
+pub struct PrintedMessage<'a, 'b> {
     /// The message.
     pub apdu: &'a ApduView<'b>,
-    /// Set if the heading of the message is told before the outcome, and its fields after it.
+    /// Set if the heading of the message is printed before the outcome, and its fields after it.
     pub is_long: bool,
 }
 
-/// Writes the line of the outcome of a message. If `told` is long, the heading of the message is before it, and the
+/// Writes the line of the outcome of a message. If `printed` is long, the heading of the message is before it, and the
 /// lines of its fields after it. Returns true if nothing was refused, and the message was not in conflict.
 pub fn report_message<W: Write>(
     alloc: Global,
     writer: &mut W,
-    told: &Told<'_, '_>,
+    printed: &PrintedMessage<'_, '_>,
     outcome: DeskOutcome,
     now: Shown,
 ) -> Result<bool, ToolFault>
-    ensures { WritesOutcome (wording told.now.is_long told.now.apdu.now) (W.contents writer.old) (W.contents writer.new) outcome now result }
+    ensures { WritesOutcome (wording printed.now.is_long printed.now.apdu.now) (W.contents writer.old) (W.contents writer.new) outcome now result }
 {
     let mut lines = Vec::new(alloc);
-    push_words(&mut lines, told, outcome, now)?;
+    push_words(&mut lines, printed, outcome, now)?;
     write_whole(writer, &lines)?;
     Ok(is_fine(outcome))
 }
 
-/// Appends the text of the outcome of a message: the long text if `told` is long, and else the line alone.
+/// Appends the text of the outcome of a message: the long text if `printed` is long, and else the line alone.
 fn push_words(
     lines: &mut Vec<u8>,
-    told: &Told<'_, '_>,
+    printed: &PrintedMessage<'_, '_>,
     outcome: DeskOutcome,
     now: Shown,
 ) -> Result<(), OutOfMemory>
-    ensures { OnOk result (lines.new.items ≡ lines.old.items ++ wording told.now.is_long told.now.apdu.now outcome now) }
+    ensures { OnOk result (lines.new.items ≡ lines.old.items ++ wording printed.now.is_long printed.now.apdu.now outcome now) }
 {
-    if told.is_long {
-        push_long(lines, told.apdu, outcome, now)
+    if printed.is_long {
+        push_long(lines, printed.apdu, outcome, now)
     } else {
         push_line(lines, outcome, now)
     }

@@ -10,7 +10,7 @@ ghost use Rattle.ill_desk.specs.Take.{CountsTaking, KeepsBefore, KeepsBorrowed, 
 ghost use Rattle.ill_desk.specs.Telling.{short, wording};
 
 use crate::refusal::refused;
-use crate::side_line::{Told, report_message};
+use crate::side_line::{PrintedMessage, report_message};
 use ill_core::Taking;
 use ill_der::{ApduView, Handler, encode};
 use ill_saved::{AnyDesk, Desk, Desk1, Holdings, ManySides, OneSide, Store};
@@ -59,7 +59,7 @@ pub fn run_desk_take<S: Store, R: Read, W: Write>(
     run_desk_take_as(alloc, desk, TakeForm::SHORT, &mut sink(), reader, writer)
 }
 
-/// The form of `take`: how it tells of a message, and if it keeps it.
+/// The form of `take`: how it prints a message, and if it keeps it.
 #[derive(Clone, Copy)]
 pub struct TakeForm {
     /// Set if each line has the heading of the message: `GROUP TRANSACTION TYPE NUMBER OUTCOME STATE DUE
@@ -145,7 +145,7 @@ struct TakesEach<'a, 'b, H: Holdings, S: Store, F: Write> {
 impl<H: Holdings, S: Store, F: Write> TakesEach<'_, '_, H, S, F> {
     /// Takes `apdu`, which was read as `read`. If it was taken, it is kept as the form says, and saved. Then its text
     /// is written.
-    fn take_and_tell<W: Write>(
+    fn take_and_print<W: Write>(
         &mut self,
         alloc: Global,
         writer: &mut W,
@@ -167,12 +167,12 @@ impl<H: Holdings, S: Store, F: Write> TakesEach<'_, '_, H, S, F> {
         let is_kept = self.form.is_kept;
         match take_and_save(alloc, self.desk, is_kept, self.came, apdu) {
             Ok(outcome) => {
-                let told = Told {
+                let printed = PrintedMessage {
                     apdu: read,
                     is_long: self.form.is_long,
                 };
                 let now = self.desk.shown(H::key_of(apdu));
-                match report_message(alloc, writer, &told, outcome, now) {
+                match report_message(alloc, writer, &printed, outcome, now) {
                     Ok(fine) => {
                         self.all_fine &= fine;
                         Ok(())
@@ -206,7 +206,7 @@ impl<H: Holdings, S: Store, F: Write, W: Write> Handler<W> for TakesEach<'_, '_,
         apdu: &ApduView<'_>,
     ) -> Result<(), ToolFault> {
         match apdu.to_apdu(alloc) {
-            Ok(owned) => self.take_and_tell(alloc, writer, &owned, apdu),
+            Ok(owned) => self.take_and_print(alloc, writer, &owned, apdu),
             Err(_) => Err(ToolFault::OutOfMemory),
         }
     }

@@ -2,7 +2,7 @@
 
 use crate::watched::{Rival, Seen, Watched};
 use ill_saved::LockFiles;
-use ill_session_kit::telling::{begin, tell_bytes, tell_compared, tell_line, tell_value};
+use ill_session_kit::telling::{begin, print_bytes, print_compared, print_line, print_value};
 use ill_session_kit::words::Word;
 use ill_session_kit::{Call, Names, Phrase};
 use ill_test_kit::{Page, TestWriter, make_folder, named, number_in};
@@ -87,13 +87,13 @@ impl<'a, R: LockFiles> Folder<'a, R> {
         }
     }
 
-    /// Prints the bytes of the file at `path`, as `tell_file` does with `words`, or that there is no file. Returns
+    /// Prints the bytes of the file at `path`, as `print_file` does with `words`, or that there is no file. Returns
     /// `None` if the file cannot be read.
     fn show(&self, page: &mut Page, names: &Names, path: &str, words: &[Word]) -> Option<()> {
         match fs::read(&(self.rt, self.alloc), path) {
-            Ok(bytes) => tell_file(page, names, &bytes, words),
+            Ok(bytes) => print_file(page, names, &bytes, words),
             Err(error) if error.kind() == ErrorKind::NotFound => {
-                tell_line(page, "=", "no file");
+                print_line(page, "=", "no file");
                 Some(())
             }
             Err(_) => None,
@@ -113,7 +113,7 @@ impl<'a, R: LockFiles> Folder<'a, R> {
         self.hide_path(call);
         call.tell(page);
         if status != 0 || call.has_written_nothing() {
-            tell_value(page, &status);
+            print_value(page, &status);
         }
         Some(())
     }
@@ -135,8 +135,8 @@ impl<'a, R: LockFiles> Folder<'a, R> {
         let watched = Watched::new(self.rt, record, lock.as_str(), rival);
         let status = run(program, &watched, self.alloc, &line, call)?;
         self.hide_path(call);
-        call.tell_answer(page, &status);
-        tell_seen(page, &watched.seen());
+        call.print_answer(page, &status);
+        print_seen(page, &watched.seen());
         Some(())
     }
 
@@ -217,7 +217,7 @@ fn run<P: Program, T: LockFiles>(
 }
 
 /// Prints the counts of openings and replacements of the record, of those with a free lock, and of pauses.
-fn tell_seen(page: &mut Page, seen: &Seen) {
+fn print_seen(page: &mut Page, seen: &Seen) {
     begin(page, "=");
     page.text("opened ");
     page.show_parts(&seen.openings);
@@ -232,12 +232,12 @@ fn tell_seen(page: &mut Page, seen: &Seen) {
 
 /// Prints the bytes of a file. If `words` are `is BYTES` and the file has exactly these bytes, prints `just these`
 /// instead. Returns `None` if BYTES encode none.
-fn tell_file(page: &mut Page, names: &Names, bytes: &[u8], words: &[Word]) -> Option<()> {
+fn print_file(page: &mut Page, names: &Names, bytes: &[u8], words: &[Word]) -> Option<()> {
     match words {
         [word, wanted @ ..] if word.is("is") => {
-            tell_compared(page, names, "=", bytes, &names.bytes(wanted)?);
+            print_compared(page, names, "=", bytes, &names.bytes(wanted)?);
         }
-        _ => tell_bytes(page, names, "=", bytes),
+        _ => print_bytes(page, names, "=", bytes),
     }
     Some(())
 }

@@ -1,6 +1,6 @@
 //! Begins desks over a store in memory, by the engine of `new`.
 
-use crate::landed::tell_landed;
+use crate::committed::print_committed;
 use crate::memory::Memory;
 use ill_desk::new::run_desk_new;
 use ill_desk_kit::plan_of;
@@ -13,10 +13,10 @@ use ill_words::words::who;
 use std::alloc::Global;
 
 /// Performs `ROLE STORE`: begins a desk of this role, and prints the answer. Then prints the state of its sides, or the
-/// landed bytes of the store that was handed back.
+/// committed bytes of the store that was handed back.
 ///
-/// STORE is the plan of a new store: `works`, `fails-old` or `fails-new`. Or it is `again`, which takes the store of the
-/// old memory.
+/// STORE is the plan of a new store: `works`, `fails-old` or `fails-new`. Or it is `again`, which takes the store of
+/// the old memory.
 pub fn begin(
     alloc: Global,
     page: &mut Page,
@@ -31,14 +31,14 @@ pub fn begin(
     match run_desk_new(alloc, store, role, &mut call.output) {
         Ok(desk) => {
             let begun = Memory::Desk(desk);
-            call.tell_answer(page, &Ok::<(), ToolFault>(()));
-            begun.tell_begun(page);
+            call.print_answer(page, &Ok::<(), ToolFault>(()));
+            begun.print_begun(page);
             drop(memory.replace(begun));
             Some(())
         }
         Err((fault, mut store)) => {
-            call.tell_answer(page, &Err::<(), ToolFault>(fault));
-            tell_landed(alloc, page, call.names, &mut store)
+            call.print_answer(page, &Err::<(), ToolFault>(fault));
+            print_committed(alloc, page, call.names, &mut store)
         }
     }
 }

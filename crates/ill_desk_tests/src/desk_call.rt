@@ -1,4 +1,4 @@
-//! A call on the memory sends mails and copies a desk, besides what its streams show.
+//! A call on the memory sends message files and copies a desk, besides what its streams show.
 
 use crate::letters::Letters;
 use crate::memory_call::MemoryCall;
@@ -12,7 +12,7 @@ use std::alloc::Global;
 pub struct DeskCall<'a> {
     /// The words and the streams.
     pub base: Call<'a>,
-    /// The mails that the call has sent.
+    /// The message files that the call has sent.
     pub letters: Letters,
     /// True if the call answered out of memory, and still has changed the store of the copy.
     pub spoils_copy: bool,
@@ -28,7 +28,7 @@ impl<'a> DeskCall<'a> {
         })
     }
 
-    /// Reduces the call to the first `count` of its messages or mails.
+    /// Reduces the call to the first `count` of its messages or message files.
     pub fn shorten(&mut self, alloc: Global, on: MemoryCall, count: usize) -> Option<()> {
         match on {
             MemoryCall::Take => {
@@ -43,7 +43,7 @@ impl<'a> DeskCall<'a> {
     }
 }
 
-/// Returns the count of prefixes of the messages or mails of a call. Other calls have none.
+/// Returns the count of prefixes of the messages or message files of a call. Other calls have none.
 pub fn prefix_count(alloc: Global, on: MemoryCall, phrase: Phrase<'_>) -> Option<usize> {
     let call = Call::of(alloc, phrase)?;
     let count = match on {

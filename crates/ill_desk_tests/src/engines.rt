@@ -2,7 +2,7 @@
 
 use ill_der::{ReadFault, decode, encode, read_apdu, write_apdu};
 use ill_session_kit::engine::Engine;
-use ill_session_kit::telling::{tell_bytes, tell_line, tell_reader, tell_value};
+use ill_session_kit::telling::{print_bytes, print_line, print_reader, print_value};
 use ill_session_kit::{Call, Names};
 use ill_test_kit::{Page, number_in};
 use ill_text::check::run_check;
@@ -32,14 +32,14 @@ impl Engine for ApduEngine {
                 call.begin(alloc);
                 let answer = run_show(alloc, &mut call.source, &mut call.output);
                 let answer = call.end_engine(alloc, answer, &ToolFault::OutOfMemory);
-                call.tell_answer(page, &answer);
+                call.print_answer(page, &answer);
                 Some(())
             }
             ApduEngine::Check => {
                 call.begin(alloc);
                 let answer = run_check(alloc, &mut call.source, &mut call.output);
                 let answer = call.end_engine(alloc, answer, &ToolFault::OutOfMemory);
-                call.tell_answer(page, &answer);
+                call.print_answer(page, &answer);
                 Some(())
             }
             ApduEngine::Read => read(alloc, page, call),
@@ -54,23 +54,23 @@ fn read(alloc: Global, page: &mut Page, call: &mut Call<'_>) -> Option<()> {
     for _ in 0..times {
         call.source.forgive();
         let answer = read_apdu(alloc, &mut call.source);
-        tell_read(alloc, page, call.names, answer)?;
+        print_read(alloc, page, call.names, answer)?;
     }
-    tell_reader(page, call.names, &call.source);
+    print_reader(page, call.names, &call.source);
     Some(())
 }
 
 /// Prints the bytes of the APDU that was read, or the end or the fault.
-fn tell_read(
+fn print_read(
     alloc: Global,
     page: &mut Page,
     names: &Names,
     answer: Result<Option<Apdu>, ReadFault>,
 ) -> Option<()> {
     match answer {
-        Ok(Some(apdu)) => tell_bytes(page, names, "=", &encode(alloc, &apdu).ok()?),
-        Ok(None) => tell_line(page, "=", "the end"),
-        Err(fault) => tell_value(page, &fault),
+        Ok(Some(apdu)) => print_bytes(page, names, "=", &encode(alloc, &apdu).ok()?),
+        Ok(None) => print_line(page, "=", "the end"),
+        Err(fault) => print_value(page, &fault),
     }
     Some(())
 }
@@ -80,6 +80,6 @@ fn write(alloc: Global, page: &mut Page, call: &mut Call<'_>) -> Option<()> {
     let bytes = call.names.bytes(call.words)?;
     let (apdu, _) = decode(alloc, &bytes).ok()?;
     let answer = write_apdu(alloc, &mut call.output, &apdu);
-    call.tell_answer(page, &answer);
+    call.print_answer(page, &answer);
     Some(())
 }

@@ -1,7 +1,7 @@
 //! A side and a desk of many transactions are called and viewed by one trait.
 
 use crate::letters::Letters;
-use crate::view::{View, tell_side};
+use crate::view::{View, print_side};
 use ill_beside::file_lines::FileLines;
 use ill_beside::notes::Notes;
 use ill_desk::act::{run_act, run_desk_act};
@@ -12,7 +12,7 @@ use ill_inbox::inbox::run_desk_inbox;
 use ill_night::copy::run_desk_copy;
 use ill_night::night::Dates;
 use ill_night::outbox::{run_desk_outbox, run_desk_outbox_stream};
-use ill_night::verdict::{Batch, Mail, Verdict};
+use ill_night::verdict::{Batch, MessageFile, Verdict};
 use ill_saved::{Desk, Desk1, DeskFault, MemoryStore, Store};
 use ill_session_kit::Call;
 use ill_session_kit::words::{Word, texts};
@@ -24,7 +24,7 @@ use ill_text::form::Form;
 use ill_values::{Day, Number, TxnId};
 use std::alloc::Global;
 
-/// The number of mails that wait after those that a call takes.
+/// The number of message files that wait after those that a call takes.
 const WAITING: usize = 2;
 
 /// Sides that are kept in a store. A function returns `None` if its words are no call, or its engine is only for desks.
@@ -36,13 +36,13 @@ pub trait Kept {
     /// prints long lines with `--long`, and keeps each message that came with `--keep`.
     fn take(&mut self, alloc: Global, call: &mut Call<'_>) -> Result<bool, ToolFault>;
 
-    /// Takes mails, by the engine, which only a desk has. After them `WAITING` others wait. The result has the verdict
-    /// on each mail.
+    /// Takes message files, by the engine, which only a desk has. After them `WAITING` others wait. The result has the
+    /// verdict on each message file.
     fn inbox(
         &mut self,
         alloc: Global,
         call: &mut Call<'_>,
-        mails: &[Mail],
+        message_files: &[MessageFile],
     ) -> Option<Result<Vec<Verdict>, ToolFault>>;
 
     /// Sends all messages that are due to be sent, by the engine, which only a desk has. The result is their number.
@@ -87,7 +87,7 @@ pub trait Kept {
     /// Saves all sides.
     fn save(&mut self, alloc: Global, call: &mut Call<'_>) -> Result<(), DeskFault>;
 
-    /// Restarts from the landed record.
+    /// Restarts from the committed record.
     fn restart(&mut self, alloc: Global, call: &mut Call<'_>) -> Result<(), DeskFault>;
 
     /// Returns the view of all sides.
@@ -115,17 +115,17 @@ impl<S: Store> Kept for Desk1<S> {
         call.end_engine(alloc, answer, &ToolFault::OutOfMemory)
     }
 
-    /// Returns None: one side takes no mails.
+    /// Returns None: one side takes no message files.
     fn inbox(
         &mut self,
         _alloc: Global,
         _call: &mut Call<'_>,
-        _mails: &[Mail],
+        _message_files: &[MessageFile],
     ) -> Option<Result<Vec<Verdict>, ToolFault>> {
         None
     }
 
-    /// Returns None: one side sends no mails.
+    /// Returns None: one side sends no message files.
     fn outbox(
         &self,
         _alloc: Global,
@@ -188,7 +188,7 @@ impl<S: Store> Kept for Desk1<S> {
         call.end(alloc, answer, &DeskFault::OutOfMemory)
     }
 
-    /// Restarts the side from the landed record.
+    /// Restarts the side from the committed record.
     fn restart(&mut self, alloc: Global, call: &mut Call<'_>) -> Result<(), DeskFault> {
         call.begin(alloc);
         let answer = Desk1::restart(self, alloc);
@@ -202,7 +202,7 @@ impl<S: Store> Kept for Desk1<S> {
 
     /// Prints the state of the side.
     fn tell(&self, page: &mut Page) {
-        tell_side(page, self.side(), self.released());
+        print_side(page, self.side(), self.released());
         page.text("\n");
     }
 }
@@ -235,17 +235,17 @@ impl<S: Store> Kept for Desk<S> {
         call.end_engine(alloc, answer, &ToolFault::OutOfMemory)
     }
 
-    /// Takes `mails` by `run_desk_inbox`. The messages that are kept go to the errors of the call.
+    /// Takes `message_files` by `run_desk_inbox`. The messages that are kept go to the errors of the call.
     fn inbox(
         &mut self,
         alloc: Global,
         call: &mut Call<'_>,
-        mails: &[Mail],
+        message_files: &[MessageFile],
     ) -> Option<Result<Vec<Verdict>, ToolFault>> {
         call.begin(alloc);
         let (came, output) = (&mut call.errors, &mut call.output);
         let batch = Batch {
-            mails,
+            message_files,
             waiting: WAITING,
             form: Form::Lines,
         };
@@ -345,7 +345,7 @@ impl<S: Store> Kept for Desk<S> {
         call.end(alloc, answer, &DeskFault::OutOfMemory)
     }
 
-    /// Restarts the desk from the landed record.
+    /// Restarts the desk from the committed record.
     fn restart(&mut self, alloc: Global, call: &mut Call<'_>) -> Result<(), DeskFault> {
         call.begin(alloc);
         let answer = Desk::restart(self, alloc);
@@ -367,7 +367,7 @@ impl<S: Store> Kept for Desk<S> {
                 page.text(" ");
                 page.push(side.txn().transaction());
                 page.text(" ");
-                tell_side(page, side, self.released(side.txn()));
+                print_side(page, side, self.released(side.txn()));
                 before = ", ";
             }
         }

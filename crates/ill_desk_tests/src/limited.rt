@@ -5,7 +5,7 @@ ghost use Rattle.std.specs.Prelude.{None, false};
 use ill_saved::{MemoryStore, NextCall, Store, StoreFault};
 use std::alloc::Global;
 
-/// A store in memory. After a count of saves each further save fails, and the landed bytes stay.
+/// A store in memory. After a count of saves each further save fails, and the committed bytes stay.
 #[derive(Drop)]
 pub struct LimitedStore {
     /// The store in memory.
@@ -24,25 +24,25 @@ impl LimitedStore {
     }
 }
 
-/// The state of this store is not honest, and its landed bytes are not stated. The store in memory counts failures.
+/// The state of this store is not correct, and its committed bytes are not stated. The store in memory counts failures.
 impl Store for LimitedStore {
     ghost state = { λ s. record {
       path = None;
-      landed = None;
+      committed = None;
       failures = s.store.failures;
-      is_honest = false;
+      is_correct = false;
       plan = None;
     } };
 
     // The store promises nothing of the record that a loss of power leaves.
     ghost leaves = { λ _ _. Unit {0} };
 
-    /// Loads what has landed in the store in memory.
+    /// Loads what is committed in the store in memory.
     fn load(&mut self, alloc: Global) -> Result<Option<Vec<u8>>, StoreFault> {
         self.store.load(alloc)
     }
 
-    /// Saves `bytes`, if a save is left. Else the store in memory fails, and what has landed stays.
+    /// Saves `bytes`, if a save is left. Else the store in memory fails, and what is committed stays.
     fn save(&mut self, alloc: Global, bytes: &[u8]) -> Result<(), StoreFault> {
         if self.saves == 0 {
             self.store.set_next(NextCall::FailsOld);

@@ -19,15 +19,15 @@
 
 mod beginning;
 mod bench;
+mod committed;
 mod desk_call;
 mod engines;
 mod kept;
-mod landed;
 mod letters;
 mod limited;
-mod mails;
 mod memory;
 mod memory_call;
+mod message_files;
 mod past;
 mod tries;
 mod view;

@@ -3,13 +3,13 @@
 ghost use Rattle.std.specs.Prelude.{◌≡◌, IfSome};
 ghost use Rattle.ill_record.specs.Side.{idle_of};
 
+use crate::committed::print_committed;
 use crate::desk_call::DeskCall;
 use crate::kept::Kept;
-use crate::landed::tell_landed;
 use crate::letters::Letters;
 use crate::limited::LimitedStore;
-use crate::mails::mails_of;
 use crate::memory_call::MemoryCall;
+use crate::message_files::message_files_of;
 use crate::view::View;
 use ill_desk_kit::{idle_side, plan_of};
 use ill_saved::{Desk, Desk1, MemoryStore, NextCall, Role, Side, Store};
@@ -103,7 +103,7 @@ impl Memory {
         }
     }
 
-    /// Restarts from the landed record. A plan of the store is dropped.
+    /// Restarts from the committed record. A plan of the store is dropped.
     pub fn go_back(&mut self, alloc: Global) -> Option<()> {
         match self {
             Memory::Side(desk) => {
@@ -120,7 +120,7 @@ impl Memory {
     }
 
     /// Prints the state of all sides at their beginning.
-    pub fn tell_begun(&self, page: &mut Page) {
+    pub fn print_begun(&self, page: &mut Page) {
         begin(page, "stands");
         match self {
             Memory::Side(desk) => desk.tell(page),
@@ -196,49 +196,49 @@ fn answer<K: Kept>(
     match kind {
         MemoryCall::Save => {
             let answer = kept.save(alloc, &mut call.base);
-            call.base.tell_answer(page, &answer);
+            call.base.print_answer(page, &answer);
         }
         MemoryCall::Restart => {
             let answer = kept.restart(alloc, &mut call.base);
-            call.base.tell_answer(page, &answer);
+            call.base.print_answer(page, &answer);
         }
         MemoryCall::Act => {
             let answer = kept.act(alloc, &mut call.base)?;
-            call.base.tell_answer(page, &answer);
+            call.base.print_answer(page, &answer);
         }
         MemoryCall::Take => {
             let answer = kept.take(alloc, &mut call.base);
-            call.base.tell_answer(page, &answer);
+            call.base.print_answer(page, &answer);
         }
         MemoryCall::Inbox => return inbox(alloc, page, kept, &mut call.base),
         MemoryCall::Dates => {
             let answer = kept.dates(alloc, &mut call.base)?;
-            call.base.tell_answer(page, &answer);
+            call.base.print_answer(page, &answer);
         }
         MemoryCall::Outbox => return outbox(alloc, page, kept, call),
         MemoryCall::Stream => return stream(alloc, page, kept, &mut call.base),
         MemoryCall::Copy => return copy(alloc, page, kept, call),
         MemoryCall::Send => {
             let answer = kept.send(alloc, &mut call.base)?;
-            call.base.tell_answer(page, &answer);
+            call.base.print_answer(page, &answer);
         }
         MemoryCall::Status => {
             let answer = kept.status(alloc, &mut call.base);
-            call.base.tell_answer(page, &answer);
+            call.base.print_answer(page, &answer);
         }
         MemoryCall::Loan => {
             let answer = kept.loan(alloc, &mut call.base)?;
-            call.base.tell_answer(page, &answer);
+            call.base.print_answer(page, &answer);
         }
     }
     Some(())
 }
 
-/// Performs `MAILS`: takes these mails, and prints the answer.
+/// Performs `MESSAGE_FILES`: takes these message files, and prints the answer.
 fn inbox<K: Kept>(alloc: Global, page: &mut Page, kept: &mut K, call: &mut Call<'_>) -> Option<()> {
-    let mails = mails_of(alloc, call.names, call.words)?;
-    let answer = kept.inbox(alloc, call, &mails)?;
-    call.tell_answer(page, &answer);
+    let message_files = message_files_of(alloc, call.names, call.words)?;
+    let answer = kept.inbox(alloc, call, &message_files)?;
+    call.print_answer(page, &answer);
     Some(())
 }
 
@@ -246,12 +246,12 @@ fn inbox<K: Kept>(alloc: Global, page: &mut Page, kept: &mut K, call: &mut Call<
 fn stream<K: Kept>(alloc: Global, page: &mut Page, kept: &K, call: &mut Call<'_>) -> Option<()> {
     let asking = call.names.bytes(call.words)?;
     let answer = kept.stream(alloc, call, &asking)?;
-    call.tell_answer(page, &answer);
+    call.print_answer(page, &answer);
     Some(())
 }
 
-/// Performs `[lasting N] ASKING`: sends all messages that are due to be sent, with room for N mails. Prints the mails,
-/// and then the answer.
+/// Performs `[lasting N] ASKING`: sends all messages that are due to be sent, with room for N message files. Prints the
+/// message files, and then the answer.
 fn outbox<K: Kept>(
     alloc: Global,
     page: &mut Page,
@@ -268,26 +268,26 @@ fn outbox<K: Kept>(
     call.letters = Letters::new(alloc, room);
     let answer = kept.outbox(alloc, &mut call.base, &asking, &mut call.letters)?;
     call.letters.tell(page, call.base.names);
-    call.base.tell_answer(page, &answer);
+    call.base.print_answer(page, &answer);
     Some(())
 }
 
-/// Performs `PLAN [BYTES]`: copies all sides to a store with this plan, in which BYTES have landed. Prints the answer,
-/// and then the bytes that have landed there.
+/// Performs `PLAN [BYTES]`: copies all sides to a store with this plan, in which BYTES are committed. Prints the
+/// answer, and then the bytes that are committed there.
 fn copy<K: Kept>(alloc: Global, page: &mut Page, kept: &K, call: &mut DeskCall<'_>) -> Option<()> {
     let (plan, before) = call.base.words.split_first()?;
     let names = call.base.names;
     let mut store = store_with(alloc, names, plan, before)?;
     let answer = kept.copy(alloc, &mut call.base, &mut store)?;
-    call.base.tell_answer(page, &answer);
+    call.base.print_answer(page, &answer);
     store.set_next(NextCall::Works); // A copy that is refused memory leaves the plan.
-    let landed = store.load(alloc).ok()?.unwrap_or(Vec::new(alloc));
+    let committed = store.load(alloc).ok()?.unwrap_or(Vec::new(alloc));
     call.spoils_copy = call.base.says_memory
-        && landed.as_slice() != names.bytes(before)?.as_slice();
-    tell_landed(alloc, page, names, &mut store)
+        && committed.as_slice() != names.bytes(before)?.as_slice();
+    print_committed(alloc, page, names, &mut store)
 }
 
-/// Returns a store in which these bytes have landed, if there are any, and whose next call is planned.
+/// Returns a store in which these bytes are committed, if there are any, and whose next call is planned.
 fn store_with(alloc: Global, names: &Names, plan: &Word, before: &[Word]) -> Option<MemoryStore> {
     let mut store = MemoryStore::new(alloc);
     if !before.is_empty() {

@@ -5,15 +5,15 @@
 pub enum MemoryCall {
     /// All sides are saved.
     Save,
-    /// All sides are restarted from the landed record.
+    /// All sides are restarted from the committed record.
     Restart,
     /// An action is performed.
     Act,
     /// The messages of the input are taken.
     Take,
-    /// Mails are taken.
+    /// Message files are taken.
     Inbox,
-    /// Messages are sent as mails.
+    /// Messages are sent as message files.
     Outbox,
     /// Messages are sent on a stream.
     Stream,

@@ -8,7 +8,7 @@ use crate::desk_call::{DeskCall, prefix_count};
 use crate::memory::{Beginning, Memory};
 use crate::memory_call::MemoryCall;
 use crate::tries::{CallResult, Extent, fault};
-use ill_session_kit::engine::tell_fault;
+use ill_session_kit::engine::print_fault;
 use ill_session_kit::words::{Word, copied};
 use ill_session_kit::{Names, Phrase, is_short};
 use ill_test_kit::Page;
@@ -93,7 +93,7 @@ impl Past {
         let mut done = self.try_often(page, on, phrase, &mut tries);
         if !tries.is_empty() {
             done = done.and(self.push_prefixes(on, phrase, &mut prefixes));
-            tell_faults(page, on, &tries, &prefixes);
+            print_faults(page, on, &tries, &prefixes);
         }
         drop(tries);
         drop(prefixes);
@@ -172,7 +172,7 @@ impl Past {
 }
 
 /// Prints each refused try with a wrong result.
-fn tell_faults(
+fn print_faults(
     page: &mut Page,
     on: MemoryCall,
     tries: &[CallResult<'_>],
@@ -180,7 +180,7 @@ fn tell_faults(
 ) {
     for seen in tries {
         if let Some(words) = fault(on, seen, prefixes) {
-            tell_fault(page, words);
+            print_fault(page, words);
         }
     }
 }

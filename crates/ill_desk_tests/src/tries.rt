@@ -34,8 +34,8 @@ pub struct CallResult<'a> {
     pub answer: Page,
     /// The live sides after it.
     live: View,
-    /// The landed sides after it.
-    landed: View,
+    /// The committed sides after it.
+    committed: View,
 }
 
 /// A part of the result.
@@ -47,8 +47,8 @@ enum Part {
     KeptMessages,
     /// The live sides.
     Live,
-    /// The landed sides.
-    Landed,
+    /// The committed sides.
+    Committed,
 }
 
 /// The parts of the result, and the words that name them.
@@ -56,7 +56,7 @@ const PARTS: [(Part, &str); 4] = [
     (Part::Output, "what it wrote"),
     (Part::KeptMessages, "what it kept"),
     (Part::Live, "how all stands"),
-    (Part::Landed, "what has landed"),
+    (Part::Committed, "what has landed"),
 ];
 
 impl<'a> CallResult<'a> {
@@ -72,7 +72,7 @@ impl<'a> CallResult<'a> {
             call: DeskCall::of(alloc, phrase)?,
             answer: Page::new(alloc),
             live: View::none(alloc),
-            landed: View::none(alloc),
+            committed: View::none(alloc),
         };
         let made = seen.make(alloc, on, extent, memory);
         if made.is_none() {
@@ -100,12 +100,12 @@ impl<'a> CallResult<'a> {
         memory.as_mut()?.perform(alloc, answer, on, call)
     }
 
-    /// Views the live sides, and then the landed sides. The memory is restarted for that.
+    /// Views the live sides, and then the committed sides. The memory is restarted for that.
     pub fn look(&mut self, alloc: Global, memory: &mut Option<Memory>) -> Option<()> {
         let memory = memory.as_mut()?;
         self.live = memory.view(alloc)?;
         memory.go_back(alloc)?;
-        self.landed = memory.view(alloc)?;
+        self.committed = memory.view(alloc)?;
         Some(())
     }
 
@@ -117,7 +117,7 @@ impl<'a> CallResult<'a> {
             Part::KeptMessages => self.call.base.errors.taken.as_slice()
                 == other.call.base.errors.taken.as_slice(),
             Part::Live => self.live.has_record_of(&other.live),
-            Part::Landed => self.landed.is(&other.landed),
+            Part::Committed => self.committed.is(&other.committed),
         }
     }
 
@@ -125,7 +125,7 @@ impl<'a> CallResult<'a> {
     fn is(&self, other: &CallResult<'_>) -> bool {
         self.answer.bytes() == other.answer.bytes()
             && self.live.is(&other.live)
-            && self.landed.is(&other.landed)
+            && self.committed.is(&other.committed)
     }
 }
 
@@ -152,7 +152,7 @@ pub fn fault(
             return Some(*words);
         }
     }
-    if !seen.live.releases_as(&before.live) && !seen.live.releases_as(&seen.landed) {
+    if !seen.live.releases_as(&before.live) && !seen.live.releases_as(&seen.committed) {
         return Some("what may leave");
     }
     if seen.call.spoils_copy || !seen.call.letters.is_prefix_of(&after.call.letters) {
@@ -161,8 +161,8 @@ pub fn fault(
     None
 }
 
-/// Returns true if this part may be that of a call that was made in part. A desk saves once for all mails, and once for
-/// all deeds of a day.
+/// Returns true if this part may be that of a call that was made in part. A desk saves once for all message files, and
+/// once for all deeds of a day.
 fn is_between(
     on: MemoryCall,
     part: Part,

@@ -62,7 +62,7 @@ impl View {
 }
 
 /// Prints the state of a side, its due date, and the counts of its released and issued messages.
-pub fn tell_side(page: &mut Page, side: &Side, released: u8) {
+pub fn print_side(page: &mut Page, side: &Side, released: u8) {
     page.show(&side.state());
     page.text(" ");
     match side.due() {

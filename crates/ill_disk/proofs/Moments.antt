@@ -130,7 +130,7 @@ no_bad_answer change old answer new given (broken h differ) = differ (given.whol
 no_bad_answer change old answer new given (past_lost before h was differ lost) = ⊎_elim
     (λ grown. lost (grown ∙ ap (λ (p : Option (List Disk)). followed_by p (old.now ∷ [])) was))
     (λ same. differ same.1) (given.past h)
-no_bad_answer change old answer new given (turned differ) = differ given.honest
+no_bad_answer change old answer new given (turned differ) = differ given.correct
 
 -- If `Answers` holds for a read of `path`, no case of `IsBadRead` holds for it.
 pub no_bad_read : {X E : Type 0} (bytes_of : X → List ℕ) (path : List ℕ) (old : DiskState) (answer : Result (Option X) E)
@@ -190,7 +190,7 @@ no_change {answer = Err fault} is whole same = record {
   whole = λ h. whole;
   done = λ h. inl (ap (λ (d : DiskOverTime). d.disk) same);
   past = λ h. inr (ap (λ (d : DiskOverTime). Some d.past) same, ap (λ (d : DiskOverTime). d.disk) same);
-  honest = refl;
+  correct = refl;
 }
 
 -- If `create_new` fails on a whole disk, and `new` is `old`, `Answers` holds for the call: there is no new file.
@@ -201,7 +201,7 @@ no_file {answer = Err fault} is whole same = record {
   whole = λ h. whole;
   done = λ h. inl (ap (λ (d : DiskOverTime). d.disk) same);
   past = λ h. inr (ap (λ (d : DiskOverTime). Some d.past) same, ap (λ (d : DiskOverTime). d.disk) same);
-  honest = refl;
+  correct = refl;
 }
 
 -- If a read of `path` fails on a whole disk, and `new` is `old`, `Answers` holds for the read.
@@ -213,5 +213,5 @@ no_read {answer = Err fault} is whole same = record {
   whole = λ h. whole;
   done = λ h. record { bytes = tt; same = ap (λ (d : DiskOverTime). d.disk) same };
   past = λ h. inr (ap (λ (d : DiskOverTime). Some d.past) same, ap (λ (d : DiskOverTime). d.disk) same);
-  honest = refl;
+  correct = refl;
 }

@@ -18,24 +18,24 @@ first_found : (files : List File) (f : File) (path : List ℕ) (names : List Nam
 first_found files f path names None is made = refl
 first_found files f path names (Some k) is made = first_bytes files f k (made_found (length files) path names k made is)
 
--- A save of `bytes` on the whole disk `d`: a new file is made at `aside`, flushed, and renamed to another path, `path`.
--- Then the names are flushed.
-module _ (aside path bytes : List ℕ) (d : Disk) (whole : IsWhole d) (differ : aside ≡ path → ⊥) where
+-- A save of `bytes` on the whole disk `d`: a new file is made at `temporary`, flushed, and renamed to another path,
+-- `path`. Then the names are flushed.
+module _ (temporary path bytes : List ℕ) (d : Disk) (whole : IsWhole d) (differ : temporary ≡ path → ⊥) where
   -- The new file, before it is flushed.
   abbrev new_file : File
   new_file = record { bytes = bytes; is_flushed = false }
 
-  -- The disk after the new file is made at `aside`.
+  -- The disk after the new file is made at `temporary`.
   abbrev created_disk : Disk
-  created_disk = after_create aside bytes d
+  created_disk = after_create temporary bytes d
 
   -- The disk after the new file is flushed.
   abbrev flushed_disk : Disk
-  flushed_disk = after_flush aside created_disk
+  flushed_disk = after_flush temporary created_disk
 
   -- The disk after the new file is renamed to `path`.
   abbrev replaced_disk : Disk
-  replaced_disk = after_rename aside path flushed_disk
+  replaced_disk = after_rename temporary path flushed_disk
 
   -- Let `names` be a list that may stand on `d`, and let a crash leave the files of `after` once the new file is made.
   -- Let `path` give the same file in `names` and in `after`. Then a crash of `d` may leave the content of `after` at
@@ -60,16 +60,16 @@ module _ (aside path bytes : List ℕ) (d : Disk) (whole : IsWhole d) (differ : 
   created_left after crash = ⊎_elim
       (λ stands. old_content after after.names stands refl crash.files)
       (λ changed. old_content after changed.0 changed.1
-      (ap (found_at path) changed.2 ∙ found_with_other path aside (length d.files) changed.0 differ) crash.files)
-      (change_left (with_name aside (length d.files)) (record d { files = d.files ++ new_file ∷ [] }) after crash)
+      (ap (found_at path) changed.2 ∙ found_with_other path temporary (length d.files) changed.0 differ) crash.files)
+      (change_left (with_name temporary (length d.files)) (record d { files = d.files ++ new_file ∷ [] }) after crash)
 
-  -- The new file is found at `aside`. It is the last file.
-  found_aside : found_at aside flushed_disk.names ≡ Some (length d.files)
-  found_aside = found_with aside (length d.files) d.names
+  -- The new file is found at `temporary`. It is the last file.
+  found_temporary : found_at temporary flushed_disk.names ≡ Some (length d.files)
+  found_temporary = found_with temporary (length d.files) d.names
 
-  -- The flush of the file at `aside` is the flush of the last file.
+  -- The flush of the file at `temporary` is the flush of the last file.
   is_flushed : flushed_disk.files ≡ flush_found created_disk.files (Some (length d.files))
-  is_flushed = ap (flush_found created_disk.files) (found_with aside (length d.files) d.names)
+  is_flushed = ap (flush_found created_disk.files) (found_with temporary (length d.files) d.names)
 
   -- If a crash leaves the files of `after` once the new file is flushed, and `path` gives this file in `after`, the
   -- content at `path` is `bytes`.
@@ -85,16 +85,18 @@ module _ (aside path bytes : List ℕ) (d : Disk) (whole : IsWhole d) (differ : 
   -- may leave, or `bytes`.
   replaced_left : (after : Disk) → Crash replaced_disk after → IsOldOr path d bytes (content path after)
   replaced_left after crash = ⊎_elim
-      (λ stands. inl (created_left after (flush_left aside created_disk after
+      (λ stands. inl (created_left after (flush_left temporary created_disk after
       (record { names = stands; only = crash.only; files = crash.files }))))
       (λ changed. inr (new_content after (ap (found_at path) changed.2
-      ∙ found_moved aside path (length d.files) changed.0 (found_at aside flushed_disk.names) found_aside) crash.files))
-      (change_left (with_rename aside path (found_at aside flushed_disk.names)) flushed_disk after crash)
+      ∙ found_moved temporary path (length d.files) changed.0 (found_at temporary flushed_disk.names) found_temporary)
+      crash.files))
+      (change_left (with_rename temporary path (found_at temporary flushed_disk.names)) flushed_disk after crash)
 
   -- If a crash leaves `after` once the names are flushed too, its content at `path` is `bytes`.
   saved_left : (after : Disk) → Crash (after_flush_names replaced_disk) after → content path after ≡ Some bytes
   saved_left after crash = new_content after (ap (found_at path) (names_left replaced_disk after crash)
-      ∙ found_moved aside path (length d.files) flushed_disk.names (found_at aside flushed_disk.names) found_aside) crash.files
+      ∙ found_moved temporary path (length d.files) flushed_disk.names (found_at temporary flushed_disk.names) found_temporary)
+      crash.files
 
   -- If P holds for the content at `path` of each disk that a crash of `x` may leave, it holds for each content `found`
   -- that a crash of `x` may leave at `path`.
@@ -104,7 +106,7 @@ module _ (aside path bytes : List ℕ) (d : Disk) (whole : IsWhole d) (differ : 
 
   -- If a crash of one of the five disks on the way of the save leaves `found` at `path`, a crash of `d` may leave it,
   -- or it is `bytes`. Each case is one of the five disks, in their order.
-  pub save_moments : (x : Disk) → In (on_the_way aside path bytes d) x → (found : Option (List ℕ)) →
+  pub save_moments : (x : Disk) → In (on_the_way temporary path bytes d) x → (found : Option (List ℕ)) →
       Leaves x path found → IsOldOr path d bytes found
   save_moments x (inl is) found left = inl (subst (λ (y : Disk). Leaves y path found) is left)
   save_moments x (inr (inl is)) found left =
@@ -112,7 +114,7 @@ module _ (aside path bytes : List ℕ) (d : Disk) (whole : IsWhole d) (differ : 
       (subst (λ (y : Disk). Leaves y path found) is left)
   save_moments x (inr (inr (inl is))) found left =
       from_content (IsOldOr path d bytes) flushed_disk
-      (λ after crash. inl (created_left after (flush_left aside created_disk after crash))) found
+      (λ after crash. inl (created_left after (flush_left temporary created_disk after crash))) found
       (subst (λ (y : Disk). Leaves y path found) is left)
   save_moments x (inr (inr (inr (inl is)))) found left =
       from_content (IsOldOr path d bytes) replaced_disk replaced_left found
@@ -123,14 +125,14 @@ module _ (aside path bytes : List ℕ) (d : Disk) (whole : IsWhole d) (differ : 
   save_moments x (inr (inr (inr (inr (inr none))))) found left = absurd none
 
   -- If a crash after the save leaves `found` at `path`, it is `bytes`.
-  pub save_lasts : (found : Option (List ℕ)) → Leaves (after_save aside path bytes d) path found → found ≡ Some bytes
+  pub save_lasts : (found : Option (List ℕ)) → Leaves (after_save temporary path bytes d) path found → found ≡ Some bytes
   save_lasts found left = from_content (λ f. f ≡ Some bytes) (after_flush_names replaced_disk) saved_left found left
 
   -- After the save the content at `path` is `bytes`.
-  pub save_is_read : content path (after_save aside path bytes d) ≡ Some bytes
+  pub save_is_read : content path (after_save temporary path bytes d) ≡ Some bytes
   save_is_read =
       ap (bytes_of flushed_disk.files)
-      (found_moved aside path (length d.files) flushed_disk.names (found_at aside flushed_disk.names) found_aside)
+      (found_moved temporary path (length d.files) flushed_disk.names (found_at temporary flushed_disk.names) found_temporary)
       ∙ ap (λ (l : List File). bytes_of l (Some (length d.files))) is_flushed
       ∙ flushed_bytes created_disk.files (length d.files) (length d.files)
       ∙ last_bytes d.files new_file
@@ -151,35 +153,35 @@ left_new (e ∷ files) f [] left = absurd left
 left_new (e ∷ files) f (g ∷ after) left = (left.0, left_new files f after left.1)
 
 -- Without the flush of the new file a crash may leave any bytes `other` at `path`, even after the flush of names.
-pub unflushed_tears : (aside path bytes other : List ℕ) (d : Disk) →
-    Leaves (after_flush_names (after_rename aside path (after_create aside bytes d))) path (Some other)
-unflushed_tears aside path bytes other d =
-    let created : Disk = after_create aside bytes d in
-    any_bytes_left path (after_flush_names (after_rename aside path created)) (length d.files)
+pub unflushed_tears : (temporary path bytes other : List ℕ) (d : Disk) →
+    Leaves (after_flush_names (after_rename temporary path (after_create temporary bytes d))) path (Some other)
+unflushed_tears temporary path bytes other d =
+    let created : Disk = after_create temporary bytes d in
+    any_bytes_left path (after_flush_names (after_rename temporary path created)) (length d.files)
     (record { bytes = bytes; is_flushed = false }) other (inl refl)
-    (found_moved aside path (length d.files) created.names (found_at aside created.names)
-    (found_with aside (length d.files) d.names))
+    (found_moved temporary path (length d.files) created.names (found_at temporary created.names)
+    (found_with temporary (length d.files) d.names))
     (last_get d.files (record { bytes = bytes; is_flushed = false })) refl
 
 -- Let `d` be whole. Without the flush of names a crash after the rename may leave at `path` each content `found` that a
 -- crash of `d` may leave. The names that the crash of `d` leaves still may stand.
-pub unflushed_names_return : (aside path bytes : List ℕ) (d : Disk) (found : Option (List ℕ)) → IsWhole d →
-    Leaves d path found → Leaves (after_rename aside path (after_flush aside (after_create aside bytes d))) path found
-unflushed_names_return aside path bytes d found whole left =
+pub unflushed_names_return : (temporary path bytes : List ℕ) (d : Disk) (found : Option (List ℕ)) → IsWhole d →
+    Leaves d path found → Leaves (after_rename temporary path (after_flush temporary (after_create temporary bytes d))) path found
+unflushed_names_return temporary path bytes d found whole left =
     let new_one : File = record { bytes = bytes; is_flushed = false } in
-    let created : Disk = after_create aside bytes d in
-    let flushed : Disk = after_flush aside created in
+    let created : Disk = after_create temporary bytes d in
+    let flushed : Disk = after_flush temporary created in
     let file : File = record { bytes = bytes; is_flushed = true } in
     let before : Disk = left.0 in
     let stands : In created.may_stand before.names =
-    in_first d.may_stand (map (with_name aside (length d.files)) d.may_stand) before.names left.1.names in (
+    in_first d.may_stand (map (with_name temporary (length d.files)) d.may_stand) before.names left.1.names in (
       record { files = before.files ++ file ∷ []; names = before.names; may_stand = before.names ∷ [] },
       record {
-        names = in_first created.may_stand (map (with_rename aside path (found_at aside flushed.names)) created.may_stand)
+        names = in_first created.may_stand (map (with_rename temporary path (found_at temporary flushed.names)) created.may_stand)
             before.names stands;
         only = refl;
         files = subst (λ (l : List File). AreLeft l (before.files ++ file ∷ []))
-            (sym (ap (flush_found created.files) (found_with aside (length d.files) d.names)))
+            (sym (ap (flush_found created.files) (found_with temporary (length d.files) d.names)))
             (left_new d.files new_one before.files left.1.files);
       },
       first_found before.files file path before.names (found_at path before.names) refl

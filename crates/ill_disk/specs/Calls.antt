@@ -5,12 +5,12 @@ use Rattle.ill_disk.specs.declared.disk.DiskFault.{DiskFault}
 use Rattle.ill_disk.specs.declared.disk.DiskFault.TheVariants.{NotFound, TooLarge}
 use Rattle.ill_disk.specs.Disk.{In, Disk, IsWhole, content, found_at, after_create}
 
--- The state of a disk: its files and names now, and the disks that it was, the first one first. A disk may keep no past.
--- `is_honest` is true if the disk does as it answers.
+-- The state of a disk: its files and names now, and the disks that it was, the first one first. A disk may keep no
+-- past. `is_correct` is true if the disk does as it answers.
 pub record DiskState : Type 0 where
   pub now : Disk
   pub past : Option (List Disk)
-  pub is_honest : Bool
+  pub is_correct : Bool
 
 -- Returns the past, followed by these disks.
 abbrev pub followed_by : Option (List Disk) → List Disk → Option (List Disk)
@@ -41,33 +41,33 @@ Creates path bytes old (Err fault) new = (new ≡ old) ⊎ ((some : List ℕ) ×
 abbrev pub Passes : DiskState → DiskState → Type 0
 Passes old new = (new.past ≡ followed_by old.past (old.now ∷ [])) ⊎ ((new.past ≡ old.past) × (new.now ≡ old.now))
 
--- The disk answers a call in the state `old`, and is in the state `new` after it. An honest disk is whole, changes as
--- `does` says, and keeps its past. Each disk keeps its honesty.
+-- The disk answers a call in the state `old`, and is in the state `new` after it. A correct disk is whole, changes as
+-- `does` says, and keeps its past. Each disk stays as correct as it was.
 pub record Answers {A E : Type 0} (does : Disk → Result A E → Disk → Type 0) (old : DiskState) (answer : Result A E)
     (new : DiskState) : Type 0 where
-  pub whole : old.is_honest ≡ true → IsWhole old.now
-  pub done : old.is_honest ≡ true → does old.now answer new.now
-  pub past : old.is_honest ≡ true → Passes old new
-  pub honest : new.is_honest ≡ old.is_honest
+  pub whole : old.is_correct ≡ true → IsWhole old.now
+  pub done : old.is_correct ≡ true → does old.now answer new.now
+  pub past : old.is_correct ≡ true → Passes old new
+  pub correct : new.is_correct ≡ old.is_correct
 
--- On an honest disk the call is done only if a file stands at the path. It answers `NotFound` only if none does.
+-- On a correct disk the call is done only if a file stands at the path. It answers `NotFound` only if none does.
 pub record WantsFile {A : Type 0} (path : List ℕ) (old : DiskState) (answer : Result A DiskFault) : Type 0 where
-  pub found : old.is_honest ≡ true → OnOk answer (is_some (found_at path old.now.names) ≡ true)
-  pub none : old.is_honest ≡ true → IsErrOf answer NotFound → found_at path old.now.names ≡ None
+  pub found : old.is_correct ≡ true → OnOk answer (is_some (found_at path old.now.names) ≡ true)
+  pub none : old.is_correct ≡ true → IsErrOf answer NotFound → found_at path old.now.names ≡ None
 
--- On an honest disk the call is done only if no file stands at the path.
+-- On a correct disk the call is done only if no file stands at the path.
 abbrev pub WantsNoFile : {A E : Type 0} → List ℕ → DiskState → Result A E → Type 0
-WantsNoFile path old answer = old.is_honest ≡ true → OnOk answer (found_at path old.now.names ≡ None)
+WantsNoFile path old answer = old.is_correct ≡ true → OnOk answer (found_at path old.now.names ≡ None)
 
 -- A file was found, and it has more than `limit` bytes.
 abbrev pub IsLonger : ℕ → Option (List ℕ) → Type 0
 IsLonger limit None = ⊥
 IsLonger limit (Some bytes) = limit < length bytes
 
--- On an honest disk a read answers `TooLarge` only if the file has more bytes than the limit.
+-- On a correct disk a read answers `TooLarge` only if the file has more bytes than the limit.
 abbrev pub IsLargeOnlyIf : {A : Type 0} → ℕ → List ℕ → DiskState → Result A DiskFault → Type 0
 IsLargeOnlyIf limit path old answer =
-    old.is_honest ≡ true → IsErrOf answer TooLarge → IsLonger limit (content path old.now)
+    old.is_correct ≡ true → IsErrOf answer TooLarge → IsLonger limit (content path old.now)
 
 -- ---- moments
 

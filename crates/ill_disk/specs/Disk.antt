@@ -133,19 +133,19 @@ empty_disk = record { files = []; names = []; may_stand = [] ∷ [] }
 
 -- ---- a save
 
--- Returns the five disks on the way of a save. A new file is made at `aside`, flushed, and renamed over the record.
+-- Returns the five disks on the way of a save. A new file is made at `temporary`, flushed, and renamed over the record.
 -- Then the names are flushed.
 abbrev pub on_the_way : List ℕ → List ℕ → List ℕ → Disk → List Disk
-on_the_way aside path bytes d =
-    let created = after_create aside bytes d in
-    let flushed = after_flush aside created in
-    let replaced = after_rename aside path flushed in
+on_the_way temporary path bytes d =
+    let created = after_create temporary bytes d in
+    let flushed = after_flush temporary created in
+    let replaced = after_rename temporary path flushed in
     d ∷ created ∷ flushed ∷ replaced ∷ after_flush_names replaced ∷ []
 
 -- Returns the disk after a save.
 abbrev pub after_save : List ℕ → List ℕ → List ℕ → Disk → Disk
-after_save aside path bytes d =
-    after_flush_names (after_rename aside path (after_flush aside (after_create aside bytes d)))
+after_save temporary path bytes d =
+    after_flush_names (after_rename temporary path (after_flush temporary (after_create temporary bytes d)))
 
 -- The content `found` is one that a crash of `d` may leave at `path`, or it is `bytes`.
 abbrev pub IsOldOr : List ℕ → Disk → List ℕ → Option (List ℕ) → Type 0

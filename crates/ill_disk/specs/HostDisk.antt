@@ -8,9 +8,9 @@ use Rattle.ill_disk.specs.Calls.{DiskState}
 pub record HostDiskOf : Type 0 where
   pub path : List ℕ
 
--- Returns the state of such a folder. It is not honest, so nothing is said of its files.
+-- Returns the state of such a folder. It is not correct, so nothing is said of its files.
 abbrev pub host_state : HostDiskOf → DiskState
-host_state disk = record { now = empty_disk; past = None; is_honest = false }
+host_state disk = record { now = empty_disk; past = None; is_correct = false }
 
 -- Returns the folder, or `.` if there is none or if its name is empty.
 abbrev pub folder_named : Option (List ℕ) → List ℕ

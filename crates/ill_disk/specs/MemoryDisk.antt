@@ -6,18 +6,18 @@ use Rattle.ill_disk.specs.Calls.{DiskState}
 use Rattle.ill_disk.specs.declared.memory_disk.Change.{Change}
 use Rattle.ill_disk.specs.declared.memory_disk.Change.TheVariants.{Make, Remove, Rename}
 
--- Returns the state of a disk in memory, which is honest and keeps no past.
+-- Returns the state of a disk in memory, which is correct and keeps no past.
 abbrev pub memory_state : Disk → DiskState
-memory_state disk = record { now = disk; past = None; is_honest = true }
+memory_state disk = record { now = disk; past = None; is_correct = true }
 
 -- A disk in memory with its past: the disk now, and the disks that it was, the first one first.
 pub record DiskOverTime : Type 0 where
   pub disk : Disk
   pub past : List Disk
 
--- Returns the state of a disk in memory with its past, which is honest.
+-- Returns the state of a disk in memory with its past, which is correct.
 abbrev pub past_state : DiskOverTime → DiskState
-past_state over_time = record { now = over_time.disk; past = Some over_time.past; is_honest = true }
+past_state over_time = record { now = over_time.disk; past = Some over_time.past; is_correct = true }
 
 -- Returns the lists of names that the lists in memory hold.
 abbrev pub lists_of : List (Vec Name Global) → List (List Name)

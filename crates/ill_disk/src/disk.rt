@@ -57,9 +57,9 @@ impl From<io::Error> for DiskFault {
 ///
 /// A call that is done has changed the disk as its clause says. A call that failed has made the same change, or has
 /// changed nothing. But `create_new` may fail and make a file of other bytes. A crash may leave each disk that `Crash`
-/// allows after the disk now. The disk is whole at each call. The clauses say this of an honest disk alone.
+/// allows after the disk now. The disk is whole at each call. The clauses say this of a correct disk alone.
 pub trait Disk {
-    /// Returns the state: the disk now, and the disks that it was. Its part `is_honest` is true if the disk does as it
+    /// Returns the state: the disk now, and the disks that it was. Its part `is_correct` is true if the disk does as it
     /// answers.
     ghost state: { Self → DiskState };
 

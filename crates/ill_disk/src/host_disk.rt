@@ -20,8 +20,8 @@ use std::{fs, io, mem, str};
 /// A save of the record makes a new file beside it, whose name ends with `.new`. The disk keeps the record or the new
 /// file open from its read or its making to its flush. So a flush is one of the file that was read or made.
 ///
-/// No contract says what a file of the host's holds, so this disk is not honest. docs/STORES.md says, call by call, what
-/// the host has to do.
+/// No contract says what a file of the host's holds, so this disk is not correct. docs/STORES.md says, call by call,
+/// what the host has to do.
 #[derive(Drop)]
 pub struct HostDisk<'a, R: Files> {
     rt: &'a R,
@@ -180,8 +180,8 @@ impl<'a, R: Files> HostDisk<'a, R> {
         Ok(())
     }
 
-    /// Creates the new file with these bytes, and keeps it open. It gets the group, the permissions and the owner of the
-    /// record that was looked up.
+    /// Creates the new file with these bytes, and keeps it open. It gets the group, the permissions and the owner of
+    /// the record that was looked up.
     fn create_beside(&mut self, bytes: &[u8]) -> io::Result<()> {
         let record = self.found.as_ref();
         let path = self.new_path.as_str();

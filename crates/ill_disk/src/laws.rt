@@ -88,26 +88,26 @@ pub fn no_crash_is_bad()
 /// the save leaves the new record, and a read gives it.
 #[tactic(auto, using(crate::proofs::Saves::save_is_read))]
 pub fn a_save_is_old_or_new()
-    ensures moments { (aside path bytes : List ℕ) (d moment : Disk) (found : Option (List ℕ)) → IsWhole d →
-        (aside ≡ path → ⊥) → In (on_the_way aside path bytes d) moment → Leaves moment path found →
+    ensures moments { (temporary path bytes : List ℕ) (d moment : Disk) (found : Option (List ℕ)) → IsWhole d →
+        (temporary ≡ path → ⊥) → In (on_the_way temporary path bytes d) moment → Leaves moment path found →
         IsOldOr path d bytes found }
-    ensures lasts { (aside path bytes : List ℕ) (d : Disk) (found : Option (List ℕ)) → IsWhole d →
-        (aside ≡ path → ⊥) → Leaves (after_save aside path bytes d) path found → found ≡ Some bytes }
-    ensures is_read { (aside path bytes : List ℕ) (d : Disk) → IsWhole d → (aside ≡ path → ⊥) →
-        content path (after_save aside path bytes d) ≡ Some bytes }
-    ensures ends { (aside path bytes : List ℕ) (d : Disk) →
-        In (on_the_way aside path bytes d) (after_save aside path bytes d) }
+    ensures lasts { (temporary path bytes : List ℕ) (d : Disk) (found : Option (List ℕ)) → IsWhole d →
+        (temporary ≡ path → ⊥) → Leaves (after_save temporary path bytes d) path found → found ≡ Some bytes }
+    ensures is_read { (temporary path bytes : List ℕ) (d : Disk) → IsWhole d → (temporary ≡ path → ⊥) →
+        content path (after_save temporary path bytes d) ≡ Some bytes }
+    ensures ends { (temporary path bytes : List ℕ) (d : Disk) →
+        In (on_the_way temporary path bytes d) (after_save temporary path bytes d) }
 {}
 
 /// Both flushes of a save count. Without the flush of the new file a crash may leave any bytes in the record. Without
 /// the flush of names it may leave each record that it might have left before the save.
 #[tactic(auto, using(crate::proofs::Saves::unflushed_tears))]
 pub fn each_flush_of_a_save_counts()
-    ensures bytes { (aside path bytes other : List ℕ) (d : Disk) →
-        Leaves (after_flush_names (after_rename aside path (after_create aside bytes d))) path (Some other) }
-    ensures names { (aside path bytes : List ℕ) (d : Disk) (found : Option (List ℕ)) → IsWhole d →
+    ensures bytes { (temporary path bytes other : List ℕ) (d : Disk) →
+        Leaves (after_flush_names (after_rename temporary path (after_create temporary bytes d))) path (Some other) }
+    ensures names { (temporary path bytes : List ℕ) (d : Disk) (found : Option (List ℕ)) → IsWhole d →
         Leaves d path found →
-        Leaves (after_rename aside path (after_flush aside (after_create aside bytes d))) path found }
+        Leaves (after_rename temporary path (after_flush temporary (after_create temporary bytes d))) path found }
 {}
 
 /// On the empty disk there is no old record. So a record that is old or new (`IsOldOr`) is the new one, and no third.
@@ -116,9 +116,9 @@ pub fn no_third_record_is_old_or_new()
     ensures { (path bytes other : List ℕ) → IsOldOr path empty_disk bytes (Some other) → other ≡ bytes }
 {}
 
-/// An honest disk that is done with a change has made it. If the call failed, the disk has made the change, or none. An
-/// honest disk is whole, and keeps its past. A read gives the bytes at the path, and changes nothing. No call makes a
-/// disk honest, or dishonest.
+/// A correct disk that is done with a change has made it. If the call failed, the disk has made the change, or none. A
+/// correct disk is whole, and keeps its past. A read gives the bytes at the path, and changes nothing. No call makes a
+/// disk correct, or incorrect.
 #[tactic(auto, using(crate::proofs::Moments::no_bad_answer, crate::proofs::Moments::no_bad_read))]
 pub fn no_answer_is_bad()
     ensures changes { (change : Disk → Disk) (old : DiskState) (answer : Result (Unit {0}) DiskFault) (new : DiskState) →
@@ -127,7 +127,7 @@ pub fn no_answer_is_bad()
         Answers (Reads (λ b. b) path) old answer new → IsBadRead (λ b. b) path old answer new → ⊥ }
 {}
 
-/// An honest disk is done with a call on a file only if a file stands at the path. It answers `NotFound` only if none
+/// A correct disk is done with a call on a file only if a file stands at the path. It answers `NotFound` only if none
 /// stands there. A read answers `TooLarge` only if the file is longer than the limit.
 #[tactic(auto, using(crate::proofs::Moments::no_bad_finding, crate::proofs::Moments::no_bad_size))]
 pub fn no_fault_is_false()

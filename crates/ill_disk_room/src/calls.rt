@@ -1,14 +1,14 @@
 //! The calls of a room, by those of a run on a disk.
 
 ghost use Rattle.std.specs.Prelude.{◌≡◌, IfErr, OnOk};
-ghost use Rattle.ill_room.specs.Room.{Answers, GivesBack, Keeps, Moves, is_honest_room};
+ghost use Rattle.ill_room.specs.Room.{Answers, GivesBack, Keeps, Moves, is_correct_room};
 ghost use Rattle.ill_room.specs.declared.room.Place.TheVariants as places;
-ghost use Rattle.ill_mail_disk.specs.Runs.{AnyMail, AreKept, MailsSurvive, run_state};
+ghost use Rattle.ill_message_disk.specs.Runs.{AnyMessageFile, AreKept, MessageFilesSurvive, run_state};
 ghost use Rattle.ill_disk_room.specs.DiskRooms.{Agree, room_state};
 ghost use Rattle.ill_text.specs.Fault.{IsFileFault};
 
 use ill_disk::DiskFault;
-use ill_mail_disk::{MailDisk, MailRun};
+use ill_message_disk::{MessageDisk, MessageRun};
 use ill_night::verdict::{Unfit, push_unfit};
 use ill_text::fault::{STORE_FAILED, ToolFault};
 use std::alloc::Global;
@@ -26,13 +26,13 @@ fn answer_of(answer: Result<(), DiskFault>) -> Result<(), ToolFault>
     }
 }
 
-/// Flushes the claimed name of each mail of which a run takes care, so that each crash leaves these mails. Fails if a
-/// file does not stand at its claimed path, or a flush fails.
-pub(crate) fn flush_claims_of<D: MailDisk>(run: &mut MailRun<D>) -> Result<(), ToolFault>
+/// Flushes the claimed name of each message file of which a run takes care, so that each crash leaves these message
+/// files. Fails if a file does not stand at its claimed path, or a flush fails.
+pub(crate) fn flush_claims_of<D: MessageDisk>(run: &mut MessageRun<D>) -> Result<(), ToolFault>
     ensures kept { OnOk result (AreKept D.state run.new) }
     ensures faults { IfErr result IsFileFault }
-    ensures mails { run.new.spots ≡ run.old.spots }
-    ensures honest { (D.state run.new.disk).is_honest ≡ (D.state run.old.disk).is_honest }
+    ensures message_files { run.new.spots ≡ run.old.spots }
+    ensures correct { (D.state run.new.disk).is_correct ≡ (D.state run.old.disk).is_correct }
 {
     match run.flush_claims() {
         Ok(()) => Ok(()),
@@ -40,33 +40,36 @@ pub(crate) fn flush_claims_of<D: MailDisk>(run: &mut MailRun<D>) -> Result<(), T
     }
 }
 
-/// Removes the mail `mail` of a run. A mail that is not claimed stays.
-pub(crate) fn remove_from<D: MailDisk>(run: &mut MailRun<D>, mail: usize) -> Result<(), ToolFault>
-    ensures moves { Answers is_honest_room (Moves places.Gone mail) (room_state D.state run.old) result
+/// Removes message file `number` of a run. A message file that is not claimed stays.
+pub(crate) fn remove_from<D: MessageDisk>(
+    run: &mut MessageRun<D>,
+    number: usize,
+) -> Result<(), ToolFault>
+    ensures moves { Answers is_correct_room (Moves places.Gone number) (room_state D.state run.old) result
         (room_state D.state run.new) }
     ensures faults { IfErr result IsFileFault }
-    ensures survive { MailsSurvive D.state (λ other. other ≡ mail → ⊥) run.old run.new }
+    ensures survive { MessageFilesSurvive D.state (λ other. other ≡ number → ⊥) run.old run.new }
     ensures kept { AreKept D.state run.old → AreKept D.state run.new }
 {
-    answer_of(run.remove(mail))
+    answer_of(run.remove(number))
 }
 
-/// Puts the mail `mail` of a run aside, with the line `why`.
-fn put_aside_from<D: MailDisk>(
-    run: &mut MailRun<D>,
-    mail: usize,
+/// Quarantines message file `number` of a run, with the line `why`.
+fn quarantine_from<D: MessageDisk>(
+    run: &mut MessageRun<D>,
+    number: usize,
     why: &[u8],
 ) -> Result<(), ToolFault>
-    ensures moves { Answers is_honest_room (Moves places.Aside mail) (room_state D.state run.old) result
+    ensures moves { Answers is_correct_room (Moves places.Quarantined number) (room_state D.state run.old) result
         (room_state D.state run.new) }
     ensures faults { IfErr result IsFileFault }
-    ensures survive { MailsSurvive D.state AnyMail run.old run.new }
+    ensures survive { MessageFilesSurvive D.state AnyMessageFile run.old run.new }
     ensures kept { AreKept D.state run.old → AreKept D.state run.new }
 {
-    answer_of(run.put_aside(mail, why))
+    answer_of(run.quarantine(number, why))
 }
 
-/// Returns the line that tells `unfit`, the reason why a mail is put aside.
+/// Returns the line that tells `unfit`, the reason why a message file is quarantined.
 fn reason_of(alloc: Global, unfit: Unfit) -> Result<Vec<u8>, ToolFault>
     ensures { IfErr result IsFileFault }
 {
@@ -76,61 +79,61 @@ fn reason_of(alloc: Global, unfit: Unfit) -> Result<Vec<u8>, ToolFault>
     Ok(why)
 }
 
-/// Puts the mail `mail` of a run aside, with the line of the reason `unfit`. If memory runs out for the line, changes
-/// nothing.
+/// Quarantines message file `number` of a run, with the line of the reason `unfit`. If memory runs out for
+/// the line, changes nothing.
 #[tactic(auto, using(crate::proofs::RoomOnDisk::fails_in_room, crate::proofs::RoomOnDisk::all_survive))]
-pub(crate) fn put_unfit_aside<D: MailDisk>(
+pub(crate) fn quarantine_unfit<D: MessageDisk>(
     alloc: Global,
-    run: &mut MailRun<D>,
-    mail: usize,
+    run: &mut MessageRun<D>,
+    number: usize,
     unfit: Unfit,
 ) -> Result<(), ToolFault>
-    ensures moves { Answers is_honest_room (Moves places.Aside mail) (room_state D.state run.old) result
+    ensures moves { Answers is_correct_room (Moves places.Quarantined number) (room_state D.state run.old) result
         (room_state D.state run.new) }
     ensures faults { IfErr result IsFileFault }
-    ensures survive { MailsSurvive D.state AnyMail run.old run.new }
+    ensures survive { MessageFilesSurvive D.state AnyMessageFile run.old run.new }
     ensures kept { AreKept D.state run.old → AreKept D.state run.new }
 {
     match reason_of(alloc, unfit) {
-        Ok(why) => put_aside_from(run, mail, &why),
+        Ok(why) => quarantine_from(run, number, &why),
         Err(fault) => Err(fault),
     }
 }
 
-/// Gives the mail `mail` of a run back to the folder from which it was claimed. If another mail of its name has come
-/// there, or is in the run, it stays claimed.
-pub(crate) fn give_back_from<D: MailDisk>(
-    run: &mut MailRun<D>,
-    mail: usize,
+/// Gives message file `number` of a run back to the folder from which it was claimed. If another message file
+/// of its name has come there, or is in the run, it stays claimed.
+pub(crate) fn give_back_from<D: MessageDisk>(
+    run: &mut MessageRun<D>,
+    number: usize,
 ) -> Result<(), ToolFault>
-    ensures moves { Answers is_honest_room (GivesBack mail) (room_state D.state run.old) result
+    ensures moves { Answers is_correct_room (GivesBack number) (room_state D.state run.old) result
         (room_state D.state run.new) }
     ensures faults { IfErr result IsFileFault }
-    ensures survive { MailsSurvive D.state AnyMail run.old run.new }
+    ensures survive { MessageFilesSurvive D.state AnyMessageFile run.old run.new }
     ensures kept { AreKept D.state run.old → AreKept D.state run.new }
 {
-    answer_of(run.give_back(mail))
+    answer_of(run.give_back(number))
 }
 
 /// Keeps `asked`, messages that ask, in a run.
-pub(crate) fn keep_asked_in<D: MailDisk>(
-    run: &mut MailRun<D>,
+pub(crate) fn keep_asked_in<D: MessageDisk>(
+    run: &mut MessageRun<D>,
     asked: &[u8],
 ) -> Result<(), ToolFault>
-    ensures keeps { Answers is_honest_room (Keeps asked.now) (room_state D.state run.old) result
+    ensures keeps { Answers is_correct_room (Keeps asked.now) (room_state D.state run.old) result
         (room_state D.state run.new) }
     ensures faults { IfErr result IsFileFault }
-    ensures survive { MailsSurvive D.state AnyMail run.old run.new }
+    ensures survive { MessageFilesSurvive D.state AnyMessageFile run.old run.new }
     ensures kept { AreKept D.state run.old → AreKept D.state run.new }
 {
     answer_of(run.keep_asked(asked))
 }
 
 /// Removes those of `folders` that are empty.
-pub(crate) fn remove_folders<D: MailDisk>(run: &mut MailRun<D>, folders: &[Vec<u8>])
+pub(crate) fn remove_folders<D: MessageDisk>(run: &mut MessageRun<D>, folders: &[Vec<u8>])
     ensures state { run_state D.state run.new ≡ run_state D.state run.old }
     ensures disk { D.state run.new.disk ≡ D.state run.old.disk }
-    ensures mails { run.new.spots ≡ run.old.spots }
+    ensures message_files { run.new.spots ≡ run.old.spots }
 {
     for folder in folders {
         run.remove_folder(folder);

@@ -1,4 +1,4 @@
-//! The room of a desk's mail on a disk that may lose its power.
+//! The room of a desk's message files on a disk that may lose its power.
 #![tactic(auto)]
 
 mod calls;

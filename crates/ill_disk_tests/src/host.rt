@@ -26,7 +26,7 @@ fn loads_what_it_saves<S: Store>(alloc: Global, store: &mut S) -> Result<bool, S
 }
 
 /// Returns true if a store at `path`, where no file is, loads what it saves.
-fn is_well_at(rt: &HostRuntime, path: &str) -> Result<bool, Fail> {
+fn is_success_at(rt: &HostRuntime, path: &str) -> Result<bool, Fail> {
     let disk = HostDisk::at(rt, rt.alloc(), path)?;
     let mut store = DiskStore::at(rt.alloc(), disk, path.as_bytes(), 3)?;
     Ok(loads_what_it_saves(rt.alloc(), &mut store)?)
@@ -37,7 +37,7 @@ fn a_store_in_a_folder_of_the_host_loads_what_it_saved(rt: HostRuntime) -> Resul
     let folder = env::temp_dir(&rt)?;
     let path = path_in(rt.alloc(), folder.as_str(), "ill_store.record")?;
     let _ = fs::remove_file(&rt, path.as_str());
-    assert!(rt; is_well_at(&rt, path.as_str())?, "a store at a path");
+    assert!(rt; is_success_at(&rt, path.as_str())?, "a store at a path");
     fs::remove_file(&rt, path.as_str())?;
     Ok(())
 }

@@ -1,9 +1,9 @@
-//! Tests of what a crash leaves of a record and of mails, and of a store in a folder of the host's.
+//! Tests of what a crash leaves of a record and of message files, and of a store in a folder of the host's.
 #![tactic(auto)]
 
 #[cfg(test)]
 mod host;
 #[cfg(test)]
-mod mails;
+mod message_files;
 #[cfg(test)]
 mod records;

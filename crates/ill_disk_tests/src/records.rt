@@ -10,7 +10,7 @@ use std::test::Fail;
 const RECORD: &[u8] = b"record";
 
 /// The path at which a save makes its new file.
-const ASIDE: &[u8] = b"record.new";
+const QUARANTINED: &[u8] = b"record.new";
 
 /// Returns what a store on this disk loads.
 fn loaded(alloc: Global, disk: MemoryDisk) -> Result<Option<Vec<u8>>, StoreFault> {
@@ -56,9 +56,9 @@ fn leaves_one_or_two(alloc: Global, disk: &MemoryDisk) -> Result<bool, Fail> {
 
 /// Performs a save of `two` that ends before the flush of the names.
 fn cut_save(disk: &mut MemoryDisk) -> Result<(), DiskFault> {
-    disk.create_new(ASIDE, b"two")?;
-    disk.flush(ASIDE)?;
-    disk.rename(ASIDE, RECORD)
+    disk.create_new(QUARANTINED, b"two")?;
+    disk.flush(QUARANTINED)?;
+    disk.rename(QUARANTINED, RECORD)
 }
 
 /// Returns a disk on which a store has saved `one` and then `two`, with its past since `one`.
@@ -81,9 +81,9 @@ fn expect_failures(rt: &impl Abort, alloc: Global, disk: &mut MemoryDisk) {
         disk.create_new(RECORD, b"two").is_err(),
         "create over a file"
     );
-    assert!(rt; disk.flush(ASIDE).is_err(), "flush of none");
-    assert!(rt; disk.rename(ASIDE, RECORD).is_err(), "rename of none");
-    assert!(rt; disk.remove(ASIDE).is_err(), "remove of none");
+    assert!(rt; disk.flush(QUARANTINED).is_err(), "flush of none");
+    assert!(rt; disk.rename(QUARANTINED, RECORD).is_err(), "rename of none");
+    assert!(rt; disk.remove(QUARANTINED).is_err(), "remove of none");
     assert!(rt;
         disk.read(alloc, RECORD, 2).is_err(),
         "read beyond the limit"

@@ -1,6 +1,6 @@
 //! The lines about an action whose words are wrong.
 
-use crate::day::{tell_no_day, tell_past_the_end};
+use crate::day::{explain_no_day, explain_past_the_end};
 use crate::shown::Shown;
 use crate::verbs::{Form, Parts, form_of, names_of, nearest};
 use clap::ArgMatches;
@@ -13,7 +13,7 @@ use std::rt::Files;
 
 /// Appends the lines about the words of `ill act` that are wrong for the role of the desk. If the desk cannot be opened
 /// again, it appends nothing.
-pub fn tell_action<T: Files>(
+pub fn explain_action<T: Files>(
     rt: &T,
     alloc: Global,
     text: &mut String,
@@ -27,7 +27,7 @@ pub fn tell_action<T: Files>(
         .get_str(Argument::Today.id())
         .and_then(|word| read_day(word.as_bytes()).ok());
     match role_at(rt, alloc, file) {
-        Some(role) => tell_words(alloc, text, role, today, words),
+        Some(role) => explain_words(alloc, text, role, today, words),
         None => Ok(()),
     }
 }
@@ -41,7 +41,7 @@ fn role_at<T: Files>(rt: &T, alloc: Global, file: &str) -> Option<Role> {
 
 /// Appends the lines about `words`, which name no action of `role` on the day `today`. The first is the verb, the
 /// others are its parts. Appends nothing if there are no words.
-fn tell_words(
+fn explain_words(
     alloc: Global,
     text: &mut String,
     role: Role,
@@ -50,22 +50,22 @@ fn tell_words(
 ) -> Result<(), OutOfMemory> {
     for word in words {
         if word.is_empty() || word.contains(' ') {
-            return tell_no_word(text, word);
+            return explain_no_word(text, word);
         }
     }
     let Some((verb, parts)) = words.split_first() else {
         return Ok(());
     };
     match form_of(verb) {
-        None => tell_no_verb(alloc, text, role, verb),
-        Some(form) if form.role != role => tell_other_role(text, role, form),
-        Some(form) if role == Role::Responder && today.is_none() => tell_no_today(text, form),
-        Some(form) => tell_parts(alloc, text, form, parts),
+        None => explain_no_verb(alloc, text, role, verb),
+        Some(form) if form.role != role => explain_other_role(text, role, form),
+        Some(form) if role == Role::Responder && today.is_none() => explain_no_today(text, form),
+        Some(form) => explain_parts(alloc, text, form, parts),
     }
 }
 
 /// Appends a line about `word`, which no action may have: it is empty or holds a space.
-fn tell_no_word(text: &mut String, word: &str) -> Result<(), OutOfMemory> {
+fn explain_no_word(text: &mut String, word: &str) -> Result<(), OutOfMemory> {
     let shown = Shown::of(word);
     if word.is_empty() {
         return writeln!(text, "  A word of the action is empty.");
@@ -77,7 +77,7 @@ fn tell_no_word(text: &mut String, word: &str) -> Result<(), OutOfMemory> {
 }
 
 /// Appends a line about a word that is no verb, with the nearest verb or all verbs of the role.
-fn tell_no_verb(
+fn explain_no_verb(
     alloc: Global,
     text: &mut String,
     role: Role,
@@ -88,13 +88,13 @@ fn tell_no_verb(
         Some(near) => writeln!(text, "  {shown} is no verb: the nearest one is `{near}`."),
         None => {
             writeln!(text, "  {shown} is no verb.")?;
-            tell_verbs(text, role)
+            explain_verbs(text, role)
         }
     }
 }
 
 /// Appends a line about the verb of `form`, which only the other role has. A line with the verbs of `role` follows.
-fn tell_other_role(text: &mut String, role: Role, form: Form) -> Result<(), OutOfMemory> {
+fn explain_other_role(text: &mut String, role: Role, form: Form) -> Result<(), OutOfMemory> {
     let verb = form.verb;
     let other = form.role.name();
     let own = role.name();
@@ -102,11 +102,11 @@ fn tell_other_role(text: &mut String, role: Role, form: Form) -> Result<(), OutO
         text,
         "  `{verb}` is a verb of a {other}, and this is the desk of a {own}."
     )?;
-    tell_verbs(text, role)
+    explain_verbs(text, role)
 }
 
 /// Appends a line with the verbs of `role`.
-fn tell_verbs(text: &mut String, role: Role) -> Result<(), OutOfMemory> {
+fn explain_verbs(text: &mut String, role: Role) -> Result<(), OutOfMemory> {
     let name = role.name();
     write!(text, "  The verbs of a {name}: ")?;
     let names = names_of(*text.allocator(), role)?;
@@ -115,7 +115,7 @@ fn tell_verbs(text: &mut String, role: Role) -> Result<(), OutOfMemory> {
 }
 
 /// Appends that the day of a responder's action is missing.
-fn tell_no_today(text: &mut String, form: Form) -> Result<(), OutOfMemory> {
+fn explain_no_today(text: &mut String, form: Form) -> Result<(), OutOfMemory> {
     let verb = form.verb;
     writeln!(
         text,
@@ -125,7 +125,7 @@ fn tell_no_today(text: &mut String, form: Form) -> Result<(), OutOfMemory> {
 
 /// Appends the lines about `parts`, which are wrong after the verb of `form`. There are too few, too many, or one is
 /// wrong.
-fn tell_parts(
+fn explain_parts(
     alloc: Global,
     text: &mut String,
     form: Form,
@@ -140,12 +140,12 @@ fn tell_parts(
             let shown = Shown::of(part);
             writeln!(text, "  {shown} is too much: the form is {form}.")
         }
-        None => tell_part(alloc, text, form, parts),
+        None => explain_part(alloc, text, form, parts),
     }
 }
 
 /// Appends the lines about a wrong part after a verb. The number of parts is right.
-fn tell_part(
+fn explain_part(
     alloc: Global,
     text: &mut String,
     form: Form,
@@ -156,26 +156,26 @@ fn tell_part(
     };
     match form.parts {
         Parts::Nothing => Ok(()),
-        Parts::YesOrNo => tell_neither(text, form, first),
-        Parts::Result => tell_no_result(text, first),
-        Parts::Wished => tell_no_wish(text, form, first),
-        Parts::Due => tell_no_due(text, form, first),
-        Parts::Grant => tell_grant(text, form, first, others.first().copied()),
+        Parts::YesOrNo => explain_neither(text, form, first),
+        Parts::Result => explain_no_result(text, first),
+        Parts::Wished => explain_no_wish(text, form, first),
+        Parts::Due => explain_no_due(text, form, first),
+        Parts::Grant => explain_grant(text, form, first, others.first().copied()),
         Parts::Item if *first != "none" && Day::read(first.as_bytes()).is_err() => {
-            tell_no_wish(text, form, first)
+            explain_no_wish(text, form, first)
         }
-        Parts::Item => tell_text(alloc, text, "item", others),
+        Parts::Item => print_text(alloc, text, "item", others),
     }
 }
 
 /// Appends that `part` is neither yes nor no.
-fn tell_neither(text: &mut String, form: Form, part: &str) -> Result<(), OutOfMemory> {
+fn explain_neither(text: &mut String, form: Form, part: &str) -> Result<(), OutOfMemory> {
     let shown = Shown::of(part);
     writeln!(text, "  {shown} is neither yes nor no: the form is {form}.")
 }
 
 /// Appends that `part` is no result, and all results.
-fn tell_no_result(text: &mut String, part: &str) -> Result<(), OutOfMemory> {
+fn explain_no_result(text: &mut String, part: &str) -> Result<(), OutOfMemory> {
     let shown = Shown::of(part);
     writeln!(text, "  {shown} is no result.")?;
     writeln!(
@@ -185,20 +185,21 @@ fn tell_no_result(text: &mut String, part: &str) -> Result<(), OutOfMemory> {
 }
 
 /// Appends that `part` is neither a day nor the word `none`, and the reason why it is no day.
-fn tell_no_wish(text: &mut String, form: Form, part: &str) -> Result<(), OutOfMemory> {
+fn explain_no_wish(text: &mut String, form: Form, part: &str) -> Result<(), OutOfMemory> {
     if let Err(fault) = Day::read(part.as_bytes()) {
-        tell_no_day(text, part, fault)?;
+        explain_no_day(text, part, fault)?;
     }
     writeln!(text, "  `none` stands for no day: the form is {form}.")
 }
 
-/// Appends the reason why `part` is no due date: neither a day, nor `+` and a number of days after the day of the action.
-fn tell_no_due(text: &mut String, form: Form, part: &str) -> Result<(), OutOfMemory> {
+/// Appends the reason why `part` is no due date: neither a day, nor `+` and a number of days after the day of the
+/// action.
+fn explain_no_due(text: &mut String, form: Form, part: &str) -> Result<(), OutOfMemory> {
     match part.strip_prefix('+') {
-        Some(days) => tell_no_days(text, part, days),
+        Some(days) => explain_no_days(text, part, days),
         None => {
             if let Err(fault) = Day::read(part.as_bytes()) {
-                tell_no_day(text, part, fault)?;
+                explain_no_day(text, part, fault)?;
             }
             writeln!(
                 text,
@@ -210,7 +211,7 @@ fn tell_no_due(text: &mut String, form: Form, part: &str) -> Result<(), OutOfMem
 
 /// Appends the reason why `part` names no day. It is a `+`, and then `days`. Its digits are wrong, or the day is past
 /// the end of the calendar.
-fn tell_no_days(text: &mut String, part: &str, days: &str) -> Result<(), OutOfMemory> {
+fn explain_no_days(text: &mut String, part: &str, days: &str) -> Result<(), OutOfMemory> {
     let shown = Shown::of(part);
     let are_digits = days.bytes().all(|byte| byte.is_ascii_digit());
     if !are_digits || !(1..=5).contains(&days.len()) {
@@ -219,12 +220,12 @@ fn tell_no_days(text: &mut String, part: &str, days: &str) -> Result<(), OutOfMe
             "  {shown} is no day: after `+` stand one to five digits."
         );
     }
-    tell_past_the_end(text, part)
+    explain_past_the_end(text, part)
 }
 
 /// Appends the lines about the wrong parts of a Renew-Answer: `word`, which should be yes or no, and the due date
 /// `due`, if there is a second part.
-fn tell_grant(
+fn explain_grant(
     text: &mut String,
     form: Form,
     word: &str,
@@ -232,28 +233,28 @@ fn tell_grant(
 ) -> Result<(), OutOfMemory> {
     match (word, due) {
         ("yes", None) => writeln!(text, "  A part is missing: the form is {form}."),
-        ("yes", Some(due)) => tell_no_due(text, form, due),
+        ("yes", Some(due)) => explain_no_due(text, form, due),
         ("no", Some(due)) => {
             let shown = Shown::of(due);
             writeln!(text, "  {shown} is too much: the form is {form}.")
         }
-        _ => tell_neither(text, form, word),
+        _ => explain_neither(text, form, word),
     }
 }
 
 /// Appends the reason why the words of `ill note` are no note.
-pub fn tell_note(
+pub fn explain_note(
     alloc: Global,
     text: &mut String,
     matches: &ArgMatches<'_>,
 ) -> Result<(), OutOfMemory> {
     let words = matches.get_strs(Argument::NoteWords.id());
-    tell_text(alloc, text, "note", words.unwrap_or_default())
+    print_text(alloc, text, "note", words.unwrap_or_default())
 }
 
 /// Appends the reason why `words`, joined by spaces, are no `name`: no item, or no note. Appends nothing if they are
 /// one, or are empty.
-fn tell_text(
+fn print_text(
     alloc: Global,
     text: &mut String,
     name: &str,
@@ -262,14 +263,14 @@ fn tell_text(
     let whole = words.join(alloc, " ")?;
     match Item::new(alloc, whole.as_bytes()) {
         Ok(_) | Err(TextFault::Empty) => Ok(()),
-        Err(TextFault::TooLong) => tell_too_long(text, name, whole.len()),
-        Err(TextFault::BadByte) => tell_control(text, name, whole.as_str()),
+        Err(TextFault::TooLong) => explain_too_long(text, name, whole.len()),
+        Err(TextFault::BadByte) => explain_control(text, name, whole.as_str()),
         Err(TextFault::OutOfMemory) => Err(OutOfMemory),
     }
 }
 
 /// Appends that a `name`, an item or a note, has `size` bytes and so too many.
-fn tell_too_long(text: &mut String, name: &str, size: usize) -> Result<(), OutOfMemory> {
+fn explain_too_long(text: &mut String, name: &str, size: usize) -> Result<(), OutOfMemory> {
     match name {
         "note" => writeln!(text, "  The note has {size} bytes: it has 200 at most."),
         _ => writeln!(text, "  The item has {size} bytes: it has 200 at most."),
@@ -278,7 +279,7 @@ fn tell_too_long(text: &mut String, name: &str, size: usize) -> Result<(), OutOf
 
 /// Appends the place, counted from 1, of the first control character in `whole`, the text of a `name`: an item or a
 /// note.
-fn tell_control(text: &mut String, name: &str, whole: &str) -> Result<(), OutOfMemory> {
+fn explain_control(text: &mut String, name: &str, whole: &str) -> Result<(), OutOfMemory> {
     let shown = Shown::of(whole);
     for (place, byte) in (1_u64..).zip(whole.bytes()) {
         if byte.is_ascii_control() {

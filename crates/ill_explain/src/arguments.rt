@@ -1,8 +1,8 @@
 //! The lines about wrong arguments, with the right form of each.
 
-use crate::action::{tell_action, tell_note};
-use crate::day::{tell_day, tell_due_before};
-use crate::file::tell_reserved;
+use crate::action::{explain_action, explain_note};
+use crate::day::{explain_day, explain_due_before};
+use crate::file::explain_reserved;
 use crate::shown::Shown;
 use crate::verbs::nearest;
 use clap::ArgMatches;
@@ -16,7 +16,7 @@ use std::alloc::Global;
 
 /// Appends a line about each wrong argument of the command `name`. If `text` is then still empty, it appends the lines
 /// about arguments that are wrong together.
-pub fn tell_arguments<T: LockFiles>(
+pub fn explain_arguments<T: LockFiles>(
     rt: &T,
     alloc: Global,
     text: &mut String,
@@ -25,17 +25,17 @@ pub fn tell_arguments<T: LockFiles>(
 ) -> Result<(), OutOfMemory> {
     for argument in name.arguments() {
         if let Some(word) = matches.get_str(argument.id()) {
-            tell_argument(alloc, text, *argument, word, matches)?;
+            explain_argument(alloc, text, *argument, word, matches)?;
         }
     }
     if text.is_empty() {
-        tell_together(rt, alloc, text, name, matches)?;
+        explain_together(rt, alloc, text, name, matches)?;
     }
     Ok(())
 }
 
 /// Appends the lines about arguments that are wrong together, although each is right alone.
-fn tell_together<T: LockFiles>(
+fn explain_together<T: LockFiles>(
     rt: &T,
     alloc: Global,
     text: &mut String,
@@ -46,8 +46,8 @@ fn tell_together<T: LockFiles>(
         return writeln!(text, "  --by names who acts on a day: give --today too.");
     }
     match name {
-        Name::Act => tell_action(rt, alloc, text, matches),
-        Name::Note => tell_note(alloc, text, matches),
+        Name::Act => explain_action(rt, alloc, text, matches),
+        Name::Note => explain_note(alloc, text, matches),
         Name::Outbox => writeln!(
             text,
             "  Say where the messages go: a folder, or --stream, and not both. Letters want a folder."
@@ -76,7 +76,7 @@ fn has_name_without_day(matches: &ArgMatches<'_>) -> bool {
 }
 
 /// Appends a line about `word`, the text of `argument`, if it is wrong. `matches` are all words of the command.
-fn tell_argument(
+fn explain_argument(
     alloc: Global,
     text: &mut String,
     argument: Argument,
@@ -84,29 +84,33 @@ fn tell_argument(
     matches: &ArgMatches<'_>,
 ) -> Result<(), OutOfMemory> {
     match argument {
-        Argument::NewFile | Argument::KeyFile => tell_reserved(text, word).map(|_| ()),
-        Argument::Role => tell_role(text, word),
-        Argument::Group => tell_qualifier(alloc, text, "group", word),
-        Argument::Transaction => tell_qualifier(alloc, text, "transaction", word),
+        Argument::NewFile | Argument::KeyFile => explain_reserved(text, word).map(|_| ()),
+        Argument::Role => explain_role(text, word),
+        Argument::Group => explain_qualifier(alloc, text, "group", word),
+        Argument::Transaction => explain_qualifier(alloc, text, "transaction", word),
         Argument::Today
         | Argument::OnDay
         | Argument::Since
         | Argument::ReportDay
         | Argument::From
         | Argument::To
-        | Argument::NightDay => tell_day(text, word),
-        Argument::DueBefore => tell_due_before(text, word, matches.get_str(Argument::OnDay.id())),
-        Argument::Ahead => tell_ahead(text, word),
-        Argument::By => tell_name(text, word),
-        Argument::InState => tell_state(alloc, text, word),
-        Argument::Number => tell_number(text, word),
-        Argument::Last => tell_last(text, word),
+        | Argument::NightDay => explain_day(text, word),
+        Argument::DueBefore => explain_due_before(
+            text,
+            word,
+            matches.get_str(Argument::OnDay.id()),
+        ),
+        Argument::Ahead => explain_ahead(text, word),
+        Argument::By => print_name(text, word),
+        Argument::InState => explain_state(alloc, text, word),
+        Argument::Number => explain_number(text, word),
+        Argument::Last => explain_last(text, word),
         _ => Ok(()),
     }
 }
 
 /// Appends a line about `word`, if it is no role.
-fn tell_role(text: &mut String, word: &str) -> Result<(), OutOfMemory> {
+fn explain_role(text: &mut String, word: &str) -> Result<(), OutOfMemory> {
     if who(word.as_bytes()).is_some() {
         return Ok(());
     }
@@ -115,7 +119,7 @@ fn tell_role(text: &mut String, word: &str) -> Result<(), OutOfMemory> {
 }
 
 /// Appends a line about `word`, if it is no name of a person for the diary.
-fn tell_name(text: &mut String, word: &str) -> Result<(), OutOfMemory> {
+fn print_name(text: &mut String, word: &str) -> Result<(), OutOfMemory> {
     if is_name(word) {
         return Ok(());
     }
@@ -127,7 +131,7 @@ fn tell_name(text: &mut String, word: &str) -> Result<(), OutOfMemory> {
 }
 
 /// Appends a line about `word`, if it is no qualifier of a loan. `name` says which one: group or transaction.
-fn tell_qualifier(
+fn explain_qualifier(
     alloc: Global,
     text: &mut String,
     name: &str,
@@ -147,14 +151,14 @@ fn tell_qualifier(
                 "  The {name} {shown} has {size} bytes: it has 64 at most."
             )
         }
-        Err(TextFault::BadByte) => tell_bad_byte(text, name, word),
+        Err(TextFault::BadByte) => explain_bad_byte(text, name, word),
         Err(TextFault::OutOfMemory) => Err(OutOfMemory),
     }
 }
 
 /// Appends two lines about the first byte of `word` that a qualifier may not have. `name` says which one: group or
 /// transaction.
-fn tell_bad_byte(text: &mut String, name: &str, word: &str) -> Result<(), OutOfMemory> {
+fn explain_bad_byte(text: &mut String, name: &str, word: &str) -> Result<(), OutOfMemory> {
     let shown = Shown::of(word);
     for (place, byte) in (1_u64..).zip(word.bytes()) {
         if !matches!(byte, b' '..=b'~') {
@@ -172,7 +176,7 @@ fn tell_bad_byte(text: &mut String, name: &str, word: &str) -> Result<(), OutOfM
 }
 
 /// Appends a line about `word`, if it is no state.
-fn tell_state(alloc: Global, text: &mut String, word: &str) -> Result<(), OutOfMemory> {
+fn explain_state(alloc: Global, text: &mut String, word: &str) -> Result<(), OutOfMemory> {
     if State::read(word.as_bytes()).is_some() {
         return Ok(());
     }
@@ -189,7 +193,7 @@ fn tell_state(alloc: Global, text: &mut String, word: &str) -> Result<(), OutOfM
 }
 
 /// Appends a line about `word`, if it is no number of a message.
-fn tell_number(text: &mut String, word: &str) -> Result<(), OutOfMemory> {
+fn explain_number(text: &mut String, word: &str) -> Result<(), OutOfMemory> {
     if number(word.as_bytes()).is_some() {
         return Ok(());
     }
@@ -198,7 +202,7 @@ fn tell_number(text: &mut String, word: &str) -> Result<(), OutOfMemory> {
 }
 
 /// Appends a line about `word`, if it is no number of days within which a due date is soon.
-fn tell_ahead(text: &mut String, word: &str) -> Result<(), OutOfMemory> {
+fn explain_ahead(text: &mut String, word: &str) -> Result<(), OutOfMemory> {
     if number(word.as_bytes()).is_some() {
         return Ok(());
     }
@@ -207,7 +211,7 @@ fn tell_ahead(text: &mut String, word: &str) -> Result<(), OutOfMemory> {
 }
 
 /// Appends a line about `word`, if it is no number of messages to show.
-fn tell_last(text: &mut String, word: &str) -> Result<(), OutOfMemory> {
+fn explain_last(text: &mut String, word: &str) -> Result<(), OutOfMemory> {
     if number(word.as_bytes()).is_some() {
         return Ok(());
     }

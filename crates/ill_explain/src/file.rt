@@ -21,7 +21,7 @@ const MARK: u32 = 4;
 
 /// Appends the cause of `fault`, a fault of a desk. The desk is the first one at the command's PATHs that cannot be
 /// opened, or else its FILE. Without both it appends that a name is no UTF-8.
-pub fn tell_desk_fault<T: LockFiles>(
+pub fn explain_desk_fault<T: LockFiles>(
     rt: &T,
     alloc: Global,
     text: &mut String,
@@ -34,7 +34,7 @@ pub fn tell_desk_fault<T: LockFiles>(
         None => matches.get_str(Argument::File.id()),
     };
     match path {
-        Some(path) => tell_fault_at(rt, text, path, has_mails(matches), fault),
+        Some(path) => explain_fault_at(rt, text, path, has_message_files(matches), fault),
         None => writeln!(
             text,
             "  A line before has a name that is no UTF-8: no file of that name is opened."
@@ -42,13 +42,13 @@ pub fn tell_desk_fault<T: LockFiles>(
     }
 }
 
-/// Appends the cause of `fault`, a fault of the desk in the file at `path`. `has_mails` is true if the command has a
-/// folder of mails. Appends nothing for a fault whose own line says enough.
-pub fn tell_fault_at<T: LockFiles>(
+/// Appends the cause of `fault`, a fault of the desk in the file at `path`. `has_message_files` is true if the command
+/// has a folder of message files. Appends nothing for a fault whose own line says enough.
+pub fn explain_fault_at<T: LockFiles>(
     rt: &T,
     text: &mut String,
     path: &str,
-    has_mails: bool,
+    has_message_files: bool,
     fault: DeskFault,
 ) -> Result<(), OutOfMemory> {
     let alloc = *text.allocator();
@@ -58,14 +58,14 @@ pub fn tell_fault_at<T: LockFiles>(
             text,
             "  {shown} is there already: a new desk wants a new file."
         ),
-        DeskFault::NoRecord => tell_absent(rt, text, path),
+        DeskFault::NoRecord => explain_absent(rt, text, path),
         DeskFault::Store(StoreFault::Failed)
-            if has_mails && !is_at_work(rt, alloc, path) && can_be_opened(rt, alloc, path) => {
-            tell_told_before(text, path)
-        }
-        DeskFault::Store(StoreFault::Failed) => tell_failed(rt, alloc, text, path),
-        DeskFault::Store(StoreFault::TooLarge) => tell_too_large(rt, alloc, text, path),
-        DeskFault::Saved(fault) => tell_no_record(text, path, fault),
+            if has_message_files
+                && !is_at_work(rt, alloc, path)
+                && can_be_opened(rt, alloc, path) => { explain_printed_before(text, path) }
+        DeskFault::Store(StoreFault::Failed) => explain_failed(rt, alloc, text, path),
+        DeskFault::Store(StoreFault::TooLarge) => explain_too_large(rt, alloc, text, path),
+        DeskFault::Saved(fault) => explain_no_record(text, path, fault),
         DeskFault::NoSuchTransaction => {
             writeln!(
                 text,
@@ -83,7 +83,7 @@ pub fn tell_fault_at<T: LockFiles>(
 }
 
 /// Appends that a line before tells what failed, or that the desk in the file at `path` is not saved.
-fn tell_told_before(text: &mut String, path: &str) -> Result<(), OutOfMemory> {
+fn explain_printed_before(text: &mut String, path: &str) -> Result<(), OutOfMemory> {
     let shown = Shown::of(path);
     writeln!(
         text,
@@ -95,8 +95,8 @@ fn tell_told_before(text: &mut String, path: &str) -> Result<(), OutOfMemory> {
     )
 }
 
-/// Returns true if a command has a folder of mails. Such a command itself names a folder that fails.
-fn has_mails(matches: &ArgMatches<'_>) -> bool {
+/// Returns true if a command has a folder of message files. Such a command itself names a folder that fails.
+fn has_message_files(matches: &ArgMatches<'_>) -> bool {
     matches.get_str(Argument::Folder.id()).is_some() || matches.get_str(Argument::In.id()).is_some()
 }
 
@@ -133,7 +133,7 @@ fn failed_at<T: LockFiles>(rt: &T, alloc: Global, path: &str) -> Option<String> 
 }
 
 /// Appends the file that has too many bytes: the file of the desk, of the messages that came, or of the notes.
-fn tell_too_large<T: LockFiles>(
+fn explain_too_large<T: LockFiles>(
     rt: &T,
     alloc: Global,
     text: &mut String,
@@ -159,15 +159,15 @@ fn is_too_large<T: LockFiles>(rt: &T, path: &str) -> bool {
 }
 
 /// Appends that there is no file at `path`. If its folder does not exist, it appends that too.
-fn tell_absent<T: LockFiles>(rt: &T, text: &mut String, path: &str) -> Result<(), OutOfMemory> {
+fn explain_absent<T: LockFiles>(rt: &T, text: &mut String, path: &str) -> Result<(), OutOfMemory> {
     let shown = Shown::of(path);
     writeln!(text, "  {shown} is not there: `ill new` begins a desk.")?;
-    tell_no_folder(rt, text, path)?;
+    explain_no_folder(rt, text, path)?;
     Ok(())
 }
 
 /// If the folder of the file at `path` does not exist, appends that and returns true. Else it returns false.
-fn tell_no_folder<T: LockFiles>(
+fn explain_no_folder<T: LockFiles>(
     rt: &T,
     text: &mut String,
     path: &str,
@@ -185,7 +185,7 @@ fn tell_no_folder<T: LockFiles>(
 }
 
 /// Appends the reason why the file at `path` was not read, locked or written.
-fn tell_failed<T: LockFiles>(
+fn explain_failed<T: LockFiles>(
     rt: &T,
     alloc: Global,
     text: &mut String,
@@ -195,18 +195,18 @@ fn tell_failed<T: LockFiles>(
     if path.is_empty() {
         return writeln!(text, "  The name of the file is empty.");
     }
-    if tell_reserved(text, path)? {
+    if explain_reserved(text, path)? {
         return Ok(());
     }
     match fs::symlink_metadata(rt, path) {
-        Ok(found) if !found.is_file() => tell_kind(rt, text, path, &found),
-        Ok(_) => tell_closed(rt, alloc, text, path),
-        Err(error) => tell_not_found(rt, alloc, text, path, error.kind()),
+        Ok(found) if !found.is_file() => explain_kind(rt, text, path, &found),
+        Ok(_) => explain_closed(rt, alloc, text, path),
+        Err(error) => explain_not_found(rt, alloc, text, path, error.kind()),
     }
 }
 
 /// If `path` ends as the files beside a desk do, appends that and returns true. Else it returns false.
-pub fn tell_reserved(text: &mut String, path: &str) -> Result<bool, OutOfMemory> {
+pub fn explain_reserved(text: &mut String, path: &str) -> Result<bool, OutOfMemory> {
     let shown = Shown::of(path);
     for ending in &BESIDE {
         if path.ends_with(*ending) {
@@ -220,8 +220,8 @@ pub fn tell_reserved(text: &mut String, path: &str) -> Result<bool, OutOfMemory>
     Ok(false)
 }
 
-/// Appends the kind of thing that is at `path` instead of a file. `found` is the system's answer on it.
-fn tell_kind<T: LockFiles>(
+/// Appends the kind of thing that is at `path` instead of a file. `found` is the system's answer about it.
+fn explain_kind<T: LockFiles>(
     rt: &T,
     text: &mut String,
     path: &str,
@@ -243,9 +243,9 @@ fn tell_kind<T: LockFiles>(
     writeln!(text, "  {shown} is no regular file.")
 }
 
-/// Appends the reason why the regular file at `path` was not read or saved. If it can be opened now, `tell_unsaved`
+/// Appends the reason why the regular file at `path` was not read or saved. If it can be opened now, `explain_unsaved`
 /// finds the reason.
-fn tell_closed<T: LockFiles>(
+fn explain_closed<T: LockFiles>(
     rt: &T,
     alloc: Global,
     text: &mut String,
@@ -257,13 +257,13 @@ fn tell_closed<T: LockFiles>(
             writeln!(text, "  {shown} may not be read by this user.")
         }
         Err(_) => writeln!(text, "  {shown} cannot be opened."),
-        Ok(_) => tell_unsaved(rt, alloc, text, path),
+        Ok(_) => explain_unsaved(rt, alloc, text, path),
     }
 }
 
 /// Appends the reason why no file was found at `path`: the system's error was of this `kind`. If the folder is there
-/// and may be entered, `tell_unsaved` finds the reason.
-fn tell_not_found<T: LockFiles>(
+/// and may be entered, `explain_unsaved` finds the reason.
+fn explain_not_found<T: LockFiles>(
     rt: &T,
     alloc: Global,
     text: &mut String,
@@ -277,15 +277,15 @@ fn tell_not_found<T: LockFiles>(
             "  {shown} is in a folder that this user may not enter."
         );
     }
-    if tell_no_folder(rt, text, path)? {
+    if explain_no_folder(rt, text, path)? {
         return Ok(());
     }
-    tell_unsaved(rt, alloc, text, path)
+    explain_unsaved(rt, alloc, text, path)
 }
 
 /// Appends that another command holds the file at `path`. If none does, it appends that the file, or one beside it,
 /// cannot be read or written.
-fn tell_unsaved<T: LockFiles>(
+fn explain_unsaved<T: LockFiles>(
     rt: &T,
     alloc: Global,
     text: &mut String,
@@ -309,13 +309,13 @@ fn tell_unsaved<T: LockFiles>(
         "  Look at the permissions of both, and at the room on the disk."
     )?;
     let came = format!(in alloc; "{path}{CAME}")?;
-    tell_kept(rt, text, came.as_str(), ", or has more than messages")?;
+    explain_kept(rt, text, came.as_str(), ", or has more than messages")?;
     let notes = format!(in alloc; "{path}{NOTES}")?;
-    tell_kept(rt, text, notes.as_str(), "")
+    explain_kept(rt, text, notes.as_str(), "")
 }
 
 /// Appends that the file at `kept` may be the cause, if it exists. `more` is the end of the sentence, or empty.
-fn tell_kept<T: LockFiles>(
+fn explain_kept<T: LockFiles>(
     rt: &T,
     text: &mut String,
     kept: &str,
@@ -348,7 +348,7 @@ fn is_file<T: LockFiles>(rt: &T, path: &str) -> bool {
 }
 
 /// Appends the reason `fault` why the bytes of the file at `path` are no record.
-fn tell_no_record(text: &mut String, path: &str, fault: RecordFault) -> Result<(), OutOfMemory> {
+fn explain_no_record(text: &mut String, path: &str, fault: RecordFault) -> Result<(), OutOfMemory> {
     let shown = Shown::of(path);
     writeln!(text, "  {shown} holds no record of a desk.")?;
     match fault {

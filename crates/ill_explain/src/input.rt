@@ -97,13 +97,13 @@ impl<R: Read> Read for Watched<'_, R> {
 
 /// Appends the lines about the faulty message of the input. `passed` gives its place, if it is known, and `fault` its
 /// fault.
-pub fn tell_bad_bytes(
+pub fn explain_bad_bytes(
     text: &mut String,
     fault: DerFault,
     passed: Option<Passed>,
 ) -> Result<(), OutOfMemory> {
     if let Some(passed) = passed {
-        tell_place(text, passed)?;
+        explain_place(text, passed)?;
     }
     match fault {
         DerFault::Short(at) => writeln!(
@@ -121,7 +121,7 @@ pub fn tell_bad_bytes(
 }
 
 /// Appends the number of the faulty message, and the byte at which it begins. The good messages before it are `passed`.
-fn tell_place(text: &mut String, passed: Passed) -> Result<(), OutOfMemory> {
+fn explain_place(text: &mut String, passed: Passed) -> Result<(), OutOfMemory> {
     let number = passed.messages.saturating_add(1);
     let begin = passed.bytes;
     writeln!(
@@ -131,7 +131,7 @@ fn tell_place(text: &mut String, passed: Passed) -> Result<(), OutOfMemory> {
 }
 
 /// Appends that the line `line` of a script is no event. It adds that the help of the command `name` lists the events.
-pub fn tell_bad_line(text: &mut String, name: Name, line: u32) -> Result<(), OutOfMemory> {
+pub fn explain_bad_line(text: &mut String, name: Name, line: u32) -> Result<(), OutOfMemory> {
     let command = name.word();
     writeln!(
         text,

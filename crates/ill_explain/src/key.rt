@@ -9,7 +9,7 @@ use ill_text::fault::BadKey;
 use ill_values::OutOfMemory;
 
 /// Appends the reason why the key of a command cannot be used.
-pub fn tell_bad_key(
+pub fn explain_bad_key(
     text: &mut String,
     matches: &ArgMatches<'_>,
     bad: BadKey,
@@ -41,7 +41,7 @@ pub fn tell_bad_key(
 }
 
 /// Appends the reason why the file of a key was not made.
-pub fn tell_key_not_made(
+pub fn explain_key_not_made(
     text: &mut String,
     matches: &ArgMatches<'_>,
     fault: DeskFault,

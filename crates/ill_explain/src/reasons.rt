@@ -1,11 +1,11 @@
 //! The reasons for a fault of a command line.
 
-use crate::arguments::tell_arguments;
-use crate::file::tell_desk_fault;
-use crate::input::{Passed, tell_bad_bytes, tell_bad_line};
-use crate::key::{tell_bad_key, tell_key_not_made};
-use crate::refused::tell_refused;
-use crate::shelf::tell_shelf_fault;
+use crate::arguments::explain_arguments;
+use crate::file::explain_desk_fault;
+use crate::input::{Passed, explain_bad_bytes, explain_bad_line};
+use crate::key::{explain_bad_key, explain_key_not_made};
+use crate::refused::explain_refused;
+use crate::shelf::explain_shelf_fault;
 use clap::ArgMatches;
 use ill_files::machine::Machine;
 use ill_line::command_line::{Argument, Name, SHELF};
@@ -98,25 +98,31 @@ fn tell<T: LockFiles>(
         fault,
         passed,
     };
-    tell_first(rt, text, &failed).ok()?;
-    tell_place(rt, text, &failed, is_on_shelf).ok()
+    explain_first(rt, text, &failed).ok()?;
+    explain_place(rt, text, &failed, is_on_shelf).ok()
 }
 
 /// Appends to `text` the lines about words that are refused before a file is opened, if the fault is one of arguments.
-fn tell_first<T: LockFiles>(
+fn explain_first<T: LockFiles>(
     rt: &T,
     text: &mut String,
     failed: &Failed<'_, '_>,
 ) -> Result<(), OutOfMemory> {
     match failed.fault {
-        ToolFault::Arguments => tell_refused(rt, text, failed.words, failed.name, failed.matches),
+        ToolFault::Arguments => explain_refused(
+            rt,
+            text,
+            failed.words,
+            failed.name,
+            failed.matches,
+        ),
         _ => Ok(()),
     }
 }
 
 /// Appends to `text` the lines about a fault of a command, on a shelf or on one desk. Only a fault of a desk has other
 /// lines on a shelf.
-fn tell_place<T: LockFiles>(
+fn explain_place<T: LockFiles>(
     rt: &T,
     text: &mut String,
     failed: &Failed<'_, '_>,
@@ -125,35 +131,35 @@ fn tell_place<T: LockFiles>(
     let alloc = *text.allocator();
     match failed.fault {
         ToolFault::Desk(fault) if is_on_shelf => {
-            tell_shelf_fault(rt, alloc, text, failed.matches, fault)
+            explain_shelf_fault(rt, alloc, text, failed.matches, fault)
         }
-        _ => tell_fault(rt, text, failed),
+        _ => print_fault(rt, text, failed),
     }
 }
 
 /// Appends to `text` the lines about a fault of a command on one desk. On a shelf these are also the lines about each
 /// fault that is not of a desk.
-fn tell_fault<T: LockFiles>(
+fn print_fault<T: LockFiles>(
     rt: &T,
     text: &mut String,
     failed: &Failed<'_, '_>,
 ) -> Result<(), OutOfMemory> {
     let alloc = *text.allocator();
     match failed.fault {
-        ToolFault::Arguments => tell_arguments(rt, alloc, text, failed.name, failed.matches),
-        ToolFault::Der(fault) => tell_bad_bytes(text, fault, failed.passed_on()),
-        ToolFault::Script(line) => tell_bad_line(text, failed.name, line),
+        ToolFault::Arguments => explain_arguments(rt, alloc, text, failed.name, failed.matches),
+        ToolFault::Der(fault) => explain_bad_bytes(text, fault, failed.passed_on()),
+        ToolFault::Script(line) => explain_bad_line(text, failed.name, line),
         ToolFault::Desk(fault) if matches!(failed.name, Name::Key) => {
-            tell_key_not_made(text, failed.matches, fault)
+            explain_key_not_made(text, failed.matches, fault)
         }
-        ToolFault::Desk(fault) => tell_desk_fault(rt, alloc, text, failed.matches, fault),
-        ToolFault::Key(bad) => tell_bad_key(text, failed.matches, bad),
+        ToolFault::Desk(fault) => explain_desk_fault(rt, alloc, text, failed.matches, fault),
+        ToolFault::Key(bad) => explain_bad_key(text, failed.matches, bad),
         ToolFault::NotSealed => writeln!(
             text,
             "  The input is no letter of the other library, sealed with this key, or it was changed on its way."
         ),
         ToolFault::TooMany => writeln!(text, "  Divide the input, and give its parts one by one."),
-        ToolFault::Left => writeln!(
+        ToolFault::Deferred => writeln!(
             text,
             "  Mails stay in the folder for the next run: their lines, and the last one, say why."
         ),

@@ -11,7 +11,7 @@ use std::alloc::Global;
 use std::rt::Files;
 
 /// Appends the lines about an option among the words of an action or a note, or about a desk of a shelf.
-pub fn tell_refused<T: Files>(
+pub fn explain_refused<T: Files>(
     rt: &T,
     text: &mut String,
     words: &[&str],
@@ -21,16 +21,16 @@ pub fn tell_refused<T: Files>(
     let alloc = *text.allocator();
     let action = matches.get_strs(Argument::Words.id()).unwrap_or_default();
     if has_option(words, action) {
-        return tell_options(text, name, action);
+        return explain_options(text, name, action);
     }
     match read_words(alloc, words) {
-        Ok(call) => tell_guarded(rt, alloc, text, name, &call),
+        Ok(call) => explain_guarded(rt, alloc, text, name, &call),
         Err(_) => Ok(()),
     }
 }
 
 /// Appends the lines about `call` if it is a request for one desk that the guard refuses. Appends nothing else.
-fn tell_guarded<T: Files>(
+fn explain_guarded<T: Files>(
     rt: &T,
     alloc: Global,
     text: &mut String,
@@ -39,14 +39,14 @@ fn tell_guarded<T: Files>(
 ) -> Result<(), OutOfMemory> {
     match call {
         Call::Desk(request) if refuse_desk_of_shelf(rt, alloc, request).is_err() => {
-            tell_desk_of_shelf(text, name, request.desk_at_stake().unwrap_or_default())
+            explain_desk_of_shelf(text, name, request.desk_at_stake().unwrap_or_default())
         }
         _ => Ok(()),
     }
 }
 
 /// Appends that the first option in `action` stands among its words, and how it becomes part of a title or a note.
-fn tell_options(text: &mut String, name: Name, action: &[&str]) -> Result<(), OutOfMemory> {
+fn explain_options(text: &mut String, name: Name, action: &[&str]) -> Result<(), OutOfMemory> {
     let option = action.iter().find(|word| is_option(word));
     let shown = Shown::of(option.copied().unwrap_or_default());
     let (whole, part) = match name {
@@ -64,7 +64,7 @@ fn tell_options(text: &mut String, name: Name, action: &[&str]) -> Result<(), Ou
 }
 
 /// Appends that `file` is a desk of a shelf, and the command of the shelf.
-fn tell_desk_of_shelf(text: &mut String, name: Name, file: &str) -> Result<(), OutOfMemory> {
+fn explain_desk_of_shelf(text: &mut String, name: Name, file: &str) -> Result<(), OutOfMemory> {
     let shown = Shown::of(file);
     let word = name.word();
     match name {

@@ -1,6 +1,6 @@
 //! The lines about a fault of a shelf, or of the desk of a group on it.
 
-use crate::file::tell_fault_at;
+use crate::file::explain_fault_at;
 use crate::shown::Shown;
 use clap::ArgMatches;
 use ill_files::home::{Home, home_at};
@@ -11,7 +11,7 @@ use ill_values::OutOfMemory;
 use std::alloc::Global;
 
 /// Appends the cause of a fault of a command on a shelf.
-pub fn tell_shelf_fault<T: LockFiles>(
+pub fn explain_shelf_fault<T: LockFiles>(
     rt: &T,
     alloc: Global,
     text: &mut String,
@@ -29,7 +29,7 @@ pub fn tell_shelf_fault<T: LockFiles>(
     match matches.get_str(Argument::Group.id()) {
         Some(group) => {
             let desk = shelf.desk_of(alloc, group.as_bytes())?;
-            tell_of_group(rt, alloc, text, desk.as_str(), fault)
+            explain_of_group(rt, alloc, text, desk.as_str(), fault)
         }
         None => writeln!(
             text,
@@ -39,7 +39,7 @@ pub fn tell_shelf_fault<T: LockFiles>(
 }
 
 /// Appends the cause of `fault` at `desk`, the file of the desk of a group.
-fn tell_of_group<T: LockFiles>(
+fn explain_of_group<T: LockFiles>(
     rt: &T,
     alloc: Global,
     text: &mut String,
@@ -57,6 +57,6 @@ fn tell_of_group<T: LockFiles>(
             text,
             "  {shown} is not there: `request` begins the group, with --new-group before it."
         ),
-        _ => tell_fault_at(rt, text, desk, false, fault),
+        _ => explain_fault_at(rt, text, desk, false, fault),
     }
 }

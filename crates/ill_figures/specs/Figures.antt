@@ -1,4 +1,5 @@
--- The figures of a desk over a span of days: what the loans that were asked in the span came to, and how long they took.
+-- The figures of a desk over a span of days: what the loans that were asked in the span came to, and how long they
+-- took.
 use Rattle.std.specs.Prelude.{ℕ, zero, suc, ◌+◌, ◌*◌, ◌/◌, Bool, true, false, List, [], ◌∷◌, map, filter, Option, None, Some}
 use Rattle.std.specs.Prelude.{is_none}
 use Rattle.std.specs.Prelude.{is_some}

@@ -57,8 +57,9 @@ pub struct FiguresSought<'a> {
 /// Writes the figures of `desk` in the form of `sought`. Of the loans asked in the span, they tell how many ended
 /// how, and how long they took. `listed` says if the path of the desk is written before lines.
 ///
-/// The day of a message is that of the last line of the diary which names it. `sought` has the bytes of the messages that
-/// `take --keep`, `inbox` and `exchange` have kept. A part that is no message, and all bytes after it, are ignored.
+/// The day of a message is that of the last line of the diary which names it. `sought` has the bytes of the messages
+/// that `take --keep`, `inbox` and `exchange` have kept. A part that is no message, and all bytes after it, are
+/// ignored.
 pub fn run_desk_figures<S: Store, W: Write>(
     alloc: Global,
     desk: &Desk<S>,

@@ -16,8 +16,8 @@ ghost use Rattle.ill_figures.specs.declared.count.Count.TheVariants as counts;
 ghost use Rattle.ill_figures.specs.declared.loan_figures.Loan.{Loan};
 ghost use Rattle.ill_figures.specs.declared.means.Wait.{Wait};
 
-/// Each loan that was asked is counted once. It is filled, open, cancelled or refused, and no two of these. Each loan that
-/// was refused has one reason.
+/// Each loan that was asked is counted once. It is filled, open, cancelled or refused, and no two of these. Each loan
+/// that was refused has one reason.
 pub fn each_loan_is_counted_once()
     ensures all { (asked : List Loan) → counted asked counts.Asked ≡ length asked }
     ensures outcome { (asked : List Loan) → sum_by (counted asked) outcomes ≡ counted asked counts.Asked }

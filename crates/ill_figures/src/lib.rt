@@ -1,5 +1,5 @@
-//! The figures of a desk over a span of days: how many loans were asked, how they ended, and how long they took. No file
-//! and no lock is known here.
+//! The figures of a desk over a span of days: how many loans were asked, how they ended, and how long they took. No
+//! file and no lock is known here.
 #![tactic(auto)]
 
 mod count;

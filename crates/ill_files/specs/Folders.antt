@@ -2,8 +2,8 @@
 use Rattle.std.specs.Prelude.{◌≡◌, ◌⊎◌, ℕ, List, ◌++◌, codes, replicate}
 use Rattle.std.specs.List.{All, Any}
 
--- `file` is the path of an entry of `folder`: that of the folder, a slash, and the entry's name. Nothing is asked of the
--- name.
+-- `file` is the path of an entry of `folder`: that of the folder, a slash, and the entry's name. Nothing is asked of
+-- the name.
 abbrev pub IsEntryOf : (folder file : List ℕ) → Type 0
 IsEntryOf folder file = (name : List ℕ) × (file ≡ folder ++ (codes "/" ++ name))
 

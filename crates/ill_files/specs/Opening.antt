@@ -8,9 +8,9 @@ use Rattle.ill_text.specs.declared.fault.ToolFault.TheVariants.{Desk}
 use Rattle.ill_text.specs.Fault.{IsOpenFault}
 
 -- Returns true in place of the answer of a command, or its fault.
-abbrev pub all_well : {A : Type 0} → Result A ToolFault → Result Bool ToolFault
-all_well (Ok answer) = Ok true
-all_well (Err fault) = Err fault
+abbrev pub all_succeed : {A : Type 0} → Result A ToolFault → Result Bool ToolFault
+all_succeed (Ok answer) = Ok true
+all_succeed (Err fault) = Err fault
 
 -- Returns `answer` if the output was written, else the fault.
 abbrev pub after_writing : Result (Unit {0}) ToolFault → Result Bool ToolFault → Result Bool ToolFault
@@ -18,8 +18,8 @@ after_writing (Ok done) answer = answer
 after_writing (Err fault) answer = Err fault
 
 -- `Answers` holds of some answer of a command. `result` is true in place of that answer, or its fault.
-abbrev pub GoesWell : {A : Type 0} → (Result A ToolFault → Type 0) → Result Bool ToolFault → Type 0
-GoesWell {A} Answers result = (answer : Result A ToolFault) × Answers answer × (result ≡ all_well answer)
+abbrev pub Succeeds : {A : Type 0} → (Result A ToolFault → Type 0) → Result Bool ToolFault → Type 0
+Succeeds {A} Answers result = (answer : Result A ToolFault) × Answers answer × (result ≡ all_succeed answer)
 
 -- The command fails since a file could not be opened or locked, or memory ran out. The output is unchanged: `before`
 -- and `after` are equal.

@@ -3,7 +3,7 @@
 ghost use Rattle.std.specs.Prelude.{IfErr};
 ghost use Rattle.ill_text.specs.Fault.{IsOpenFault};
 
-use crate::paths::{CAME, MAIL, NOTES, is_there};
+use crate::paths::{CAME, MAIL_FOLDER, NOTES, is_there};
 use crate::shelf::is_retired;
 use ill_saved::DeskFault;
 use ill_text::fault::ToolFault;
@@ -42,7 +42,7 @@ pub fn home_at<T: Files>(rt: &T, alloc: Global, desk: &str) -> io::Result<Home> 
 /// Returns true if a file or folder that may outlive the desk lies beside its path `desk`. Its group was then begun
 /// before.
 fn is_lost<T: Files>(rt: &T, alloc: Global, desk: &str) -> io::Result<bool> {
-    for ending in [CAME, NOTES, MAIL] {
+    for ending in [CAME, NOTES, MAIL_FOLDER] {
         let path = format!(in alloc; "{desk}{ending}")?;
         if is_there(rt, path.as_str())? {
             return Ok(true);

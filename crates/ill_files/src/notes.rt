@@ -1,4 +1,5 @@
-//! The file that keeps the notes of staff on the loans of a desk. It lies beside the desk's file, and has a line a note.
+//! The file that keeps the notes of staff on the loans of a desk. It lies beside the desk's file, and has a line a
+//! note.
 
 ghost use Rattle.std.specs.Prelude.{IfErr};
 ghost use Rattle.ill_text.specs.Fault.{IsOpenFault};

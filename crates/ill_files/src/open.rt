@@ -2,7 +2,7 @@
 
 ghost use Rattle.std.specs.Prelude.{◌≡◌, Ok, true, IfErr};
 ghost use Rattle.ill_saved.specs.Desk.{answer_of};
-ghost use Rattle.ill_files.specs.Opening.{after_writing, all_well};
+ghost use Rattle.ill_files.specs.Opening.{after_writing, all_succeed};
 ghost use Rattle.ill_text.specs.Fault.{IsOpenFault};
 
 use ill_saved::{Desk, DeskFault, FileLock, FileStore, LockFiles, LockedDesk, RECORD_LIMIT};
@@ -11,8 +11,8 @@ use std::alloc::Global;
 use std::rt::Files;
 
 /// Returns true in place of the answer, or the fault.
-pub fn all_well<A: Drop>(answer: Result<A, ToolFault>) -> Result<bool, ToolFault>
-    ensures { result ≡ all_well answer }
+pub fn all_succeed<A: Drop>(answer: Result<A, ToolFault>) -> Result<bool, ToolFault>
+    ensures { result ≡ all_succeed answer }
 {
     match answer {
         Ok(_) => Ok(true),
@@ -35,7 +35,7 @@ pub fn after_writing(
 
 /// Drops the desk or the store of `begun`, and returns true, or its fault.
 pub fn end<D: Drop, S: Drop>(begun: Result<D, (ToolFault, S)>) -> Result<bool, ToolFault>
-    ensures { result ≡ all_well (answer_of begun) }
+    ensures { result ≡ all_succeed (answer_of begun) }
 {
     match begun {
         Ok(_) => Ok(true),

@@ -26,13 +26,13 @@ pub const DIARY: &str = ".diary";
 pub const KEPT: [&str; 3] = [CAME, NOTES, DIARY];
 
 /// The endings of the names of the files, and of the folder, that lie beside the file of a desk.
-pub const BESIDE: [&str; 7] = [".new", ".lck", CAME, NOTES, DIARY, MAIL, RETIRED];
+pub const BESIDE: [&str; 7] = [".new", ".lck", CAME, NOTES, DIARY, MAIL_FOLDER, RETIRED];
 
 /// The number of bytes of names that are read from a folder at once. Any name fits.
 const NAMES: usize = 4096;
 
-/// The ending of the name of the folder of mails, after the name of the desk's file.
-pub const MAIL: &str = ".mail";
+/// The ending of the name of the folder of message files, after the name of the desk's file.
+pub const MAIL_FOLDER: &str = ".mail";
 
 /// The ending of the name of the file that marks a retired group, after the name of its desk.
 pub const RETIRED: &str = ".retired";

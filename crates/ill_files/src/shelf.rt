@@ -19,11 +19,11 @@ use std::io;
 use std::path::Path;
 use std::rt::Files;
 
-/// The name of the shelf's own desk, which has no loans. Its role is the role of the shelf. It takes mails that no desk
-/// of a group can take.
+/// The name of the shelf's own desk, which has no loans. Its role is the role of the shelf. It takes message files that
+/// no desk of a group can take.
 pub(crate) const OWN: &str = ".shelf";
 
-/// The name, before `.mail`, of the folder of mails that are not sorted yet.
+/// The name, before `.mail`, of the folder of message files that are not sorted yet.
 const UNSORTED: &str = ".unsorted";
 
 /// The bytes that become an escape in the name of a desk. Letters, digits, the hyphen and the underscore do not.
@@ -90,7 +90,7 @@ impl<'a> Shelf<'a> {
         own_path(alloc, self.folder)
     }
 
-    /// Returns a path without a desk. The folder of mails that are not sorted yet is beside it.
+    /// Returns a path without a desk. The folder of message files that are not sorted yet is beside it.
     pub fn unsorted(&self, alloc: Global) -> Result<String, OutOfMemory> {
         Ok(format!(in alloc; "{}/{UNSORTED}", self.folder)?)
     }

@@ -30,8 +30,8 @@ impl Texts for Help {
     }
 }
 
-/// Returns the answer of `clap` to the words of a command line that ask for a help, as an error. It has the text. Returns
-/// None if `clap` reads the words as a command.
+/// Returns the answer of `clap` to the words of a command line that ask for a help, as an error. It has the text.
+/// Returns None if `clap` reads the words as a command.
 pub fn help_for(alloc: Global, words: &[&str]) -> Option<Error> {
     match command(alloc, &Help) {
         Ok(command) => command.try_get_matches_from(words).err(),

@@ -9,18 +9,19 @@ The commands stand in groups:
   for over 1,000 loans  shelf, which has commands of its own
   to look inside        verify, show, check, simulate, simulate-desks
 
-A desk is the loans of one library in one role, and it is kept in a file. The
-libraries carry the messages, by mail or by hand. `ill COMMAND --help` explains
-a command. What follows holds for all of them.
+A desk is the loans of one library in one role, and it is kept in a file. A
+transport, which is a program or a person, carries the messages. `ill COMMAND
+--help` explains a command. What follows holds for all of them.
 
-A loan is named by its GROUP and TRANSACTION, of 1 to 64 characters of ASCII
-each, from space to tilde. If one begins with a hyphen, `--` goes before the
-arguments. A day is eight digits, as 20250315, of the years 1900 to 9999. After
-an option it may have hyphens, as 2025-03-15.
+A loan is named by its GROUP and TRANSACTION. These have 1 to 64 characters of
+ASCII each, from space to tilde. If one begins with a hyphen, `--` goes before
+the arguments. A day is eight digits, as 20250315, of the years 1900 to 9999.
+After an option it may have hyphens, as 2025-03-15.
 
 FILE has at most 67,108,864 bytes. Only `new`, `act`, `take`, `inbox` and
 `exchange` change it. `show`, `check`, `simulate` and `simulate-desks` read and
-write no file. `key` makes or reads KEYFILE, the file of a key, and no other.
+write no file. `key` makes or reads KEYFILE, the file of a key, and no other. No
+loan depends on FILE.came, FILE.notes or FILE.diary: they may be put away.
 
 Several commands may be started at once on one file. `new`, `act`, `note`,
 `take`, `inbox`, `outbox` and `exchange` wait for each other: ten seconds, and
@@ -29,22 +30,24 @@ until its input ends. `list`, `news`, `loan`, `slip`, `status`, `report`,
 `figures`, `send` and `verify` wait for nobody.
 
 PATH is the file of a desk, or a folder of desks. A folder's desks come in the
-order of their names. They are its regular files, but for those that begin with
-a dot or lie beside a desk (`ill new --help` names these). Of a folder with a
-shelf, only the desks of its groups come. With several desks `list`, `news` and
-`figures` print a line `PATH:` before each desk that has something to show, and
-an empty line before each but the first. Standard error names a desk that cannot
-be read, and the others come. It also names a file whose name is no UTF-8, which
-counts as `store failed`. The exit status is that of the first desk that fails.
+order of their names. They are its regular files, without those that begin with
+a dot or lie beside a desk. `ill new --help` names the latter. Of a folder with
+a shelf, only the desks of its groups come. With several desks `list`, `news`
+and `figures` print a line `PATH:` before each desk that has something to show.
+An empty line stands before each such line but the first. Standard error names a
+desk that cannot be read, and the others come. It also names a file whose name
+is no UTF-8, which counts as `store failed`. The exit status is that of the
+first desk that fails.
 
 Only `take`, `key`, `show`, `check`, `simulate` and `simulate-desks` read
-standard input. `take`, `show` and `check` read APDUs, in the short form, one
-after another up to its end: at most 100,000 of them, each of 359 bytes at most.
+standard input. `take`, `show` and `check` read APDUs in the short form, one
+after another, up to its end. It may have at most 100,000 of them, each of 359
+bytes at most.
 
 A character on which a terminal or an editor may act is shown by its number, as
-\\u{202e}. In a line of `list` or `news` so is a space at an edge of a group or
-transaction, or after another space. Only `show` without --json prints each
-character as it is.
+\\u{202e}. In `list` and `news` lines so is a space at an edge of GROUP or
+TRANSACTION or after a space. Only `show` without --json prints each character
+as it is.
 
 With --json each loan or message is an object of JSON on a line. It has its
 `kind` first, and then the labels of the text in their order, with `_` for a
@@ -52,9 +55,9 @@ hyphen. With several desks each object has its PATH in `file`. All fields stand
 in docs/ill.schema.json.
 
 With --explain, lines after that of a fault say which word, file or message is
-wrong, and what would be right. The option stands before the command, or after
-it but before the words of an action or a note. The lines begin with spaces, and
-no program may depend on them.
+wrong. They say what would be right, too. The option stands before the command,
+or after it but before the words of an action or a note. The lines begin with
+spaces, and no program may depend on them.
 
 The start of a loan, with the requester's desk in the file `here` and the
 responder's in the file `there`:
@@ -102,7 +105,8 @@ The exit status, and the line of a fault on standard error after `ill: `:
                           KEYFILE cannot be made
   3  store too-large      FILE, FILE.came or FILE.notes has more than
                           67,108,864 bytes
-  3  left                 `inbox` or `exchange` has left mails for the next run
+  3  left                 `inbox` or `exchange` has deferred message files to
+                          the next run
   3  read                 the input cannot be read
   3  write                the output cannot be written; a closed pipe too
   3  memory               memory ran out
@@ -121,9 +125,9 @@ The desk has no loan yet. A library that both borrows and lends has two desks,
 one as requester and one as responder, in two files.
 
 FILE must not be there yet, and its folder must. Its name may not end in .new,
-.lck, .came, .notes, .diary, .mail or .retired: what lies beside a desk has such
-names, and belongs to the program. A record is written to FILE.new first. One
-line, `done`, is printed.
+.lck, .came, .notes, .diary, .mail or .retired: what lies beside a desk does. It
+belongs to the program. A record is written to FILE.new first. One line, `done`,
+is printed.
 
 The exit status is 0 if the desk is saved, and 1 with `exists`.";
 
@@ -167,23 +171,22 @@ locations-provided, will-supply, hold-placed or estimate. ITEM is all the words
 that remain, of 200 bytes at most. No word may contain a space, so a title has
 no quotes round it: `request none War and Peace`.
 
-A responder's action needs --today. With it, in either role, an action gets a
-line in FILE.diary before it is saved, and `ill loan` shows its day. The line
-has the name of --by, without a space, or `-`. No loan depends on that file. If
-it cannot be written, the action is done all the same, and a line on standard
-error says so.
+A responder's action needs --today. With --today, in either role, an action gets
+a line in FILE.diary before it is saved. `ill loan` shows its day. The line has
+the name of --by, without a space, or `-`. If the file cannot be written, the
+action is done all the same, and standard error says so.
 
 Options stand before the words. Among the words an option of any command is
 `arguments`. After `--`, right before the words, it is a word like the others,
 as in a title.
 
-With --long a line below that of the action has the item of the loan, after
-`item`, if there is one.
+With --long the line below that of the action has the item of the loan, after
+`item`, if any.
 
-With --seen the action is done only if the loan still stands as the value says:
-that is what an earlier command printed after its OUTCOME. Else nothing is done,
-and the OUTCOME is `changed`. With --dry-run the line of the action is printed,
-and nothing is saved.
+With --seen the action is done only if the loan still stands as the value says.
+The value is what an earlier command printed after its OUTCOME. Else nothing is
+done, and the OUTCOME is `changed`. With --dry-run the line of the action is
+printed, and nothing is saved.
 
 One action issues one message; `take` may issue one too (`ill take --help`). The
 messages of each loan are numbered 1, 2, 3, up to 255. If at most 10 numbers are
@@ -191,10 +194,10 @@ left after an action, a line on standard error says how many.
 
 The action is saved in FILE before its line is printed:
   OUTCOME STATE DUE RELEASED/ISSUED
-OUTCOME is `done`. Then come the state of the loan, its due date or `-`, how
-many of its messages may be sent, and how many it has issued. After `done` the
-last of these is the message of the action. If the action is refused, nothing
-changes, and OUTCOME says why:
+OUTCOME is `done`. Then come the state of the loan and its due date or `-`.
+RELEASED says how many of its messages may be sent, and ISSUED how many it has
+issued. After `done` the last of these is the message of the action. If the
+action is refused, nothing changes, and OUTCOME says why:
   no-such-transaction    the desk has no such loan; `request` begins one
   desk-full              `request`, and the desk has 1,000 loans
   not-now                the state of the loan does not allow it
@@ -251,12 +254,12 @@ further fields follow, each on an indented line, as `ill show` prints them:
 
 With --keep each message that is taken is kept in FILE.came, as it came, before
 it is saved in FILE. `ill news` shows all of them in words, `ill show <
-FILE.came` their fields, and `ill loan` those of a loan. No loan depends on that
-file: it may be put away. If a message cannot be kept, that is `store failed`,
-and the message is not saved. Then or after a crash it may be kept twice.
+FILE.came` their fields, and `ill loan` those of a loan. If a message cannot be
+kept, that is `store failed`, and the message is not saved. Then or after a
+crash it may be kept twice.
 
-With --keep and --today each message that is taken also gets a line in
-FILE.diary, with that day and the name of --by, as an action of `ill act` does.
+With --keep and --today each message that is taken gets a line in FILE.diary, as
+an action of `ill act` does.
 
 Only a message that is taken changes the desk, and it is saved in FILE before
 its line is printed. To take a message twice does no harm.
@@ -267,10 +270,10 @@ risen by one then, as from 1/1 to 2/2, and that message has to be sent: `ill
 send FILE G1 T1 2`.
 
 With --key the input is one sealed letter of the other library, as its `ill send
---key` prints it. Its messages are taken in their order. An input that is no
-such letter, was sealed with another key or was changed on its way is
-`not-sealed`, and changes nothing. So is a letter of this library itself. An old
-letter that comes again does no harm: its messages are repeats, or stale.
+--key` prints it. Its messages are taken in their order. Any other input is
+`not-sealed`, and changes nothing. So is a letter of another key, one that was
+changed on its way, and one of this library. An old letter that comes again does
+no harm: its messages are repeats, or stale.
 
 The exit status is 0 if each was taken, a repeat or stale, and 1 if one was
 anything else. It is 2 if the input has a faulty message or too many, or with
@@ -297,73 +300,70 @@ pub const TAKE_EXAMPLE: &str = "Example:
 
 /// The text of the help of `ill inbox`.
 pub const INBOX: &str = "\
-Take the mails of a folder, and save what they change once.
+Take the message files of a folder, and save the desk once.
 
-A mail is a regular file of FOLDER whose name begins with no dot, with one APDU:
-a message of another library, as `ill send` prints it there. One line end may
-stand after it.
+A message file is a regular file of FOLDER whose name begins with no dot. It has
+one APDU: a message of another library, as `ill send` prints it there. One line
+end may stand after it.
 
-FOLDER may be neither the folder of FILE nor a shelf, and lie in no folder whose
+FOLDER may not be the folder of FILE or a shelf. It may lie in no folder whose
 name ends in .mail: files there belong to desks.
 
-First each mail is moved into a folder in FILE.mail/in and read there, in the
-order of the bytes of their names and 10,000 at most in one run. Mails that a
-killed run has moved come before the others. FILE.mail is made for the owner of
-FILE alone, also if root runs this, and has to be on the disk of FOLDER. Then
-the mails are taken: first those without a message, then those of each loan, in
-the order of their numbers.
+First each message file is moved into a folder in FILE.mail/in and read there,
+10,000 at most in one run. Those that a killed run has moved come first. The
+others come in the order of the bytes of their names. FILE.mail has to be on the
+disk of FOLDER. It is made for the owner of FILE alone, also if root runs this.
+Then the files are taken, those without a message first. Those of each loan come
+in the order of the numbers of their messages.
 
 Each message that is taken is kept in FILE.came, as `ill take --keep` does. With
 --today it gets a line in FILE.diary, which may have the name of --by. Then the
-desk is saved, once, if a message was taken. Only then the mails go:
-  removed                the desk has done with the mail: its message is taken,
+desk is saved, once, if a message was taken. Only then the message files go:
+  removed                the desk has done with the file: its message is taken,
                          a repeat, stale or in conflict, or comes again
-  put aside              no desk will ever take it; its file becomes
-                         FILE.mail/aside/DIGEST, and DIGEST.why beside it has a
-                         line that says why. DIGEST is the SHA-256 of the mail,
-                         without the line end after its message, of at most its
-                         first 362 bytes.
-Any other mail goes back to FOLDER. After a fault all stay in FILE.mail/in for
-the next run: to take a message twice does no harm. FILE.mail/asked has the
-messages that came for loans that are over, which `ill outbox` answers.
+  quarantined            no desk will ever take it; it is kept, for a person, as
+                         FILE.mail/aside/DIGEST. DIGEST.why beside it has a
+                         line that says why. DIGEST is the SHA-256 of at most
+                         its first 362 bytes, without a line end after its
+                         message.
+  deferred               it goes back to FOLDER, for the next run
+After a fault all stay in FILE.mail/in for the next run: to take a message twice
+does no harm. FILE.mail/asked has the messages that came for loans that are
+over. `ill outbox` answers these.
 
-With --key each file of FOLDER is to be a sealed letter of the other library, as
-its `ill outbox --key` makes it. Each message in it is taken as a mail is, under
-the name of the letter. Any other file changes nothing, and is put aside as
-`not-sealed`; but the record of a desk stays. The letter goes back to FOLDER if
-one of its messages stays. Else it is put aside if one is put aside, and else
-removed. To take a message of it again does no harm. DIGEST is that of at most
-the first 1,048,614 bytes of the letter.
+With --key each file of FOLDER is a sealed letter of the other library, as its
+`ill outbox --key` makes it. Its messages are taken as those of message files
+are, under the name of the letter. Any other file changes nothing. It is
+quarantined as `not-sealed`, or deferred if it is the record of a desk. A letter
+is deferred if one of its messages is. Else it is quarantined if one is, and
+else removed. DIGEST is that of at most the first 1,048,614 bytes of the letter.
 
-Once the desk is saved, the lines of `ill take --long` are printed for each mail
+Once the desk is saved, the lines of `ill take --long` are printed for each file
 with a message. They show how the loan stood right after that message. For a
-mail that is put aside or stays, a line `NAME aside REASON` or `NAME left
-REASON` comes after them. The reasons to put a mail aside:
-  short at N             the mail ends within a message, after N bytes of it
-  tag at N               it is no message: a wrong field, at its byte N
-  length at N            it is none: a wrong length, at its byte N
-  field at N             it is none: a wrong value, at its byte N
+quarantined file a line `NAME aside REASON` comes after them, and for a deferred
+one a line `NAME left REASON`. The reasons to quarantine a file are `short at
+N`, `tag at N`, `length at N` and `field at N` of `ill --help`, and these:
   too-long               it is longer than 359 bytes
   trailing               more than a line end stands after its message
   not-sealed             with --key: it is no letter that is sealed with the key
   wrong-role             its message is of a kind that this desk sends
   numbers-used           it wants an answer, and all 255 numbers are used
 
-The reasons for which a mail stays:
+The reasons to defer a file:
   not-read               it cannot be moved or read, or its name is no UTF-8
   record                 it is the record of a desk: look if FOLDER is right
   no-such-transaction    a requester's desk has no such loan, or not yet
   desk-full              it would begin a loan, and the desk has 1,000
 
-The last line counts the mails:
+The last line counts the message files:
   taken N, repeat N, stale N, conflict N, unknown N, aside N, left N, waiting N
 `unknown` counts those of a loan that a responder's desk has not: they come
-again, with its request. `waiting` counts the mails beyond the first 10,000.
+again, with its request. `waiting` counts the files beyond the first 10,000.
 
-The exit status is 0 if all mails are done, 1 if one was put aside or in
-conflict, and 3 with `left`. Then mails stay or wait, and all else is done. A
-file that cannot be removed or put aside is named on standard error, and then it
-is `store failed`.";
+The exit status is 0 if all files are done, 1 if one was quarantined or in
+conflict, and 3 with `left`. Then files are deferred or wait, and all else is
+done. A file that cannot be removed or quarantined is named on standard error,
+and then it is `store failed`.";
 
 /// The example below the help of `ill inbox`.
 pub const INBOX_EXAMPLE: &str = "Example:
@@ -387,26 +387,26 @@ pub const INBOX_EXAMPLE: &str = "Example:
 
 /// The text of the help of `ill outbox`.
 pub const OUTBOX: &str = "\
-Put the messages that want sending into a folder of mails.
+Put the messages that want sending into a folder.
 
 A desk never learns that its message has come. So a loan wants sending until it
-is over: all its saved messages leave again, in their order, in every run. A
-loan is over in CANCELLED and NOT-SUPPLIED; at a responder in CHECKED-IN; at a
-requester in RETURNED with the mark checked-in. Then a requester is silent. A
-responder sends if a message of the loan came in the last `ill inbox`: its last
-word may be lost.
+is over: every run sends all its saved messages again, in their order. A loan is
+over in CANCELLED and NOT-SUPPLIED; at a responder in CHECKED-IN; at a requester
+in RETURNED with the flag checked-in. Then a requester is silent. A responder
+sends if a message of the loan came in the last `ill inbox`: its own last
+message may have been lost.
 
-Each message becomes a file of FOLDER, whole or not at all, also after a loss of
-power. Its name is made of its loan and its number, as
-`7ce619cb6e23ba0dd166097fce0754f3-001`, and is the same in every run. So a mail
+Each message becomes a message file of FOLDER, whole or not at all, also after a
+loss of power. Its name is made of its loan and its number, as
+`7ce619cb6e23ba0dd166097fce0754f3-001`, and is the same in every run. So a file
 that nobody has fetched is there once. While it is written, a dot stands before
 its name. A line `sent N` counts the messages. What `ill inbox` asks of FOLDER
 holds here too.
 
 With --key the messages leave in a sealed letter, as many as fit into 1,048,576
-bytes, and further ones in another. Its name is `letter-` and 32 digits of its
-SHA-256, so it does not show how many loans there are. A run with the same
-messages makes the same letter. Without messages there is none.
+bytes. Further ones leave in another. The name of a letter is `letter-` and 32
+digits of its SHA-256. So it does not show how many loans there are. A run with
+the same messages makes the same letter. Without messages there is none.
 
 With --stream the messages go to standard output in place of FOLDER, one after
 another and nothing else. No key may be given then.
@@ -429,22 +429,23 @@ pub const OUTBOX_EXAMPLE: &str = "Example:
 
 /// The text of the help of `ill exchange`.
 pub const EXCHANGE: &str = "\
-Take the mails of a folder, and send into another.
+Take the message files of a folder, and send into another.
 
 A run does this, for a machine that works by itself:
-  1. The mails of the folder IN are taken, as `ill inbox` does.
+  1. The message files of the folder IN are taken, as `ill inbox` does.
   2. With --overdue a responder issues an Overdue for each loan that is past its
      due date on DAY. With --expire it ends each request that is past its last
      day. Both want --today. Each gets a line in FILE.diary, and then a line is
      printed:
        GROUP TRANSACTION VERB done STATE DUE RELEASED/ISSUED
   3. With --copy the desk is copied to a file, which should be on another disk.
-     A copy is replaced only by a desk that has its role, all its loans, and in
-     each loan its messages first. Any other file stays: that is a failure.
+     A copy is replaced only by a desk that has its role and all its loans. In
+     each of these the messages of the copy come first. Any other file stays:
+     that is a failure.
   4. The messages that want sending are put into the folder OUT, as `ill outbox`
      does.
-  5. With --beat a file is made anew: its time shows when a run ended. It has
-     one byte, and it never replaces a longer file.
+  5. With --beat a heartbeat is made anew: a file whose time shows when a run
+     ended. It has one byte, and it never replaces a longer file.
 If one of these fails, the later ones are not done: without a copy nothing is
 sent. The desk is locked from the first to the last. A run may be killed at any
 moment, and run again.
@@ -454,19 +455,19 @@ again, which takes the answers.
 
 Before the first step the folders are checked. IN is not OUT, and what `ill
 inbox` asks of FOLDER holds for both. The copy is another file than FILE, in a
-folder that is there. Neither it nor the file of --beat may be in IN or OUT.
-Both get the owner of FILE, also if root runs this.
+folder that is there. Neither it nor the heartbeat may be in IN or OUT. Both get
+the owner of FILE, also if root runs this.
 
 Standard output has the lines of `ill inbox`, those of the second step and the
-line `sent N`. Standard error has a line for each mail that wants a person: one
-that is put aside or stays, and a conflict that no lost, late or repeated mail
-explains. So cron mails only these.
+line `sent N`. Standard error has a line for each file that wants a person. It
+is quarantined or deferred, or in a conflict that no lost, late or repeated
+message explains. So cron sends only these lines by e-mail.
 
 With --key all messages come and go in sealed letters, as `ill inbox --key` and
 `ill outbox --key` take and make them. No other file of IN is taken.
 
-The exit status is 0 if nothing wants a person, 1 if something does, and 3 if a
-mail stays for the next run (`left`).";
+The exit status is 0 if nothing wants a person, 1 if something does, and 3 with
+`left`.";
 
 /// The example below the help of `ill exchange`.
 pub const EXCHANGE_EXAMPLE: &str = "Example:
@@ -492,7 +493,7 @@ line.
 
 Its bytes, and nothing else, go to standard output: 16 to 359 of them, which are
 not for a terminal. Give them to a file or another program, as in `ill send FILE
-G1 T1 1 > message`. FILE is not changed, so no file shows what was sent. A
+G1 T1 1 > message`. FILE is not changed, so it does not show what was sent. A
 message may be sent again at any time, and has the same bytes then.
 
 With --key a sealed letter with the message goes out in its place, for `ill take
@@ -525,16 +526,16 @@ The key seals letters: with --key the messages of `ill send`, `ill outbox` and
 `ill exchange` leave in letters. The commands `ill take`, `ill inbox` and `ill
 exchange` of the other library alone open them.
 
-With neither --show nor --read a new key is made in KEYFILE, of the randomness
-of the system, and `done` is printed. KEYFILE must not be there yet. It has 32
-bytes, and nobody but its owner may read or write it, or else it is `key open`.
-Its name may not have an ending that `ill new --help` names.
+With neither --show nor --read a new key of the randomness of the system is made
+in KEYFILE. `done` is printed. KEYFILE must not be there yet. It has 32 bytes,
+and nobody but its owner may read or write it. Its name may not have an ending
+that `ill new --help` names.
 
-With --show the key in KEYFILE is printed, for the other library: 17 groups of
-four digits or letters from a to f, with spaces between them. The last group
-checks the others. Give it by telephone or by a letter on paper, and never by
-the way that the messages take. Who knows the key can write messages in the name
-of both libraries. Each pair of desks wants a key of its own.
+With --show the key in KEYFILE is printed, for the other library. It is 17
+groups of four digits or letters from a to f, with spaces between them. The last
+group checks the others. Give it by telephone or by a letter on paper, and never
+by the way that the messages take. Who knows the key can write messages in the
+name of both libraries. Each pair of desks wants a key of its own.
 
 With --read the other library makes its KEYFILE of such groups on standard
 input. Spaces and ends of lines may stand anywhere in them, and letters may be
@@ -565,8 +566,8 @@ date, or else the last day of its request, comes first. The columns of a line:
   group                  the group qualifier of the loan
   transaction            the transaction qualifier of the loan
   actions                with --actions: the first words of the actions that
-                         `act` takes on the day of --today, or without it on
-                         some day, with commas between them
+                         `act` takes on the day of --today, with commas between
+                         them. Without --today it is some day
   title                  the item that is asked for, or `-`
 
 The work is that of a day. These options say which:
@@ -583,30 +584,27 @@ These options say which loans are listed; all that are given hold:
                          it may be `+N`, N days after that day, 1 to 255
   --state STATE          only those in this state, as SHIPPED
   --find WORDS           only those that have WORDS in a text, in capitals or
-                         not: in GROUP and TRANSACTION, with a space between
-                         them, in the title or in the note
+                         not. A text is GROUP and TRANSACTION, with a space
+                         between them, the title or the note
 
 With --notes the note on a loan stands on a line below it, after `note`. With
 --since-when such a line has the day of its last message, after `since`. It is
 there if FILE.diary has that day.
 
-With --since DAY the news of a loan since DAY stand below it, on a line for each
-message, after `news`. The words are those of `ill news`, whose help says which
+With --since DAY the news of a loan since DAY stand below it. Each message has a
+line, after `news`. The words are those of `ill news`, whose help says which
 messages are shown.
 
-With --mine and --since DAY the list is one of a morning: a line for each loan
-that wants a hand or has news. It has no state. Before the title stand the news,
-with semicolons between them, or `-`. Loans that want no hand come last, without
-a heading. Their lines begin with `news:` in place of the due date.
+With --mine and --since DAY the list is one of a morning. It has a line, without
+a state, for each loan that wants a hand or has news. Before the title stand the
+news, with semicolons between them, or `-`. Loans that want no hand come last,
+without a heading. Their lines begin with `news:` in place of the due date.
 
 The last line counts all loans of the desk, whichever are listed. It says how
 many want a hand, to do, and for how many more there is room. From 900 loans on
-a line on standard error says so too. With --mine and no day, such a line
-says how many more loans may want a hand by their dates. Each open loan that has
-at most 10 numbers left for its messages has such a line, whichever loans are
-listed.
-
-`ill --help` says which desks a PATH has, and how several are shown.";
+a line on standard error says so too. With --mine and no day, such a line says
+how many more loans may want a hand by their dates. Such a line names each open
+loan that has at most 10 numbers left for its messages, listed or not.";
 
 /// The example below the help of `ill list`.
 pub const LIST_EXAMPLE: &str = "Example:
@@ -633,9 +631,8 @@ pub const NEWS: &str = "\
 Show what came to desks, in the order in which it came, a line for each message.
 
 The messages are those that `take` with --keep, `inbox` and `exchange` have kept
-in FILE.came. One is shown only if the record of its loan has it as taken, and
-only once. No loan depends on that file: it may be put away, and then there is
-no news. The columns of a line:
+in FILE.came. Without that file there is no news. A message is shown only if the
+record of its loan has it as taken, and only once. The columns of a line:
   group                  the group qualifier of the loan
   transaction            the transaction qualifier of the loan
   number                 the number of the message, of the other library
@@ -683,15 +680,13 @@ shown again. Last come an Overdue and an Expired that the desk itself has sent.
 Such a message is shown if FILE.diary has it on DAY or later, and not before.
 
 First of all come open answers of earlier days, whatever DAY is. They have ended
-a loan and ask staff for something: to try again later, or to read a letter with
-a price or with other libraries. An answer is open until the note of its loan
-begins with the word `done`: `ill note DESK GROUP TRANSACTION done: too dear`.
-From then on it is shown as any other message is.
+a loan and ask staff to do something. Staff try again later, or they read a
+letter with a price or with other libraries. An answer is open until the note of
+its loan begins with the word `done`: `ill note DESK GROUP TRANSACTION done: too
+dear`. From then on it is shown as any other message is.
 
 With --last only the last N messages are shown, 1 to 255. The last line counts
-the messages, and those of them that are shown; with --json there is none.
-
-`ill --help` says which desks a PATH has, and how several are shown.";
+the messages, and those of them that are shown; with --json there is none.";
 
 /// The example below the help of `ill news`.
 pub const NEWS_EXAMPLE: &str = "Example:
@@ -722,9 +717,9 @@ took.
 
 The days are those of FILE.diary, where `act`, `take`, `inbox` and `exchange`
 enter them if they are given --today. All else is in FILE and in FILE.came. A
-line of the diary counts only if the loan has the message that it names; of
-several lines that name one message, the last counts. --from and --to are days
-of the span, too, and --to may not be before --from. The lines of a desk:
+line of the diary counts only if the loan has the message that it names. Of
+several lines that name one message, the last counts. The days --from and --to
+are in the span, and --to may not be before --from. The lines of a desk:
   from DAY to DAY        the span
   asked                  the loans whose request has a day in the span
   filled                 those whose item was shipped
@@ -743,14 +738,12 @@ of the span, too, and --to may not be before --from. The lines of a desk:
   without a day          the loans of the desk whose request has no day: they
                          are in no span, and no other line counts them
 
-Each loan that was asked is one of filled, open, cancelled and refused. Days are
-shown as the mean of the loans in which both days are known, to a tenth of a
-day. The number of these loans comes after it. Without one the line has `-`.
+Each loan that was asked is one of filled, open, cancelled and refused. A line
+of days has the mean of the loans with both days known, to a tenth of a day. The
+number of these loans comes after it. Without one the line has `-`.
 
 With --csv a record of CSV (RFC 4180) comes for each desk, after one with the
-names of the fields.
-
-`ill --help` says which desks a PATH has, and how several are shown.";
+names of the fields.";
 
 /// The example below the help of `ill figures`.
 pub const FIGURES_EXAMPLE: &str = "Example:
@@ -796,8 +789,9 @@ begun; none, if the desk has no loan:
   due                    the day on which the item is due, or `-`
   messages               RELEASED/ISSUED: how many of its messages may be sent,
                          and how many it has issued
-  marks                  those that are set of `received` (a Received was
-                         issued, or taken), `checked-in` and `declined`, or `-`";
+  marks                  the flags, those that are set of `received` (a Received
+                         was issued, or taken), `checked-in` and `declined`, or
+                         `-`";
 
 /// The example below the help of `ill status`.
 pub const STATUS_EXAMPLE: &str = "Example:
@@ -855,10 +849,10 @@ It has only messages that the loan has:
                          of an action or the type of a message that came, and
                          the number of the message
 
-With --picture, but not with --json, the messages are drawn in place of all
-this, as a sequence chart in the language of Mermaid. It has the right order for
-each side, and shows which message answers which. How both orders lay in time,
-nobody knows.
+With --picture, but not with --json, a sequence chart in the language of Mermaid
+comes in place of all this. It has the messages in the right order for each
+side, and shows which message answers which. How both orders lay in time, nobody
+knows.
 
 The exit status is 0 if the loan is shown, and 1 with `no-such-transaction`.";
 
@@ -900,19 +894,18 @@ depends on it. A loan has one note, and a new one replaces it. `ill list
 words in it.
 
 An answer that asks staff for something stays news until the note begins with
-the word `done`, in capitals or not: `ill news --help` says which answers.
+the word `done`. It may be in capitals. `ill news --help` says which answers
+these are.
 
 The note is all WORDS, the words that remain, of 200 bytes at most, without a
-control character. An empty one, '', removes the note of the loan. Among WORDS
-an option of any command is `arguments`; if `--` stands right before them, it is
-one of them.
+control character. An empty one, '', removes the note of the loan. An option
+among WORDS is as `ill act --help` says.
 
 The note is kept in FILE.notes, a line for each: GROUP, TRANSACTION and WORDS.
-The last line of a loan counts. A space of GROUP or TRANSACTION is written by
-its number. So is a character of WORDS on which a terminal or an editor may act,
-as \\u{202e}. No loan depends on that file: it may be put away, and then there
-is no note. A part of a line that a crash has left at its end is cut off, and a
-line on standard error says so.
+Without that file there is no note. The last line of a loan counts. A space of
+GROUP or TRANSACTION is written by its number. So is a character of WORDS on
+which a terminal or an editor may act. A part of a line that a crash has left is
+cut off, and standard error says so.
 
 One line, `done`, is printed once the note is on the disk.
 
@@ -938,16 +931,16 @@ pub const SLIP: &str = "\
 Write a slip of one loan, to print and to lay in its item.
 
 The slip is one file of HTML, on standard output, for a sheet of A6. It has no
-scripts, and it needs nothing from elsewhere. On it stand the title, the role of
-this library in plain words, the group and transaction of the loan, and the day
-on which it is due, if there is one. A day is YYYY-MM-DD. Below is room for a
-note by hand.
+scripts, and it needs nothing from elsewhere. On it stand the title, the group
+and transaction of the loan, and this library's role in plain words. The day on
+which the loan is due stands there as YYYY-MM-DD, if there is one. Below is room
+for a note by hand.
 
 Between them stand bars, as Code 128 has them, for a scanner that is a keyboard.
 It types GROUP, a space and TRANSACTION, as they stand after FILE in other
 commands. The longer the names, the finer are the bars. There are none if a name
-has a character that is no letter, no digit and none of - . / : _ and +: a shell
-might take it for more than a name.
+has a character that is no letter, no digit and none of - . / : _ and +. A shell
+might take such a name for more than a name.
 
 What a person wrote stands there as text, whatever its characters.
 
@@ -972,9 +965,9 @@ These lines are printed:
   messages               how many messages these have issued, all together
   room                   for how many more loans there is room
 
-A file that is no record, or a damaged one, is a fault, with the place of the
-first wrong byte if there is one. With --json the object has the fault, which is
-on standard error, too.";
+A file that is no record, or a damaged one, is a fault. The fault has the offset
+of the first wrong byte, if there is one. With --json the object has the fault,
+which is on standard error, too.";
 
 /// The example below the help of `ill verify`.
 pub const VERIFY_EXAMPLE: &str = "Example:
@@ -994,22 +987,21 @@ pub const REPORT: &str = "\
 Write a page for a browser of the loans of desks.
 
 The page is one file of HTML, on standard output. It has no scripts, and it
-needs nothing from elsewhere. It may be printed. `ill --help` says which desks a
-PATH has.
+needs nothing from elsewhere. It may be printed.
 
-Of each desk the page counts the loans that want a hand on the day of --today,
-those that are not over, all loans, and the room for more. Then it has a table
-for each kind of work, with the number of its loans. The work says what staff do
-next with a loan on that day. The most pressing work stands first, and loans
-that are over stand last. A due date is soon if it is at most 7 days away.
+Of each desk the page counts the loans that want a hand on the day of --today.
+It counts those that are not over, all loans, and the room for more. Then it has
+a table for each kind of work, with the number of its loans. The work says what
+staff do next with a loan on that day. The most pressing work stands first, and
+loans that are over stand last. A due date is soon if it is at most 7 days away.
 
-A row has the title of a loan, the note on it, its group and transaction, and
-its state in plain words. Below that stands the day of its last message, if
-FILE.diary has it. With --since DAY its news since that day stand there, too, in
-the words of `ill news`. It has the day on which the item is due, or else the
-day after which the request may expire. Last it has the verbs that `ill act`
-takes on the day of --today. In each table the earliest of these days stands
-first, and loans without one last. A day is written YYYY-MM-DD.
+A row has a loan's title and note, its group and transaction, and its state in
+plain words. Below that stands the day of its last message, if FILE.diary has
+it. With --since DAY its news since that day stand there, too, in the words of
+`ill news`. It has the day on which the item is due, or else the day after which
+the request may expire. Last it has the verbs that `ill act` takes on the day of
+--today. In each table the earliest of these days stands first, and loans
+without one last. A day is written YYYY-MM-DD.
 
 What a person wrote, titles, notes, groups, transactions and names of files,
 stands there as text, whatever its characters. A desk that cannot be read has
@@ -1027,8 +1019,8 @@ pub const REPORT_EXAMPLE: &str = "Example:
 pub const SHOW: &str = "\
 Show each APDU on standard input.
 
-For each, its type, its transaction, its number and its further fields are
-printed, a line for each: `ill show < FILE`.
+`ill show < FILE` prints the type, the transaction, the number and the further
+fields of each APDU, one field to a line.
 
 The exit status is 0 if all of them are shown. It is 2 if one has a fault or
 there are too many, and 3 with `read`. The APDUs before a fault are shown.";
@@ -1062,8 +1054,8 @@ Perform a script of both sides of a loan, from standard input.
 
 The script, as in `ill simulate G1 T1 < FILE`, has at most 100,000 lines, of at
 most 1,024 bytes each. A line says one event; an empty one, and one that begins
-with `#`, says nothing. A line is printed for each event: its number, what is
-seen of it, and how both sides stand after it.
+with `#`, says nothing. A line is printed for each event: its number, its
+outcome, and how both sides stand after it.
 
 The lines of a script:
   requester request EXPIRY ITEM
@@ -1105,11 +1097,11 @@ has the lines of a script of `simulate` and one more:
 It is no event: the lines after it are in this loan. An event before the first
 of them is a bad line. A save, a faulted save and a restart are those of a whole
 desk. The line of an event says how both sides of the loan in use stand after
-it, IDLE if a desk does not hold it.
+it. A side is IDLE if its desk does not hold the loan.
 
 Two words are seen at desks alone: `no-such-transaction` of what names a loan
-that the desk does not hold and does not begin it, and `desk-full` of what would
-begin one more than 1,000.
+that the desk lacks, and begins none; and `desk-full` of what would begin one
+more than 1,000.
 
 The exit status is 0 if the whole script was performed. It is 2 for a line that
 is no event and no use, and 3 with `read`. The lines of the events before are
@@ -1124,15 +1116,16 @@ pub const SIMULATE_DESKS_EXAMPLE: &str = "Example:
 pub const RETIRE: &str = "\
 Replace a desk whose loans are over by a mark of its group.
 
-Titles and names of loans that are over may have to be forgotten, and a desk
-cannot be removed alone: a request that is sent again would begin its loan a
+Titles and names of loans that are over may have to be forgotten. But a desk
+cannot be removed alone: a request that comes again would begin its loan a
 second time. So the mark stays in place of the desk, in DESK.retired, and no
 desk of GROUP is ever made again. A responder's mark has its last message of
 each loan, which says how the loan ended, and no title.
 
-The next `ill shelf exchange` removes each mail of the group. If the mark has
-the last message of its loan, that is sent again: so a requester who missed it
-ends the loan. Else standard error names the mail, once a month for a group.
+The next `ill shelf exchange` removes each message file of the group. If the
+mark has the last message of its loan, that is sent again. So a requester who
+missed it ends the loan. Else standard error names the file, once a month for a
+group.
 
 One line is printed: `done`, or `not-now` if a loan of the group is not over.
 Then nothing is changed. After `done`, nothing else is known of the loans. Both
@@ -1159,18 +1152,22 @@ The group of a loan names its desk, so no loan can come to two of them. Begin a
 new group, such as a partner and a year, before a desk is full.
 
 The commands take the words of those for one desk, with DIR in place of FILE.
-They alone change a desk of the shelf, send from it or keep notes: with such a
-FILE `ill act`, `ill take` and their like are `arguments`. `ill list DIR` and
-`ill report DIR` take a shelf too.
+The exit status is theirs, too. If DIR is no shelf, it is 1 with `no-record`,
+but for `new`. These commands alone change a desk of the shelf, send from it or
+keep notes. With such a FILE `ill act`, `ill take` and their like are
+`arguments`. `ill list DIR` and `ill report DIR` take a shelf too.
 
 The desk of GROUP is the file DIR/GROUP.requester or DIR/GROUP.responder. All
 bytes of the name but letters, digits, `-` and `_` are written as `%` and two
-digits. DIR/.shelf is the shelf's own desk: it says the role, and takes the mail
-that has no desk.
+digits. DIR/.shelf is the shelf's own desk: it says the role, and takes the
+message files that have no desk.
 
-A requester's shelf begins a group if `act --new-group` says so. A
-responder's begins one for an ILL-Request: the mail of one run makes 16 desks at
-most, and further requests wait for the next run.";
+`status`, `inbox`, `outbox` and `exchange` go from desk to desk. The path of a
+desk stands on a line before its lines, but not with --json.
+
+A requester's shelf begins a group if `act --new-group` says so. A responder's
+begins one for an ILL-Request, and one run makes 16 desks at most. Further
+requests wait for the next run.";
 
 /// The example below the help of `ill shelf`.
 pub const SHELF_EXAMPLE: &str = "Example:
@@ -1203,8 +1200,8 @@ that is `no-record`, so that a slip of the pen begins no group. With
 --new-group a requester's `request` begins one, and any other action there is
 `no-such-transaction`. So is each action of a retired group.
 
-If a desk is full, go on in a new group, which you name: the other library
-needs no notice. The exit status is as of `ill act`.";
+If a desk is full, go on in a new group, which you name: the other library needs
+no notice.";
 
 /// The text of the help of `ill shelf loan`.
 pub const SHELF_LOAN: &str = "\
@@ -1229,8 +1226,7 @@ It writes what `ill slip` writes, of the desk of GROUP.";
 pub const SHELF_STATUS: &str = "\
 Show how each loan stands, desk by desk.
 
-The path of each desk stands on a line before its loans, which are shown as `ill
-status` shows them. With --json it does not. Standard error names a desk that
+The loans are shown as `ill status` shows them. Standard error names a desk that
 cannot be read, and the others are shown.";
 
 /// The text of the help of `ill shelf take`.
@@ -1240,7 +1236,7 @@ Take the APDUs on standard input, each at the desk of its group.
 It does what `ill take` does, and saves each desk as it goes. An ILL-Request of
 a new group makes its desk at a responder's shelf. Other messages of groups that
 have no desk are `no-such-transaction`; one of a retired group ends the command
-with that. The exit status is as of `ill take`.";
+with that.";
 
 /// The text of the help of `ill shelf send`.
 pub const SHELF_SEND: &str = "\
@@ -1250,12 +1246,12 @@ It writes what `ill send` writes, of the desk of GROUP.";
 
 /// The text of the help of `ill shelf inbox`.
 pub const SHELF_INBOX: &str = "\
-Take the mails of a folder, each at the desk of its group.
+Take the message files of a folder, each at the desk of its group.
 
-Each mail of FOLDER goes to the desk of the group of its message, and then each
-desk takes its mails, as `ill inbox` does, after a line of its path. Each desk
-is loaded and saved once. The shelf's own desk takes what has no desk: what is
-no message is put aside in DIR/.shelf.mail/aside.
+Each message file of FOLDER goes to the desk of the group of its message. Then
+each desk takes its files, as `ill inbox` does, and is loaded and saved once.
+The shelf's own desk takes what has no desk: what is no message is quarantined
+in DIR/.shelf.mail/aside.
 
 An ILL-Request of a new group makes its desk at a responder's shelf. A run makes
 16 desks at most; standard error names each, and the requests that wait. A
@@ -1263,47 +1259,45 @@ message of a retired group is removed. The next `ill shelf outbox` answers it,
 or standard error names it, once a month for a group.
 
 Standard error names a desk that fails, and the others go on. It names a lost
-desk in each run: DESK.came or DESK.mail is there, and DESK is not. That counts
-as mails that are left.
+desk in each run: DESK.came or DESK.mail is there, and DESK is not. A lost desk
+counts as files that are deferred.
 
-With --key the sealed letters in FOLDER are opened first, and the messages in
-them are put into DIR/.opened, each in a file of its own. From there they go to
-the desks as mails do, and one that stays goes back there. A letter is removed
-once the disk has its messages. Standard error names any other file: it is put
-aside as `not-sealed`, or stays if it is the record of a desk.
+With --key the sealed letters in FOLDER are opened first. Each message in them
+is put into DIR/.opened, in a file of its own. From there the files go to the
+desks, and one that is deferred goes back there. A letter is removed once the
+disk has its messages. Standard error names any other file: it is quarantined as
+`not-sealed`, or deferred if it is a desk's record.
 
 The exit status is that of the first desk that fails, as of `ill inbox`. If none
-fails, it is 3 if mails are left, 1 if one was put aside or in conflict, else 0.
-If DIR is no shelf, it is 1 with `no-record`.";
+fails, it is 3 if files are deferred, 1 if one was quarantined or in conflict,
+else 0.";
 
 /// The text of the help of `ill shelf outbox`.
 pub const SHELF_OUTBOX: &str = "\
 Put the messages of all desks that want sending into a folder.
 
 Each desk puts its messages into FOLDER, or onto standard output, as `ill
-outbox` does. A line of its path stands before its line `sent N`. The last
-messages of retired groups for which mail has asked in the last `ill shelf
-inbox` go into FOLDER too, and no line counts them.
+outbox` does. The last messages of retired groups go into FOLDER too, if
+messages in the last `ill shelf inbox` asked for them. No line counts these.
 
 With --key each desk seals a letter of its own, and so do these groups together.";
 
 /// The text of the help of `ill shelf exchange`.
 pub const SHELF_EXCHANGE: &str = "\
-Take the mails of a folder, and send into another.
+Take the message files of a folder, and send into another.
 
-The mails of IN are sorted to the desks, as `ill shelf inbox` does, and then
-each desk does what `ill exchange` does, after a line of its path; with --json
-that line is left out. At the end go the last messages of retired groups for
-which mail has asked. The folders are checked first, as by `ill exchange`. With
---key all messages come and go in sealed letters, as `ill shelf inbox --key` and
-`ill shelf outbox --key` take and make them.
+The files of IN are sorted to the desks, as `ill shelf inbox` does. Then each
+desk does what `ill exchange` does. At the end go the last messages of retired
+groups, if a message has asked for them. The folders are checked first, as by
+`ill exchange`. With --key all messages come and go in sealed letters, as `ill
+shelf inbox --key` and `ill shelf outbox --key` take and make them.
 
---copy names a folder, which has to be there and is not DIR: each desk is copied
-into it before its messages leave, and the mark of each retired group. If it has
-a desk or a mark of which DIR has neither, that desk is lost: its mail is left.
---beat makes its file anew in the end, unless a desk has failed.
+--copy names a folder, which has to be there and is not DIR. Each desk is copied
+into it before its messages leave, and so is the mark of each retired group. If
+it has a desk or a mark of which DIR has neither, that desk is lost. Its files
+are deferred. The heartbeat of --beat is made anew in the end, unless a desk has
+failed.
 
 The exit status is that of the first desk that fails, as of `ill exchange`. If
-none fails, it is 3 if mails are left, or with `store failed` of IN, OUT, --copy
-or --beat. Else it is 1 if a mail wants a person, or 0. If DIR is no shelf, it
-is 1 with `no-record`.";
+none fails, it is 3 if files are deferred, or with `store failed` of IN, OUT,
+--copy or --beat. Else it is 1 if a file wants a person, or 0.";

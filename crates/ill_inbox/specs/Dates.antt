@@ -23,7 +23,7 @@ use Rattle.ill_inbox.specs.declared.due.Due.{Due}
 use Rattle.ill_saved.specs.Holdings.{Effects}
 use Rattle.ill_desk.specs.Performing.{CommandState, has_any, Run, EndsRun}
 use Rattle.ill_text.specs.declared.form.Form.{Form}
-use Rattle.ill_inbox.specs.Objects.{told_deed}
+use Rattle.ill_inbox.specs.Objects.{printed_deed}
 use Rattle.ill_words.specs.Waiting.{is_sooner}
 
 -- ---- the deed of a loan
@@ -96,8 +96,8 @@ after_deeds effects today live dues = fold (after_deed effects today) (doing liv
 -- ---- the lines
 
 -- Returns the texts of all deeds of `done`, in this form, with the sides of the desk `live`.
-abbrev pub told_deeds : {L : Type 0} → Form → Effects L Qualifiers → L → List Due → List ℕ
-told_deeds form effects live done = flat_map (told_deed form effects live) done
+abbrev pub printed_deeds : {L : Type 0} → Form → Effects L Qualifiers → L → List Due → List ℕ
+printed_deeds form effects live done = flat_map (printed_deed form effects live) done
 
 -- ---- the run
 
@@ -106,11 +106,12 @@ abbrev pub deeds_run : {L : Type 0} → Form → Effects L Qualifiers → Doing 
 deeds_run form effects end = record {
   live = end.live;
   has_changed = has_any end.done;
-  told = told_deeds form effects end.live end.done;
+  printed = printed_deeds form effects end.live end.done;
   answer = tt;
 }
 
--- The deeds that lead to `end` were performed, saved at once, and told. The state of the command went from `old` to `new`.
+-- The deeds that lead to `end` were performed, saved at once, and printed. The state of the command went from `old` to
+-- `new`.
 abbrev pub RunsDeeds : {L : Type 0} → Form → Effects L Qualifiers → Doing L → CommandState L →
     Result (Unit {0}) ToolFault → CommandState L → Type 0
 RunsDeeds form effects end old result new = EndsRun effects (deeds_run form effects end) old result new

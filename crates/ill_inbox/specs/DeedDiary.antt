@@ -14,8 +14,8 @@ use Rattle.ill_night.specs.declared.night.Dates.{Dates}
 use Rattle.ill_inbox.specs.declared.due.Due.{Due}
 use Rattle.ill_inbox.specs.Dates.{Doing, after_dates}
 
--- Returns the line of a diary that names a deed at the desk `live`. It begins with `begin`, the text before the key. The
--- message of the deed is the last that its loan has issued.
+-- Returns the line of a diary that names a deed at the desk `live`. It begins with `begin`, the text before the key.
+-- The message of the deed is the last that its loan has issued.
 abbrev pub deed_diary_line : {L : Type 0} → Effects L Qualifiers → (begin : List ℕ) → L → Due → List ℕ
 deed_diary_line effects begin live due = begin
     ++ (message_key due.txn (verb_name (deed_verb due.deed)) (shown_at effects due.txn live).issued ++ codes "\n")

@@ -11,18 +11,18 @@ use Rattle.ill_inbox.specs.declared.tally.Tally.{Tally}
 
 -- ---- counts
 
--- Returns the text of the counts of done mails, whose files are removed.
+-- Returns the text of the counts of done message files, whose files are removed.
 unfoldable pub done_text : Tally → List ℕ
 done_text tally =
     codes "taken " ++ decimal tally.taken ++ codes ", repeat " ++ decimal tally.repeat ++ codes ", stale "
     ++ decimal tally.stale ++ codes ", conflict " ++ decimal tally.conflict ++ codes ", unknown "
     ++ decimal tally.unknown
 
--- Returns the text of the counts of mails that are put aside or wait. `waiting` mails had no room in this
--- run.
+-- Returns the text of the counts of message files that are quarantined or wait. `waiting` message files had no room in
+-- this run.
 unfoldable pub staying_text : Tally → ℕ → List ℕ
 staying_text tally waiting =
-    codes ", aside " ++ decimal tally.aside ++ codes ", left " ++ decimal tally.left ++ codes ", waiting "
+    codes ", aside " ++ decimal tally.quarantined ++ codes ", left " ++ decimal tally.left ++ codes ", waiting "
     ++ decimal waiting ++ codes "\n"
 
 -- Returns the line of all counts.
@@ -38,6 +38,6 @@ deed_line effects live due =
     word due.txn.group ++ (word due.txn.transaction ++ (word (verb_name (deed_verb due.deed))
     ++ done_line (once_saved (shown_at effects due.txn live))))
 
--- Returns the line with the number of mails that left.
+-- Returns the line with the number of message files that left.
 abbrev pub sent_line : ℕ → List ℕ
 sent_line count = codes "sent " ++ decimal count ++ codes "\n"

@@ -10,8 +10,8 @@ ghost use Rattle.ill_text.specs.LongLines.{word};
 ghost use Rattle.ill_desk.specs.Telling.{done_line};
 ghost use Rattle.ill_desk.specs.Performing.{SavesOnce, command_state, view_of};
 ghost use Rattle.ill_text.specs.declared.form.Form.TheVariants as forms;
-ghost use Rattle.ill_inbox.specs.Objects.{told_deed};
-ghost use Rattle.ill_inbox.specs.Dates.{RunsDates, RunsDeeds, after_deed, after_deeds, all_due, deed_at, deed_by_date, told_deeds, doing, due_at, due_in, is_overdue, may_expire};
+ghost use Rattle.ill_inbox.specs.Objects.{printed_deed};
+ghost use Rattle.ill_inbox.specs.Dates.{RunsDates, RunsDeeds, after_deed, after_deeds, all_due, deed_at, deed_by_date, printed_deeds, doing, due_at, due_in, is_overdue, may_expire};
 ghost use Rattle.ill_text.specs.Diary.{diary_state};
 ghost use Rattle.ill_inbox.specs.DeedDiary.{EntersDeeds, lines_of_dates, lines_of_doing};
 
@@ -31,7 +31,7 @@ use ill_words::waiting::is_sooner;
 use std::alloc::Global;
 use std::io::Write;
 
-/// The dates of a run: a day, the deeds that it may make due, and the form in which they are told.
+/// The dates of a run: a day, the deeds that it may make due, and the form in which they are printed.
 #[derive(Clone, Copy)]
 pub struct DatesRun {
     /// The day.
@@ -49,7 +49,7 @@ pub(crate) struct DuesOn<'a> {
     pub today: Day,
     /// The deeds, in the order of their loans.
     pub dues: &'a [Due],
-    /// The form in which they are told.
+    /// The form in which they are printed.
     pub form: Form,
 }
 
@@ -79,8 +79,8 @@ pub fn run_desk_dates<S: Store, W: Write>(
     run_desk_dates_entered(alloc, desk, dates, &mut DeedDiary::none(alloc), writer)
 }
 
-/// Performs the deeds that are due on the day of `dates`, as `run_desk_dates` does, and tells them in its form. Each done
-/// deed is entered in `diary` before the save.
+/// Performs the deeds that are due on the day of `dates`, as `run_desk_dates` does, and prints them in its form. Each
+/// done deed is entered in `diary` before the save.
 pub fn run_desk_dates_entered<S: Store, D: Write, W: Write>(
     alloc: Global,
     desk: &mut Desk<S>,
@@ -187,7 +187,7 @@ fn may_expire(state: State) -> bool
     matches!(state, State::InProcess | State::Conditional)
 }
 
-/// Performs the deeds of `on_day` in their order, enters the done ones in `diary`, saves once, and tells them.
+/// Performs the deeds of `on_day` in their order, enters the done ones in `diary`, saves once, and prints them.
 fn run_deeds<H: Holdings<Key = TxnId>, S: Store, D: Write, W: Write>(
     alloc: Global,
     desk: &mut AnyDesk<H, S>,
@@ -206,13 +206,13 @@ fn run_deeds<H: Holdings<Key = TxnId>, S: Store, D: Write, W: Write>(
         (S.state desk.new.store).failures }
 {
     let done = perform(alloc, desk, on_day.today, on_day.dues)?;
-    let told = told_deeds(alloc, on_day.form, desk, &done)?;
+    let printed = printed_deeds(alloc, on_day.form, desk, &done)?;
     let entries = diary.lines(alloc, desk, &done)?;
     diary.enter(&entries);
     if let Err(fault) = save_any(alloc, desk, &done) {
         return Err(fault);
     }
-    match write_and_flush(writer, &told) {
+    match write_and_flush(writer, &printed) {
         Ok(()) => Ok(()),
         Err(_) => Err(ToolFault::Write),
     }
@@ -282,35 +282,35 @@ fn save_any<H: Holdings, S: Store>(
 }
 
 /// Returns the lines or objects of the deeds of `done`, with the state of each loan once all is saved.
-fn told_deeds<H: Holdings<Key = TxnId>, S: Store>(
+fn printed_deeds<H: Holdings<Key = TxnId>, S: Store>(
     alloc: Global,
     form: Form,
     desk: &AnyDesk<H, S>,
     done: &[&Due],
 ) -> Result<Vec<u8>, NoMemory>
-    ensures { IfOk result (λ told. told.items
-        ≡ told_deeds form H.effects desk.now.live (map (λ due. due.now) done.now)) }
+    ensures { IfOk result (λ printed. printed.items
+        ≡ printed_deeds form H.effects desk.now.live (map (λ due. due.now) done.now)) }
 {
-    let mut told = Vec::new(alloc);
+    let mut printed = Vec::new(alloc);
     for due in done {
-        push_deed(&mut told, form, desk, due)?;
+        push_deed(&mut printed, form, desk, due)?;
     }
-    Ok(told)
+    Ok(printed)
 }
 
 /// Appends the line or the object of the deed `due`, with its loan as it is once all is saved.
 fn push_deed<H: Holdings<Key = TxnId>, S: Store>(
-    told: &mut Vec<u8>,
+    printed: &mut Vec<u8>,
     form: Form,
     desk: &AnyDesk<H, S>,
     due: &Due,
 ) -> Result<(), NoMemory>
-    ensures { OnOk result (told.new.items ≡ told.old.items ++ told_deed form H.effects desk.now.live due.now) }
+    ensures { OnOk result (printed.new.items ≡ printed.old.items ++ printed_deed form H.effects desk.now.live due.now) }
 {
     let now = desk.shown(&due.txn).once_saved();
     match form {
-        Form::Lines => push_deed_line(told, due, now),
-        Form::Json => push_deed_object(told, due, now),
+        Form::Lines => push_deed_line(printed, due, now),
+        Form::Json => push_deed_object(printed, due, now),
     }
 }
 

@@ -28,7 +28,8 @@ impl DeedDiary<Sink> {
 }
 
 impl<D> DeedDiary<D> {
-    /// Returns the diary that is written to `stream`. Each line begins with `begin`. If that is empty, nothing is entered.
+    /// Returns the diary that is written to `stream`. Each line begins with `begin`. If that is empty, nothing is
+    /// entered.
     pub fn new(begin: Vec<u8>, stream: D) -> DeedDiary<D>
         ensures begin { result.begin ≡ begin }
         ensures stream { result.diary.stream ≡ stream }

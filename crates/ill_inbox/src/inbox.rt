@@ -1,22 +1,22 @@
-//! The command `inbox`: a desk takes many mails, and saves once.
+//! The command `inbox`: a desk takes many message files, and saves once.
 
 ghost use Rattle.std.specs.Prelude.{◌≡◌, ◌≤◌, [], ◌∷◌, ◌++◌, Ok, None, IfErr, IfOk, OnOk};
 ghost use Rattle.ill_text.specs.declared.fault.ToolFault.TheVariants.{OutOfMemory};
 ghost use Rattle.ill_saved.specs.ManySides.{many_sides};
 ghost use Rattle.ill_desk.specs.Performing.{SavesOnce, command_state, handed, is_change, view_of, with_kept};
 ghost use Rattle.ill_desk.specs.Take.{KeepsBefore};
-ghost use Rattle.ill_night.specs.Mails.{message_in};
-ghost use Rattle.ill_inbox.specs.Inbox.{EndedWell, HandsOver, RunsInbox, after_all, after_mail, after_message, answered_with, arrived_of, concluded, kept_bytes, sorting_of, with_message};
-ghost use Rattle.ill_inbox.specs.Objects.{told_message, told_verdict};
+ghost use Rattle.ill_night.specs.MessageFiles.{message_in};
+ghost use Rattle.ill_inbox.specs.Inbox.{Succeeded, HandsOver, RunsInbox, after_all, after_message_file, after_message, answered_with, arrived_of, concluded, kept_bytes, sorting_of, with_message};
+ghost use Rattle.ill_inbox.specs.Objects.{printed_message, printed_verdict};
 
-use crate::objects::{tell_message, tell_tally, tell_verdict};
+use crate::objects::{print_message, print_tally, print_verdict};
 use crate::tally::Tally;
 use ill_core::Taking;
 use ill_der::ApduView;
 use ill_desk::refusal::refused;
 use ill_desk::take::keep_bytes;
 use ill_night::message::message_in;
-use ill_night::verdict::{Batch, Mail, Verdict};
+use ill_night::verdict::{Batch, MessageFile, Verdict};
 use ill_saved::{AnyDesk, Desk, Holdings, Shown, Store};
 use ill_text::fault::ToolFault;
 use ill_text::form::Form;
@@ -26,12 +26,13 @@ use ill_words::{DeskOutcome, Outcome};
 use std::alloc::Global;
 use std::io::Write;
 
-/// Takes the message of each mail of `batch` at `desk`, in their order. It writes the taken messages to `came` and
-/// flushes them. If there are any, it then saves the desk once. Then it writes the verdict of each mail and the counts, in
-/// the form of `batch`, and flushes them. The last count is the number of further mails. It returns the verdicts.
+/// Takes the message of each message file of `batch` at `desk`, in their order. It writes the taken messages to `came`
+/// and flushes them. If there are any, it then saves the desk once. Then it writes the verdict of each message file and
+/// the counts, in the form of `batch`, and flushes them. The last count is the number of further message files. It
+/// returns the verdicts.
 ///
-/// Only after `Ok` may the file of a mail be removed. After every fault the store has its old record, or the one with
-/// all mails. Unless the fault is `Write`, nothing was written to `writer`.
+/// Only after `Ok` may the file of a message file be removed. After every fault the store has its old record, or the
+/// one with all message files. Unless the fault is `Write`, nothing was written to `writer`.
 pub fn run_desk_inbox<S: Store, F: Write, W: Write>(
     alloc: Global,
     desk: &mut Desk<S>,
@@ -43,7 +44,7 @@ pub fn run_desk_inbox<S: Store, F: Write, W: Write>(
         (with_kept (F.contents came.old) (command_state (view_of S.state desk.old) (W.contents writer.old)))
         (answered_with (λ verdicts. verdicts.items) result)
         (with_kept (F.contents came.new) (command_state (view_of S.state desk.new) (W.contents writer.new))) }
-    ensures ended { IfOk result (λ verdicts. EndedWell batch.now.mails.now verdicts.items
+    ensures ended { IfOk result (λ verdicts. Succeeded batch.now.message_files.now verdicts.items
         (view_of S.state desk.new)) }
     ensures never_fewer { (S.state desk.old.store).failures ≤ (S.state desk.new.store).failures }
 {
@@ -68,27 +69,27 @@ fn run_inbox<H: Holdings, S: Store, F: Write, W: Write>(
     if let Err(fault) = keep_and_save(alloc, desk, came, &sorted.kept) {
         return Err(fault);
     }
-    match write_and_flush(writer, &sorted.told) {
+    match write_and_flush(writer, &sorted.printed) {
         Ok(()) => Ok(sorted.verdicts),
         Err(fault) => Err(fault),
     }
 }
 
-/// The verdicts on the mails of a run so far, what is told of them, and the bytes of taken messages.
+/// The verdicts on the message files of a run so far, what is printed of them, and the bytes of taken messages.
 #[derive(Drop)]
 pub(crate) struct Sorted {
-    /// The form in which the mails are told.
+    /// The form in which the message files are printed.
     form: Form,
-    /// The verdicts of the mails, in their order.
+    /// The verdicts of the message files, in their order.
     verdicts: Vec<Verdict>,
-    /// The lines or objects of the mails.
-    told: Vec<u8>,
+    /// The lines or objects of the message files.
+    printed: Vec<u8>,
     /// The bytes of the messages that were taken.
     kept: Vec<u8>,
 }
 
-/// Hands the messages of all mails to their sides, in their order. It tells the mails and their messages, and then
-/// the counts.
+/// Hands the messages of all message files to their sides, in their order. It prints the message files and their
+/// messages, and then the counts.
 fn sort<H: Holdings, S: Store>(
     alloc: Global,
     desk: &mut AnyDesk<H, S>,
@@ -99,17 +100,17 @@ fn sort<H: Holdings, S: Store>(
     ensures fault { IfErr result (λ fault. fault ≡ OutOfMemory) }
     ensures store { desk.new.store ≡ desk.old.store }
 {
-    let mut sorted = sort_mails(alloc, desk, batch)?;
+    let mut sorted = sort_message_files(alloc, desk, batch)?;
     let tally = Tally::of(&sorted.verdicts);
-    match tell_tally(&mut sorted.told, sorted.form, &tally, batch.waiting) {
+    match print_tally(&mut sorted.printed, sorted.form, &tally, batch.waiting) {
         Ok(()) => Ok(sorted),
         Err(_) => Err(ToolFault::OutOfMemory),
     }
 }
 
-/// Hands the messages of all mails to their sides, in their order. It tells the mails and their messages, but not the
-/// counts.
-fn sort_mails<H: Holdings, S: Store>(
+/// Hands the messages of all message files to their sides, in their order. It prints the message files and their
+/// messages, but not the counts.
+fn sort_message_files<H: Holdings, S: Store>(
     alloc: Global,
     desk: &mut AnyDesk<H, S>,
     batch: &Batch<'_>,
@@ -122,11 +123,11 @@ fn sort_mails<H: Holdings, S: Store>(
     let mut sorted = Sorted {
         form: batch.form,
         verdicts: Vec::new(alloc),
-        told: Vec::new(alloc),
+        printed: Vec::new(alloc),
         kept: Vec::new(alloc),
     };
-    for mail in batch.mails {
-        if let Err(fault) = sorted.sort_mail(alloc, desk, mail) {
+    for message_file in batch.message_files {
+        if let Err(fault) = sorted.sort_message_file(alloc, desk, message_file) {
             return Err(fault);
         }
     }
@@ -134,25 +135,25 @@ fn sort_mails<H: Holdings, S: Store>(
 }
 
 impl Sorted {
-    /// Hands the message of `mail` to its side, if it has one, and adds its verdict.
-    fn sort_mail<H: Holdings, S: Store>(
+    /// Hands the message of `message_file` to its side, if it has one, and adds its verdict.
+    fn sort_message_file<H: Holdings, S: Store>(
         &mut self,
         alloc: Global,
         desk: &mut AnyDesk<H, S>,
-        mail: &Mail,
+        message_file: &MessageFile,
     ) -> Result<(), ToolFault>
         ensures sorted { OnOk result (sorting_of desk.new.live self.new
-            ≡ after_mail H.effects (sorting_of desk.old.live self.old) mail.now) }
+            ≡ after_message_file H.effects (sorting_of desk.old.live self.old) message_file.now) }
         ensures fault { IfErr result (λ fault. fault ≡ OutOfMemory) }
         ensures store { desk.new.store ≡ desk.old.store }
     {
-        match &mail.bytes {
-            Some(bytes) => self.sort_bytes(alloc, desk, &mail.name, bytes),
-            None => self.settle(&mail.name, Verdict::unread(mail.letter)),
+        match &message_file.bytes {
+            Some(bytes) => self.sort_bytes(alloc, desk, &message_file.name, bytes),
+            None => self.settle(&message_file.name, Verdict::unread(message_file.letter)),
         }
     }
 
-    /// Hands the message in `bytes`, of the mail `name`, to its side, and adds the verdict.
+    /// Hands the message in `bytes`, of the message file `name`, to its side, and adds the verdict.
     fn sort_bytes<H: Holdings, S: Store>(
         &mut self,
         alloc: Global,
@@ -175,8 +176,8 @@ impl Sorted {
         }
     }
 
-    /// Hands the message `read`, which stands in `bytes`, to its side. It tells the message, and keeps its bytes if it was
-    /// taken. It returns the outcome.
+    /// Hands the message `read`, which stands in `bytes`, to its side. It prints the message, and keeps its bytes if it
+    /// was taken. It returns the outcome.
     fn sort_message<H: Holdings, S: Store>(
         &mut self,
         alloc: Global,
@@ -209,27 +210,27 @@ impl Sorted {
     ) -> Result<(), NoMemory>
         ensures verdicts { self.new.verdicts ≡ self.old.verdicts }
         ensures form { self.new.form ≡ self.old.form }
-        ensures told { OnOk result (self.new.told.items ≡ self.old.told.items
-            ++ told_message self.old.form read.now outcome now) }
+        ensures printed { OnOk result (self.new.printed.items ≡ self.old.printed.items
+            ++ printed_message self.old.form read.now outcome now) }
         ensures kept { OnOk result (self.new.kept.items ≡ self.old.kept.items ++ kept_bytes outcome bytes.now) }
     {
-        tell_message(&mut self.told, self.form, read, outcome, now)?;
+        print_message(&mut self.printed, self.form, read, outcome, now)?;
         if is_change(outcome) {
             self.kept.extend_from_slice(bytes)?;
         }
         Ok(())
     }
 
-    /// Adds the verdict of a mail, and tells it if it stays.
+    /// Adds the verdict of a message file, and prints it if it stays.
     fn settle(&mut self, name: &[u8], verdict: Verdict) -> Result<(), ToolFault>
         ensures verdicts { OnOk result (self.new.verdicts.items ≡ self.old.verdicts.items ++ verdict ∷ []) }
         ensures form { self.new.form ≡ self.old.form }
-        ensures told { OnOk result (self.new.told.items ≡ self.old.told.items
-            ++ told_verdict self.old.form name.now verdict) }
+        ensures printed { OnOk result (self.new.printed.items ≡ self.old.printed.items
+            ++ printed_verdict self.old.form name.now verdict) }
         ensures kept { self.new.kept ≡ self.old.kept }
         ensures fault { IfErr result (λ fault. fault ≡ OutOfMemory) }
     {
-        tell_verdict(&mut self.told, self.form, name, verdict)?;
+        print_verdict(&mut self.printed, self.form, name, verdict)?;
         self.verdicts.push(verdict)?;
         Ok(())
     }

@@ -5,7 +5,7 @@ ghost use Rattle.ill_text.specs.Json.{joined, member};
 ghost use Rattle.ill_text.specs.ApduObject.{apdu_fields, object_line};
 ghost use Rattle.ill_inbox.specs.Lines.{sent_line};
 ghost use Rattle.ill_night.specs.Lines.{unfit_text};
-ghost use Rattle.ill_inbox.specs.Objects.{deed_fields, message_fields, outcome_fields, sent_fields, stays_fields, tally_fields, told_message, told_sent, told_tally, told_verdict, verdict_object};
+ghost use Rattle.ill_inbox.specs.Objects.{deed_fields, message_fields, outcome_fields, sent_fields, stays_fields, tally_fields, printed_message, printed_sent, printed_tally, printed_verdict, verdict_object};
 
 use crate::due::Due;
 use crate::tally::{Tally, push_tally};
@@ -21,54 +21,54 @@ use ill_words::DeskOutcome;
 use std::alloc::Global;
 
 /// Appends the lines or the object of a message with this outcome. Its side is shown as `now`.
-pub(crate) fn tell_message(
-    told: &mut Vec<u8>,
+pub(crate) fn print_message(
+    printed: &mut Vec<u8>,
     form: Form,
     apdu: &ApduView<'_>,
     outcome: DeskOutcome,
     now: Shown,
 ) -> Result<(), OutOfMemory>
-    ensures { OnOk result (told.new.items ≡ told.old.items ++ told_message form apdu.now outcome now) }
+    ensures { OnOk result (printed.new.items ≡ printed.old.items ++ printed_message form apdu.now outcome now) }
 {
     match form {
-        Form::Lines => push_long(told, apdu, outcome, now),
-        Form::Json => push_message_object(told, apdu, outcome, now),
+        Form::Lines => push_long(printed, apdu, outcome, now),
+        Form::Json => push_message_object(printed, apdu, outcome, now),
     }
 }
 
-/// Appends the line or the object of the mail `name`, if it stays.
-pub(crate) fn tell_verdict(
-    told: &mut Vec<u8>,
+/// Appends the line or the object of the message file `name`, if it stays.
+pub(crate) fn print_verdict(
+    printed: &mut Vec<u8>,
     form: Form,
     name: &[u8],
     verdict: Verdict,
 ) -> Result<(), OutOfMemory>
-    ensures { OnOk result (told.new.items ≡ told.old.items ++ told_verdict form name.now verdict) }
+    ensures { OnOk result (printed.new.items ≡ printed.old.items ++ printed_verdict form name.now verdict) }
 {
     match form {
-        Form::Lines => push_verdict(told, name, verdict),
-        Form::Json => push_verdict_object(told, name, verdict),
+        Form::Lines => push_verdict(printed, name, verdict),
+        Form::Json => push_verdict_object(printed, name, verdict),
     }
 }
 
-/// Appends the line or the object of the counts of mails. `waiting` mails had no room in the run.
-pub(crate) fn tell_tally(
-    told: &mut Vec<u8>,
+/// Appends the line or the object of the counts of message files. `waiting` message files had no room in the run.
+pub(crate) fn print_tally(
+    printed: &mut Vec<u8>,
     form: Form,
     tally: &Tally,
     waiting: usize,
 ) -> Result<(), OutOfMemory>
-    ensures { OnOk result (told.new.items ≡ told.old.items ++ told_tally form tally.now waiting) }
+    ensures { OnOk result (printed.new.items ≡ printed.old.items ++ printed_tally form tally.now waiting) }
 {
     match form {
-        Form::Lines => push_tally(told, tally, waiting),
-        Form::Json => push_tally_object(told, tally, waiting),
+        Form::Lines => push_tally(printed, tally, waiting),
+        Form::Json => push_tally_object(printed, tally, waiting),
     }
 }
 
 /// Returns the line or the object of the number of messages that were sent.
 pub fn sent_text(alloc: Global, form: Form, count: usize) -> Result<Vec<u8>, OutOfMemory>
-    ensures { IfOk result (λ text. text.items ≡ told_sent form count) }
+    ensures { IfOk result (λ text. text.items ≡ printed_sent form count) }
 {
     match form {
         Form::Lines => sent_line(alloc, count),
@@ -148,19 +148,19 @@ fn push_outcome(text: &mut Vec<u8>, outcome: DeskOutcome, now: Shown) -> Result<
     )
 }
 
-/// Appends the object of the mail `name`. A mail that is done has none.
+/// Appends the object of the message file `name`. A message file that is done has none.
 fn push_verdict_object(text: &mut Vec<u8>, name: &[u8], verdict: Verdict) -> Result<(), OutOfMemory>
     ensures { OnOk result (text.new.items ≡ text.old.items ++ verdict_object name.now verdict) }
 {
     match verdict {
         Verdict::Done(_) => Ok(()),
-        Verdict::Aside(unfit) => push_aside_object(text, name, unfit),
-        Verdict::Left(delay) => push_stays(text, name, b"left", delay_word(delay).as_bytes()),
+        Verdict::Quarantined(unfit) => push_quarantined_object(text, name, unfit),
+        Verdict::Deferred(delay) => push_stays(text, name, b"left", delay_word(delay).as_bytes()),
     }
 }
 
-/// Appends the object of the mail `name`, which is put aside.
-fn push_aside_object(text: &mut Vec<u8>, name: &[u8], unfit: Unfit) -> Result<(), OutOfMemory>
+/// Appends the object of the message file `name`, which is quarantined.
+fn push_quarantined_object(text: &mut Vec<u8>, name: &[u8], unfit: Unfit) -> Result<(), OutOfMemory>
     ensures { OnOk result (text.new.items ≡ text.old.items
         ++ object_line (stays_fields name.now (codes "aside") (unfit_text unfit))) }
 {
@@ -169,7 +169,7 @@ fn push_aside_object(text: &mut Vec<u8>, name: &[u8], unfit: Unfit) -> Result<()
     push_stays(text, name, b"aside", &reason)
 }
 
-/// Appends the object of the mail `name`, which is put aside or waits. `word` says which, and `reason` why.
+/// Appends the object of the message file `name`, which is quarantined or waits. `word` says which, and `reason` why.
 fn push_stays(
     text: &mut Vec<u8>,
     name: &[u8],
@@ -180,13 +180,13 @@ fn push_stays(
         ++ object_line (stays_fields name.now word.now reason.now)) }
 {
     push_plain(text, "{")?;
-    push_mail(text, name, word, reason)?;
+    push_message_file(text, name, word, reason)?;
     push_plain(text, "}\n")
 }
 
-/// Appends the fields of the mail `name`, which is put aside or waits. `word` says which, and `reason` why.
+/// Appends the fields of the message file `name`, which is quarantined or waits. `word` says which, and `reason` why.
 #[tactic(auto, unfolding(ill_text::specs::Json::joined))]
-fn push_mail<'a>(
+fn push_message_file<'a>(
     text: &mut Vec<u8>,
     name: &'a [u8],
     word: &'a [u8],
@@ -207,7 +207,7 @@ fn push_mail<'a>(
     )
 }
 
-/// Appends the object of the counts of mails. `waiting` mails had no room in the run.
+/// Appends the object of the counts of message files. `waiting` message files had no room in the run.
 fn push_tally_object(text: &mut Vec<u8>, tally: &Tally, waiting: usize) -> Result<(), OutOfMemory>
     ensures { OnOk result (text.new.items ≡ text.old.items ++ object_line (tally_fields tally.now waiting)) }
 {
@@ -216,7 +216,7 @@ fn push_tally_object(text: &mut Vec<u8>, tally: &Tally, waiting: usize) -> Resul
     push_plain(text, "}\n")
 }
 
-/// Appends the fields of the counts of mails. `waiting` mails had no room in the run.
+/// Appends the fields of the counts of message files. `waiting` message files had no room in the run.
 #[tactic(auto, unfolding(ill_text::specs::Json::joined))]
 fn push_counts(text: &mut Vec<u8>, tally: &Tally, waiting: usize) -> Result<(), OutOfMemory>
     ensures { OnOk result (text.new.items ≡ text.old.items ++ joined member [] (tally_fields tally.now waiting)) }
@@ -231,7 +231,7 @@ fn push_counts(text: &mut Vec<u8>, tally: &Tally, waiting: usize) -> Result<(), 
             ("stale", Value::Count(tally.stale)),
             ("conflict", Value::Count(tally.conflict)),
             ("unknown", Value::Count(tally.unknown)),
-            ("aside", Value::Count(tally.aside)),
+            ("aside", Value::Count(tally.quarantined)),
             ("left", Value::Count(tally.left)),
             ("waiting", Value::Count(waiting)),
         ],

@@ -1,4 +1,4 @@
-//! The counts of mails by their verdicts, and the ending of a run by them.
+//! The counts of message files by their verdicts, and the ending of a run by them.
 
 ghost use Rattle.std.specs.Prelude.{◌≡◌, ◌++◌, OnOk};
 ghost use Rattle.ill_words.specs.declared.outcome.Outcome.TheVariants as outcomes;
@@ -13,26 +13,26 @@ use ill_text::fault::ToolFault;
 use ill_values::OutOfMemory;
 use ill_words::{DeskOutcome, Outcome};
 
-/// The heaps on which mails are counted, by their verdicts.
+/// The heaps on which message files are counted, by their verdicts.
 #[derive(Clone, Copy, Debug, PartialEq, Eq, Hash)]
 pub(crate) enum Heap {
-    /// Mails whose message was taken.
+    /// Message files whose message was taken.
     Taken,
-    /// Mails whose message was a repeat.
+    /// Message files whose message was a repeat.
     Repeat,
-    /// Mails whose message was stale.
+    /// Message files whose message was stale.
     Stale,
-    /// Mails whose message was in conflict with the state of its loan.
+    /// Message files whose message was in conflict with the state of its loan.
     Conflict,
-    /// Mails whose message is of a loan that the desk does not have.
+    /// Message files whose message is of a loan that the desk does not have.
     Unknown,
-    /// Mails that are put aside.
-    Aside,
-    /// Mails that wait in their folder.
-    Left,
+    /// Message files that are quarantined.
+    Quarantined,
+    /// Message files that wait in their folder.
+    Deferred,
 }
 
-/// The number of mails on each heap.
+/// The number of message files on each heap.
 #[derive(Clone, Copy, Debug, PartialEq, Eq, Hash)]
 pub struct Tally {
     pub taken: usize,
@@ -40,24 +40,24 @@ pub struct Tally {
     pub stale: usize,
     pub conflict: usize,
     pub unknown: usize,
-    pub aside: usize,
+    pub quarantined: usize,
     pub left: usize,
 }
 
 impl Heap {
-    /// Returns the heap of a mail with this verdict.
+    /// Returns the heap of a message file with this verdict.
     fn of(verdict: Verdict) -> Heap
         ensures { result ≡ heap_of verdict }
     {
         match verdict {
             Verdict::Done(DeskOutcome::Plain(Outcome::Answered(taking))) => Heap::of_taking(taking),
             Verdict::Done(_) => Heap::Unknown,
-            Verdict::Aside(_) => Heap::Aside,
-            Verdict::Left(_) => Heap::Left,
+            Verdict::Quarantined(_) => Heap::Quarantined,
+            Verdict::Deferred(_) => Heap::Deferred,
         }
     }
 
-    /// Returns the heap of a mail whose message its side answered with `taking`.
+    /// Returns the heap of a message file whose message its side answered with `taking`.
     fn of_taking(taking: Taking) -> Heap
         ensures { result ≡ heap_of (verdicts.Done (seen.Plain (outcomes.Answered taking))) }
     {
@@ -69,14 +69,14 @@ impl Heap {
         }
     }
 
-    /// Returns true if a mail with this verdict is on this heap.
+    /// Returns true if a message file with this verdict is on this heap.
     fn has(self, verdict: Verdict) -> bool
         ensures { result ≡ is_heap self (heap_of verdict) }
     {
         self == Heap::of(verdict)
     }
 
-    /// Returns the number of mails on this heap.
+    /// Returns the number of message files on this heap.
     fn count(self, verdicts: &[Verdict]) -> usize
         ensures { result ≡ count_on self verdicts.now }
     {
@@ -88,7 +88,7 @@ impl Heap {
 }
 
 impl Tally {
-    /// Returns the counts of the mails with these verdicts.
+    /// Returns the counts of the message files with these verdicts.
     pub fn of(verdicts: &[Verdict]) -> Tally
         ensures { result ≡ tally_of verdicts.now }
     {
@@ -98,23 +98,23 @@ impl Tally {
             stale: Heap::Stale.count(verdicts),
             conflict: Heap::Conflict.count(verdicts),
             unknown: Heap::Unknown.count(verdicts),
-            aside: Heap::Aside.count(verdicts),
-            left: Heap::Left.count(verdicts),
+            quarantined: Heap::Quarantined.count(verdicts),
+            left: Heap::Deferred.count(verdicts),
         }
     }
 
-    /// Returns the fault `Left` if mails wait for the next run. Else it returns true if no mail was in conflict or
-    /// put aside.
+    /// Returns the fault `Deferred` if message files wait for the next run. Else it returns true if no message file was
+    /// in conflict or quarantined.
     pub fn ending(&self, waiting: usize) -> Result<bool, ToolFault>
         ensures { result ≡ ending self.now waiting }
     {
         if self.is_waiting(waiting) {
-            return Err(ToolFault::Left);
+            return Err(ToolFault::Deferred);
         }
-        Ok(!(self.conflict > 0 || self.aside > 0))
+        Ok(!(self.conflict > 0 || self.quarantined > 0))
     }
 
-    /// Returns true if mails wait for the next run: on the heap `Left`, or `waiting` further ones.
+    /// Returns true if message files wait for the next run: on the heap `Deferred`, or `waiting` further ones.
     pub fn is_waiting(&self, waiting: usize) -> bool
         ensures { result ≡ is_waiting self.now waiting }
     {
@@ -122,7 +122,7 @@ impl Tally {
     }
 }
 
-/// Appends the line of counts, with the number of further mails that wait.
+/// Appends the line of counts, with the number of further message files that wait.
 pub(crate) fn push_tally(
     lines: &mut Vec<u8>,
     tally: &Tally,
@@ -134,7 +134,7 @@ pub(crate) fn push_tally(
     push_staying(lines, tally, waiting)
 }
 
-/// Appends the counts of done mails.
+/// Appends the counts of done message files.
 #[tactic(auto, unfolding(crate::specs::Lines::done_text))]
 fn push_done(lines: &mut Vec<u8>, tally: &Tally) -> Result<(), OutOfMemory>
     ensures { OnOk result (lines.new.items ≡ lines.old.items ++ done_text tally.now) }
@@ -154,13 +154,19 @@ fn push_done(lines: &mut Vec<u8>, tally: &Tally) -> Result<(), OutOfMemory>
     Ok(())
 }
 
-/// Appends the counts of mails that are put aside, that wait, and that had no room in this run.
+/// Appends the counts of message files that are quarantined, that wait, and that had no room in this run.
 #[tactic(auto, unfolding(crate::specs::Lines::staying_text))]
 fn push_staying(lines: &mut Vec<u8>, tally: &Tally, waiting: usize) -> Result<(), OutOfMemory>
     ensures { OnOk result (lines.new.items ≡ lines.old.items ++ staying_text tally.now waiting) }
 {
-    let Tally { aside, left, .. } = *tally;
-    let text = format!(in *lines.allocator(); ", aside {aside}, left {left}, waiting {waiting}\n")?;
+    let Tally {
+        quarantined,
+        left,
+        ..
+    } = *tally;
+    let text = format!(in *lines.allocator();
+        ", aside {quarantined}, left {left}, waiting {waiting}\n"
+    )?;
     lines.extend_from_slice(text.as_bytes())?;
     Ok(())
 }

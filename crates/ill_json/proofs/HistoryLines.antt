@@ -19,7 +19,7 @@ use Rattle.ill_record.specs.declared.side.Side.TheVariants as sides
 use Rattle.ill_record.specs.Ranges.{Each, IsInRange}
 use Rattle.ill_record.specs.Side.{issued_of}
 use Rattle.ill_words.specs.Words.{◌>>=◌, day_of}
-use Rattle.ill_beside.specs.Diary.{Named, Said, Told, at_space, body_verb, history_fields, history_of, is_named, is_space}
+use Rattle.ill_beside.specs.Diary.{Named, Said, PrintedPart, at_space, body_verb, history_fields, history_of, is_named, is_space}
 use Rattle.ill_beside.specs.Diary.{issued_named, messages_of, part_at, part_fields, part_object, part_of, part_said, person}
 use Rattle.ill_beside.specs.Diary.{request_taken, said_by, said_in, said_on, says_of, taken_named}
 use Rattle.ill_beside.specs.Heard.{is_heard}
@@ -75,12 +75,12 @@ named_on day parts are = go (day_of day)
 named_in : (text : List ℕ) → IsUtf8 text → IfSome (said_in text) HasName
 named_in text utf8 = first (at_space text) (around_space text utf8)
   where
-    -- The text after the day has a name and then its words.
+    -- If the text after the day is a name and then words, the name is UTF-8.
     second : (day : List ℕ) (parts : Option (List ℕ × List ℕ)) → IfSome parts AreUtf8 → IfSome (parts >>= said_on day) HasName
     second day None are = tt
     second day (Some parts) are = named_on day parts are
 
-    -- The text has a day and then the rest.
+    -- If the text is a day and then a rest, the name in the rest is UTF-8.
     first : (parts : Option (List ℕ × List ℕ)) → IfSome parts AreUtf8
         → IfSome (parts >>= λ found. at_space found.1 >>= said_on found.0) HasName
     first None are = tt
@@ -149,7 +149,7 @@ messages_named side kept is each =
 -- ---- the history
 
 -- The day and the name of a part are UTF-8. Its word is printable, and its number is from 1 to 255.
-pub record IsTold (part : Told) : Type 0 where
+pub record IsPrinted (part : PrintedPart) : Type 0 where
   pub iso : IsUtf8 part.iso
   pub by : IsUtf8 part.by
   pub what : are_printable part.what ≡ true
@@ -167,44 +167,44 @@ found_has P test (x ∷ xs) each = go (test x) (found_has P test xs each.1)
     go false later = later
 
 module _ (messages : List Named) (each : Each IsNamed messages) where
-  -- If what a line says tells a part, `IsTold` holds of this part.
-  part_told : (later : List (List ℕ)) (says : Said) → HasName says → IfSome (part_said messages later says) IsTold
-  part_told later says utf8 =
+  -- If what a line says tells a part, `IsPrinted` holds of this part.
+  part_printed : (later : List (List ℕ)) (says : Said) → HasName says → IfSome (part_said messages later says) IsPrinted
+  part_printed later says utf8 =
       go (is_named says.message later) (find (λ message. bytes_eq message.key says.message) messages)
       (found_has IsNamed (λ message. bytes_eq message.key says.message) messages each)
     where
       -- A message that a later line names has no part here. Another has one if it is among the messages.
       go : (names : Bool) (found : Option Named) → IfSome found IsNamed
-          → IfSome (if names then None else option_map (part_of says) found) IsTold
+          → IfSome (if names then None else option_map (part_of says) found) IsPrinted
       go true found is = tt
       go false None is = tt
       go false (Some message) is = record { iso = day_utf8 says.day; by = utf8; what = is.what; number = is.number }
 
-  -- If a line tells a part, `IsTold` holds of this part.
-  line_told : (later : List (List ℕ)) (line : List ℕ) → IfSome (part_at messages later line) IsTold
-  line_told later line = go (said_by line) (named_by_line line)
+  -- If a line tells a part, `IsPrinted` holds of this part.
+  line_printed : (later : List (List ℕ)) (line : List ℕ) → IfSome (part_at messages later line) IsPrinted
+  line_printed later line = go (said_by line) (named_by_line line)
     where
       -- A line that says nothing tells no part.
-      go : (said : Option Said) → IfSome said HasName → IfSome (said >>= part_said messages later) IsTold
+      go : (said : Option Said) → IfSome said HasName → IfSome (said >>= part_said messages later) IsPrinted
       go None utf8 = tt
-      go (Some says) utf8 = part_told later says utf8
+      go (Some says) utf8 = part_printed later says utf8
 
-  -- `IsTold` holds of each part of a history.
-  parts_told : (lines : List (List ℕ)) → Each IsTold (history_of messages lines)
+  -- `IsPrinted` holds of each part of a history.
+  parts_printed : (lines : List (List ℕ)) → Each IsPrinted (history_of messages lines)
   unfolding Each history_of
-  parts_told [] = tt
-  parts_told (line ∷ later) = with_one (part_at messages later line) (line_told later line) (parts_told later)
+  parts_printed [] = tt
+  parts_printed (line ∷ later) = with_one (part_at messages later line) (line_printed later line) (parts_printed later)
     where
       -- A part that a line tells is put before the others.
-      with_one : (part : Option Told) → IfSome part IsTold → Each IsTold (history_of messages later)
-          → Each IsTold (option_to_list part ++ history_of messages later)
+      with_one : (part : Option PrintedPart) → IfSome part IsPrinted → Each IsPrinted (history_of messages later)
+          → Each IsPrinted (option_to_list part ++ history_of messages later)
       with_one None is others = others
       with_one (Some part) is others = (is, others)
 
--- `IsTold` holds of each part of the history of a loan.
-pub history_told : (side : Side) (kept : List Apdu) (diary : List (List ℕ)) → IsInRange side → Each IsApdu kept
-    → Each IsTold (history_of (messages_of side kept) diary)
-history_told side kept diary is each = parts_told (messages_of side kept) (messages_named side kept is each) diary
+-- `IsPrinted` holds of each part of the history of a loan.
+pub history_printed : (side : Side) (kept : List Apdu) (diary : List (List ℕ)) → IsInRange side → Each IsApdu kept
+    → Each IsPrinted (history_of (messages_of side kept) diary)
+history_printed side kept diary is each = parts_printed (messages_of side kept) (messages_named side kept is each) diary
 
 -- ---- the objects
 
@@ -219,7 +219,7 @@ person_utf8 by utf8 = go (bytes_eq by (codes "-"))
 
 module _ (most : ℕ) where
   -- The fields of a part are read.
-  pub part_reads : (part : Told) → IsTold part → Each (FieldReads most) (part_fields part)
+  pub part_reads : (part : PrintedPart) → IsPrinted part → Each (FieldReads most) (part_fields part)
   unfolding Each
   part_reads part is = (
     field_reads most _ _ refl (text_value most (part.iso) is.iso),
@@ -233,7 +233,8 @@ module _ (most : ℕ) where
   )
 
   -- The object of each part has a value.
-  pub parts_values : (parts : List Told) → Each IsTold parts → Each (λ part. HasValue (suc most) (part_object part)) parts
+  pub parts_values : (parts : List PrintedPart) → Each IsPrinted parts
+      → Each (λ part. HasValue (suc most) (part_object part)) parts
   unfolding Each
   parts_values [] each = tt
   parts_values (part ∷ parts) each = (
@@ -242,6 +243,6 @@ module _ (most : ℕ) where
   )
 
 -- The field of a history is read.
-pub history_reads : (parts : List Told) → Each IsTold parts → Each (FieldReads 2) (history_fields parts)
+pub history_reads : (parts : List PrintedPart) → Each IsPrinted parts → Each (FieldReads 2) (history_fields parts)
 unfolding Each
 history_reads parts each = (field_reads 2 _ _ refl (array_value 1 part_object parts (parts_values 0 parts each)), tt)

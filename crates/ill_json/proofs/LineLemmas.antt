@@ -27,10 +27,10 @@ use Rattle.ill_work.specs.Work.{all_work}
 use Rattle.ill_list.specs.List.{counts_of, has_work, is_listed, listed_of}
 use Rattle.ill_list.specs.Seeking.{Seeking}
 use Rattle.ill_rows.specs.Finding.{is_found}
-use Rattle.ill_rows.specs.Heading.{between, file_told}
+use Rattle.ill_rows.specs.Heading.{between, file_printed}
 use Rattle.ill_list.specs.Listing.{chosen_of, list_objects, listed, listed_desk, section, sections}
 use Rattle.ill_list.specs.Listing.{work_objects}
-use Rattle.ill_beside.specs.Diary.{Told, history_fields, history_of, messages_of, part_fields, part_object}
+use Rattle.ill_beside.specs.Diary.{PrintedPart, history_fields, history_of, messages_of, part_fields, part_object}
 use Rattle.ill_beside.specs.Notes.{note_fields, note_of}
 use Rattle.ill_beside.specs.Since.{AnnexRead, since_fields, since_of}
 use Rattle.ill_show.specs.Loan.{loan_text}
@@ -41,7 +41,7 @@ use Rattle.ill_list.specs.ListedNews.{listed_news_fields}
 use Rattle.ill_show.specs.Objects.{message_object, names_of}
 use Rattle.ill_list.specs.ListObjects.{dated_fields, full_row_fields, noted_fields, row_fields, row_object}
 use Rattle.ill_show.specs.Objects.{status_of_desk}
-use Rattle.ill_json.specs.Lines.{AreToldNews, IsEntry, fields_of_list, fields_of_loan, fields_of_message, fields_in_order}
+use Rattle.ill_json.specs.Lines.{ArePrintedNews, IsEntry, fields_of_list, fields_of_loan, fields_of_message, fields_in_order}
 use Rattle.ill_json.specs.Lines.{fields_of_row}
 use Rattle.ill_json.specs.Lines.{fields_of_status, fields_of_work}
 use Rattle.ill_json.specs.Objects.{AreObjectLines, IsObject, IsObjectLine, items_of, strings}
@@ -54,7 +54,7 @@ use Rattle.ill_json.proofs.Sides.{each_append, counts_apart, line_apart, line_re
 use Rattle.ill_json.proofs.Sides.{messages_values, row_apart, status_reads, loan_reads, came_reads, file_reads, row_reads}
 use Rattle.ill_json.proofs.Sides.{counts_reads, note_reads, since_reads}
 use Rattle.ill_json.proofs.NoteLemmas.{note_utf8}
-use Rattle.ill_json.proofs.HistoryLines.{IsTold, history_reads, history_told, part_reads}
+use Rattle.ill_json.proofs.HistoryLines.{IsPrinted, history_reads, history_printed, part_reads}
 use Rattle.ill_json.proofs.ListedNewsLines.{listed_news_reads}
 
 -- ---- lines
@@ -162,43 +162,43 @@ kept_each P Q keeps (x ∷ xs) so each = go (keeps x) (kept_each P Q keeps xs so
 
 -- The line of a listed loan is an object line.
 row_is : (file : Option (List ℕ)) (annex : AnnexRead) (today : Option Date) (work : Work) (side : Side)
-    → IfSome file IsUtf8 → AreToldNews annex → IsSide side
+    → IfSome file IsUtf8 → ArePrintedNews annex → IsSide side
     → IsObjectLine (row_object file annex today work side) (fields_of_row file annex today work side)
 unfolding row_object
-row_is file annex today work side u told is =
+row_is file annex today work side u printed is =
     line_is (fields_of_row file annex today work side)
     (each_append (FieldReads 2) (full_row_fields annex today work side) (file_fields file)
     (each_append (FieldReads 2) (dated_fields annex today work side) (listed_news_fields annex.news side)
     (each_append (FieldReads 2) (noted_fields annex.notes today work side) (since_fields (since_of annex side))
     (each_append (FieldReads 2) (row_fields work side (names_of today side)) (note_fields (note_of annex.notes (txn_of side)))
     (row_reads today work side is.1) (note_reads _ (note_utf8 annex.notes (txn_of side))))
-    (since_reads (since_of annex side))) (listed_news_reads annex.news side told)) (file_reads file u))
+    (since_reads (since_of annex side))) (listed_news_reads annex.news side printed)) (file_reads file u))
     (row_apart file annex today work side)
 
 -- The rows of one kind of work are object lines.
 rows_are : (file : Option (List ℕ)) (annex : AnnexRead) (wanted : Wanted) (shown : List Side) → IfSome file IsUtf8
-    → AreToldNews annex → Each IsSide shown → (work : Work)
+    → ArePrintedNews annex → Each IsSide shown → (work : Work)
     → AreObjectLines (section (work_objects file annex) wanted shown work) (fields_of_work file annex wanted shown work)
 unfolding row_object
-rows_are file annex wanted shown u told each work =
+rows_are file annex wanted shown u printed each work =
     lines_each (fields_of_row file annex wanted.today work) (filter (has_work wanted work) shown)
     (kept_each IsSide
     (λ side. IsObjectLine (row_object file annex wanted.today work side) (fields_of_row file annex wanted.today work side))
-    (has_work wanted work) shown (λ side is. row_is file annex wanted.today work side u told is) each)
+    (has_work wanted work) shown (λ side is. row_is file annex wanted.today work side u printed is) each)
 
 -- The text of a list of the sides `held`, in their order, has object lines.
 ordered_are : (file : Option (List ℕ)) (wanted : Wanted) (seeking : Seeking) (held : List Side) → IfSome file IsUtf8
-    → AreToldNews seeking.annex → Each IsSide held → length held ≤ most_sides
+    → ArePrintedNews seeking.annex → Each IsSide held → length held ≤ most_sides
     → AreObjectLines (listed (work_objects file seeking.annex) (counts_object file) wanted seeking held)
     (fields_in_order file wanted seeking held)
-ordered_are file wanted seeking held u told each few =
+ordered_are file wanted seeking held u printed each few =
     let shown = chosen_of wanted seeking held in
     let objects = work_objects file seeking.annex in
     let fields = fields_of_work file seeking.annex wanted shown in
     let listed_each = kept_each IsSide IsSide (is_listed wanted seeking.annex.news) held (λ side is. is) each in
     lines_append (sections objects wanted shown) _ (flat_map fields all_work) _
     (lines_flat (section objects wanted shown) fields all_work
-    (rows_are file seeking.annex wanted shown u told
+    (rows_are file seeking.annex wanted shown u printed
     (kept_each IsSide IsSide (is_found seeking.find seeking.annex.notes) (listed_of wanted seeking.annex.news held)
     (λ side is. is) listed_each)))
     (lines_one _ (line_is _ (each_append (FieldReads 2) (counts_fields (counts_of wanted held)) (file_fields file)
@@ -206,19 +206,20 @@ ordered_are file wanted seeking held u told each few =
 
 -- The text of `list` for one desk has object lines, the most urgent loans first.
 objects_are : (file : Option (List ℕ)) (wanted : Wanted) (seeking : Seeking) (held : SidesOf) → IfSome file IsUtf8
-    → AreToldNews seeking.annex → AreSides held
+    → ArePrintedNews seeking.annex → AreSides held
     → AreObjectLines (list_objects file wanted seeking held.sides) (fields_of_list file wanted seeking held.sides)
-objects_are file wanted seeking held u told are =
-    ordered_are file wanted seeking (most_urgent_first held.sides) u told (ordered_each IsSide is_more_urgent held.sides are.each)
+objects_are file wanted seeking held u printed are =
+    ordered_are file wanted seeking (most_urgent_first held.sides) u printed
+    (ordered_each IsSide is_more_urgent held.sides are.each)
     (subst (λ n. n ≤ most_sides) (sym (ordered_length is_more_urgent held.sides)) are.few)
 
 -- The text of `list` is object lines, at the first desk and at others, with its path and without it.
 pub list_are : (is_first is_headed : Bool) (wanted : Wanted) (seeking : Seeking) (path : List ℕ) (held : SidesOf) → IsUtf8 path
-    → AreSides held → AreToldNews seeking.annex
+    → AreSides held → ArePrintedNews seeking.annex
     → AreObjectLines (between forms.Json is_first ++ listed_desk forms.Json is_headed wanted seeking path held.sides)
-    (fields_of_list (file_told is_headed path) wanted seeking held.sides)
-list_are is_first false wanted seeking path held u are told = objects_are None wanted seeking held tt told are
-list_are is_first true wanted seeking path held u are told = objects_are (Some path) wanted seeking held u told are
+    (fields_of_list (file_printed is_headed path) wanted seeking held.sides)
+list_are is_first false wanted seeking path held u are printed = objects_are None wanted seeking held tt printed are
+list_are is_first true wanted seeking path held u are printed = objects_are (Some path) wanted seeking held u printed are
 
 -- ---- other commands
 
@@ -250,20 +251,20 @@ loan_is notes diary entry came is each =
     (each_append (FieldReads 2) (loan_fields entry.side entry.released) (came_fields came)
     (loan_reads entry.side entry.released is.side.1 is.released) (came_reads came each))
     (note_reads words (note_utf8 notes (txn_of entry.side))))
-    (history_reads history (history_told entry.side came diary is.side.1 each)))
+    (history_reads history (history_printed entry.side came diary is.side.1 each)))
     (loan_apart words diary entry.side entry.released came)
 
 -- Each part of the history of a loan is an object with the fields of the part.
 pub parts_are : (side : Side) (kept : List Apdu) (diary : List (List ℕ)) → IsSide side → Each IsApdu kept
     → Each (λ part. IsObject (part_object part) (part_fields part)) (history_of (messages_of side kept) diary)
 unfolding Each
-parts_are side kept diary is each = go (history_of (messages_of side kept) diary) (history_told side kept diary is.1 each)
+parts_are side kept diary is each = go (history_of (messages_of side kept) diary) (history_printed side kept diary is.1 each)
   where
-    -- Each part is an object, since `IsTold` holds of it.
-    go : (parts : List Told) → Each IsTold parts → Each (λ part. IsObject (part_object part) (part_fields part)) parts
-    go [] told = tt
-    go (part ∷ parts) told =
-        (object_is 0 (part_fields part) (part_reads 0 part told.0) refl (omega arith), go parts told.1)
+    -- Each part is an object, since `IsPrinted` holds of it.
+    go : (parts : List PrintedPart) → Each IsPrinted parts → Each (λ part. IsObject (part_object part) (part_fields part)) parts
+    go [] printed = tt
+    go (part ∷ parts) printed =
+        (object_is 0 (part_fields part) (part_reads 0 part printed.0) refl (omega arith), go parts printed.1)
 
 -- The texts of APDUs are object lines.
 pub apdus_are : (apdus : List Apdu) → Each IsApdu apdus

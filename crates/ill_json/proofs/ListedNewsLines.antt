@@ -12,7 +12,7 @@ use Rattle.ill_text.specs.Json.{optional}
 use Rattle.ill_beside.specs.Kept.{is_among, kept_of, with_new}
 use Rattle.ill_list.specs.ListedNews.{heard_array, heard_fields, heard_object, listed_news_fields}
 use Rattle.ill_json.proofs.Fields.{array_value, field_reads, optional_value, text_value}
-use Rattle.ill_json.proofs.NewsTexts.{told_utf8}
+use Rattle.ill_json.proofs.NewsTexts.{printed_utf8}
 use Rattle.ill_json.proofs.Sides.{each_append, message_number}
 use Rattle.ill_json.proofs.Values.{FieldReads, HasValue, object_reads}
 
@@ -34,7 +34,7 @@ heard_reads : (side : Side) (a : Apdu) → IsApdu a → Each (FieldReads 0) (hea
 unfolding Each
 heard_reads side a is = (
   field_reads 0 _ _ refl (message_number 0 a.number is.number),
-  (field_reads 0 _ _ refl (text_value 0 _ (told_utf8 side a.body)), tt),
+  (field_reads 0 _ _ refl (text_value 0 _ (printed_utf8 side a.body)), tt),
 )
 
 -- The objects of messages have values.
@@ -48,15 +48,15 @@ heard_values side (a ∷ apdus) each = (
 
 -- An array of messages, if there is one, has a value.
 news_has : (side : Side) (news : Option (List Apdu)) → IfSome news (Each IsApdu)
-    → HasValue 2 (optional (λ told. heard_array side (kept_of (txn_of side) told)) news)
+    → HasValue 2 (optional (λ printed. heard_array side (kept_of (txn_of side) printed)) news)
 unfolding Each
-news_has side None told = optional_value 2 (λ told. heard_array side (kept_of (txn_of side) told)) None tt
-news_has side (Some news) told =
+news_has side None printed = optional_value 2 (λ printed. heard_array side (kept_of (txn_of side) printed)) None tt
+news_has side (Some news) printed =
     array_value 1 (heard_object side) (kept_of (txn_of side) news)
-    (heard_values side (kept_of (txn_of side) news) (kept_each IsApdu (txn_of side) [] news tt told))
+    (heard_values side (kept_of (txn_of side) news) (kept_each IsApdu (txn_of side) [] news tt printed))
 
 -- The field of the news of a loan is read.
 pub listed_news_reads : (news : Option (List Apdu)) (side : Side) → IfSome news (Each IsApdu)
     → Each (FieldReads 2) (listed_news_fields news side)
 unfolding Each
-listed_news_reads news side told = (field_reads 2 _ _ refl (news_has side news told), tt)
+listed_news_reads news side printed = (field_reads 2 _ _ refl (news_has side news printed), tt)

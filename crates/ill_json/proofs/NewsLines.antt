@@ -1,4 +1,4 @@
--- Proves that the lines of `news` are objects of JSON, since what is told are messages in range.
+-- Proves that the lines of `news` are objects of JSON, since what is printed are messages in range.
 use Rattle.std.proofs.Common.{ℕ, zero, suc, ◌-◌, Bool, true, false, cond, not, ◌&&◌, List, [], ◌∷◌, ◌++◌, drop, fold, length}
 use Rattle.std.proofs.Common.{map}
 use Rattle.std.proofs.Common.{Option, Some, None, IsUtf8, IfSome}
@@ -15,20 +15,20 @@ use Rattle.ill_record.specs.RecordsV2.{AreSides}
 use Rattle.ill_record.specs.Sides.{SidesOf, found_by, side_with}
 use Rattle.ill_text.specs.declared.form.Form.TheVariants as forms
 use Rattle.ill_text.specs.ApduObject.{object_line}
-use Rattle.ill_rows.specs.Heading.{between, file_told}
-use Rattle.ill_news.specs.News.{heard_at, is_told, last_of, news_desk, news_fields, news_of, news_objects, with_news}
+use Rattle.ill_rows.specs.Heading.{between, file_printed}
+use Rattle.ill_news.specs.News.{heard_at, is_printed, last_of, news_desk, news_fields, news_of, news_objects, with_news}
 use Rattle.ill_news.specs.News.{words_at}
 use Rattle.ill_news.specs.CameSince.{came_since, is_new}
 use Rattle.ill_news.specs.Deeds.{deeds_at, deeds_since, is_deed_since}
 use Rattle.ill_news.specs.OpenAnswers.{is_left, left_open}
-use Rattle.ill_news.specs.Told.{recent_of, told_since, with_open}
+use Rattle.ill_news.specs.PrintedNews.{recent_of, printed_since, with_open}
 use Rattle.ill_rows.specs.Heading.{file_fields}
 use Rattle.ill_json.specs.Lines.{fields_of_news}
 use Rattle.ill_json.specs.Objects.{AreObjectLines, IsObjectLine}
 use Rattle.ill_json.proofs.HistoryLines.{filter_each}
 use Rattle.ill_json.proofs.LineLemmas.{line_is, lines_each}
 use Rattle.ill_json.proofs.NewsTexts.{words_by_utf8}
-use Rattle.ill_json.proofs.Sides.{each_append, file_reads, news_apart, told_reads}
+use Rattle.ill_json.proofs.Sides.{each_append, file_reads, news_apart, printed_reads}
 use Rattle.ill_json.proofs.Values.{FieldReads}
 
 -- ---- the news
@@ -44,18 +44,18 @@ found_each P txn (side ∷ sides) each = go (is_same_txn txn (txn_of side)) (fou
     go true rest = each.0
     go false rest = rest
 
--- If `P` holds of each message that came, it holds of each that is told.
+-- If `P` holds of each message that came, it holds of each that is printed.
 news_each : (P : Apdu → Type 0) (sides : List Side) (news came : List Apdu) → Each P news → Each P came
     → Each P (fold (with_news sides) news came)
 unfolding Each
-news_each P sides news [] told each = told
-news_each P sides news (a ∷ came) told each =
-    news_each P sides (with_news sides news a) came (go (heard_at sides a && not (is_told news a))) each.1
+news_each P sides news [] printed each = printed
+news_each P sides news (a ∷ came) printed each =
+    news_each P sides (with_news sides news a) came (go (heard_at sides a && not (is_printed news a))) each.1
   where
-    -- The message `a` is told, or not.
+    -- The message `a` is printed, or not.
     go : (is_new : Bool) → Each P (cond is_new (news ++ a ∷ []) news)
-    go true = each_append P news (a ∷ []) told (each.0, tt)
-    go false = told
+    go true = each_append P news (a ∷ []) printed (each.0, tt)
+    go false = printed
 
 -- If `P` holds of each item, it holds of each item after the first `n`.
 dropped_each : (P : Apdu → Type 0) (n : ℕ) (apdus : List Apdu) → Each P apdus → Each P (drop n apdus)
@@ -77,7 +77,7 @@ news_line : (file : Option (List ℕ)) (sides : List Side) (a : Apdu) → IfSome
 news_line file sides a u each is =
     line_is (fields_of_news file sides a)
     (each_append (FieldReads 2) (news_fields sides a) (file_fields file)
-    (told_reads (side_with a.txn sides) (words_at sides a) a (found_each IsSide a.txn sides each) (words_by_utf8 _ a.body) is)
+    (printed_reads (side_with a.txn sides) (words_at sides a) a (found_each IsSide a.txn sides each) (words_by_utf8 _ a.body) is)
     (file_reads file u)) (news_apart file sides a)
 
 -- The objects of messages are object lines.
@@ -96,13 +96,13 @@ objects_are file sides shown u each are = lines_each (fields_of_news file sides)
 pub news_are : (is_first is_headed : Bool) (last : Option ℕ) (path : List ℕ) (held : SidesOf) (news : List Apdu) → IsUtf8 path
     → AreSides held → Each IsApdu news
     → AreObjectLines (between forms.Json is_first ++ news_desk forms.Json is_headed last path held.sides news)
-    (map (fields_of_news (file_told is_headed path) held.sides) (last_of last news))
+    (map (fields_of_news (file_printed is_headed path) held.sides) (last_of last news))
 news_are is_first false last path held news u are each =
     objects_are None held.sides (last_of last news) tt are.each (last_each IsApdu last news each)
 news_are is_first true last path held news u are each =
     objects_are (Some path) held.sides (last_of last news) u are.each (last_each IsApdu last news each)
 
--- ---- what is told
+-- ---- what is printed
 
 -- If each message that came is in range, so is each that came since a day.
 since_each : (since : Option Date) (lines : List (List ℕ)) (came : List Apdu) → Each IsApdu came
@@ -126,11 +126,11 @@ deeds_each (Some day) lines (side ∷ sides) each =
     each_append IsApdu (deeds_at day lines side) (deeds_since (Some day) lines sides)
     (deeds_at_each day lines side each.0) (deeds_each (Some day) lines sides each.1)
 
--- If each message that came is in range, so is each that is told of the desk.
-pub told_each : (since : Option Date) (notes lines : List (List ℕ)) (held : SidesOf) (came : List Apdu) → AreSides held
-    → Each IsApdu came → Each IsApdu (told_since since notes lines held.sides came)
+-- If each message that came is in range, so is each that is printed of the desk.
+pub printed_each : (since : Option Date) (notes lines : List (List ℕ)) (held : SidesOf) (came : List Apdu) → AreSides held
+    → Each IsApdu came → Each IsApdu (printed_since since notes lines held.sides came)
 unfolding Each
-told_each since notes lines held came are each =
+printed_each since notes lines held came are each =
     let recent = recent_of since lines held.sides came in
     let left = left_open notes recent came in
     each_append IsApdu (with_open notes held.sides recent came) (deeds_since since lines held.sides)

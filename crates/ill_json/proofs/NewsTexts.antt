@@ -8,7 +8,7 @@ use Rattle.ill_values.specs.declared.apdu.AnswerResult.TheVariants as results
 use Rattle.ill_record.specs.declared.side.Side.{Side}
 use Rattle.ill_record.specs.declared.side.Side.TheVariants as sides
 use Rattle.ill_record.specs.Side.{due_date_of}
-use Rattle.ill_beside.specs.NewsWords.{lender_words, news_words, told_words}
+use Rattle.ill_beside.specs.NewsWords.{lender_words, news_words, printed_words}
 use Rattle.ill_news.specs.News.{words_by}
 use Rattle.ill_json.proofs.Fields.{day_utf8}
 use Rattle.ill_json.proofs.Shown.{are_printable, printable_shown}
@@ -68,11 +68,11 @@ lender_utf8 due (types.Renew wished) = words_utf8 due (types.Renew wished)
 lender_utf8 due (types.RenewAnswer answers granted) = words_utf8 due (types.RenewAnswer answers granted)
 
 -- The words of a message in the news of a loan are UTF-8.
-pub told_utf8 : (side : Side) (body : Body) → IsUtf8 (told_words side body)
-told_utf8 (sides.Requester x) body = words_utf8 (due_date_of (sides.Requester x)) body
-told_utf8 (sides.Responder y) body = lender_utf8 (due_date_of (sides.Responder y)) body
+pub printed_utf8 : (side : Side) (body : Body) → IsUtf8 (printed_words side body)
+printed_utf8 (sides.Requester x) body = words_utf8 (due_date_of (sides.Requester x)) body
+printed_utf8 (sides.Responder y) body = lender_utf8 (due_date_of (sides.Responder y)) body
 
 -- The words of a message are UTF-8, also if there is no side.
 pub words_by_utf8 : (side : Option Side) (body : Body) → IsUtf8 (words_by side body)
 words_by_utf8 None body = words_utf8 None body
-words_by_utf8 (Some side) body = told_utf8 side body
+words_by_utf8 (Some side) body = printed_utf8 side body

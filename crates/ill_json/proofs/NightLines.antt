@@ -29,7 +29,7 @@ use Rattle.ill_words.specs.declared.outcome.DeskOutcome.{DeskOutcome}
 use Rattle.ill_words.specs.declared.outcome.DeskOutcome.TheVariants as seen
 use Rattle.ill_night.specs.Lines.{delay_text, der_word, place_text, unfit_text}
 use Rattle.ill_inbox.specs.Objects.{deed_fields, message_fields, outcome_fields, sent_fields, shown_fields, stays_fields}
-use Rattle.ill_inbox.specs.Objects.{tally_fields, told_message}
+use Rattle.ill_inbox.specs.Objects.{tally_fields, printed_message}
 use Rattle.ill_inbox.specs.declared.tally.Tally.{Tally}
 use Rattle.ill_night.specs.declared.verdict.Delay.{Delay}
 use Rattle.ill_night.specs.declared.verdict.Delay.TheVariants as delays
@@ -94,7 +94,7 @@ place_shown None near = shown-nil
 place_shown (Some at) near =
     shown-append (codes " at ") _ (printable_shown (codes " at ") refl) (number_reads 0 at (omega (arith, near))).shown
 
--- The reason why no desk will ever take a mail is UTF-8.
+-- The reason why no desk will ever take a message file is UTF-8.
 unfit_utf8 : (unfit : Unfit) → HasNearPlace unfit → IsUtf8 (unfit_text unfit)
 unfit_utf8 (unfits.NoMessage fault) near =
     (shown-append (der_word fault) _ (printable_shown _ (fault_printable fault)) (place_shown (place_of fault) near)).utf8
@@ -103,7 +103,7 @@ unfit_utf8 unfits.Trailing near = (printable_shown (codes "trailing") refl).utf8
 unfit_utf8 unfits.NotSealed near = (printable_shown (codes "not-sealed") refl).utf8
 unfit_utf8 (unfits.Refused refusal) near = (printable_shown _ (refusal_printable refusal)).utf8
 
--- The reason why a mail waits is UTF-8.
+-- The reason why a message file waits is UTF-8.
 delay_utf8 : (delay : Delay) → IsUtf8 (delay_text delay)
 delay_utf8 delays.NotRead = (printable_shown (codes "not-read") refl).utf8
 delay_utf8 delays.Record = (printable_shown (codes "record") refl).utf8
@@ -155,17 +155,17 @@ message_apart a outcome now (RenewAnswer answers None) = refl
 message_apart a outcome now (RenewAnswer answers (Some d)) = refl
 message_apart a outcome now Expired = refl
 
--- The fields of a mail that stays are read.
+-- The fields of a message file that stays are read.
 stays_reads : (name word reason : List ℕ) → IsUtf8 name → are_printable word ≡ true → IsUtf8 reason
     → Each (FieldReads 2) (stays_fields name word reason)
 unfolding Each
-stays_reads name word reason named plain told = (
+stays_reads name word reason named plain printed = (
   field_reads 2 _ _ refl (name_value 2 (codes "mail") refl),
   (
     field_reads 2 _ _ refl (text_value 2 name named),
     (
       field_reads 2 _ _ refl (name_value 2 word plain),
-      (field_reads 2 _ _ refl (text_value 2 reason told), tt),
+      (field_reads 2 _ _ refl (text_value 2 reason printed), tt),
     ),
   ),
 )
@@ -174,21 +174,21 @@ stays_reads name word reason named plain told = (
 
 -- The object of a message with an outcome is an object line.
 pub message_is : (a : Apdu) (outcome : DeskOutcome) (now : Shown) → IsApdu a → IsStanding now
-    → IsObjectLine (told_message forms.Json a outcome now) (message_fields a outcome now)
+    → IsObjectLine (printed_message forms.Json a outcome now) (message_fields a outcome now)
 message_is a outcome now is standing =
     line_is (message_fields a outcome now)
     (each_append (FieldReads 2) (outcome_fields outcome now) (apdu_fields a) (outcome_reads outcome now standing)
     (apdu_reads 2 a is)) (message_apart a outcome now a.body)
 
--- The object of a mail that is put aside is an object line.
-pub aside_is : (name : List ℕ) (unfit : Unfit) → IsUtf8 name → HasNearPlace unfit
+-- The object of a message file that is quarantined is an object line.
+pub quarantined_is : (name : List ℕ) (unfit : Unfit) → IsUtf8 name → HasNearPlace unfit
     → IsObjectLine (object_line (stays_fields name (codes "aside") (unfit_text unfit)))
     (stays_fields name (codes "aside") (unfit_text unfit))
-aside_is name unfit named near =
+quarantined_is name unfit named near =
     line_is (stays_fields name (codes "aside") (unfit_text unfit))
     (stays_reads name (codes "aside") (unfit_text unfit) named refl (unfit_utf8 unfit near)) refl
 
--- The object of a mail that waits is an object line.
+-- The object of a message file that waits is an object line.
 pub left_is : (name : List ℕ) (delay : Delay) → IsUtf8 name
     → IsObjectLine (object_line (stays_fields name (codes "left") (delay_text delay)))
     (stays_fields name (codes "left") (delay_text delay))
@@ -217,7 +217,7 @@ tally_is tally waiting few = line_is (tally_fields tally waiting) (
           (
             count_reads (codes "unknown") tally.unknown refl few.unknown,
             (
-              count_reads (codes "aside") tally.aside refl few.aside,
+              count_reads (codes "aside") tally.quarantined refl few.quarantined,
               (
                 count_reads (codes "left") tally.left refl few.left,
                 (count_reads (codes "waiting") waiting refl few.waiting, tt),

@@ -39,7 +39,7 @@ use Rattle.ill_show.specs.Objects.{names_of}
 use Rattle.ill_show.specs.Objects.{came_fields, status_fields, taken_fields, turn_fields}
 use Rattle.ill_list.specs.ListObjects.{row_fields}
 use Rattle.ill_show.specs.Status.{mark, marks_of}
-use Rattle.ill_news.specs.News.{told_fields}
+use Rattle.ill_news.specs.News.{printed_fields}
 use Rattle.ill_show.specs.ItemLine.{item_of}
 use Rattle.ill_beside.specs.Since.{AnnexRead, since_fields}
 use Rattle.ill_json.specs.Lines.{fields_of_counts, fields_of_loan, fields_of_message, fields_of_news, fields_of_row}
@@ -417,10 +417,10 @@ item_of_value most None is = optional_value most quoted None tt
 item_of_value most (Some side) is = item_value most side is.1
 
 -- The fields of a message that came are read.
-pub told_reads : (side : Option Side) (words : List ℕ) (a : Apdu) → IfSome side IsSide → IsUtf8 words → IsApdu a
-    → Each (FieldReads 2) (told_fields side words a)
+pub printed_reads : (side : Option Side) (words : List ℕ) (a : Apdu) → IfSome side IsSide → IsUtf8 words → IsApdu a
+    → Each (FieldReads 2) (printed_fields side words a)
 unfolding Each
-told_reads side words a found utf8 is = (
+printed_reads side words a found utf8 is = (
   field_reads 2 _ _ refl (name_value 2 _ refl),
   (
     field_reads 2 _ _ refl (text_value 2 a.txn.group (qualifier_utf8 a.txn.group is.txn.group)),

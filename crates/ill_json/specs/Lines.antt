@@ -32,11 +32,11 @@ use Rattle.ill_show.specs.Objects.{leaves_fields}
 
 -- ---- `list`
 
--- If news are told in a list, each of their messages is in range.
-abbrev pub AreToldNews : AnnexRead → Type 0
-AreToldNews annex = IfSome annex.news (Each IsApdu)
+-- If news are printed in a list, each of their messages is in range.
+abbrev pub ArePrintedNews : AnnexRead → Type 0
+ArePrintedNews annex = IfSome annex.news (Each IsApdu)
 
--- Returns the fields in the line of a listed loan with this work. `file` is the path of its desk, if it is told.
+-- Returns the fields in the line of a listed loan with this work. `file` is the path of its desk, if it is printed.
 abbrev pub fields_of_row : Option (List ℕ) → AnnexRead → Option Date → Work → Side → List Field
 fields_of_row file annex today work side = full_row_fields annex today work side ++ file_fields file
 
@@ -61,7 +61,7 @@ fields_of_list file wanted seeking sides = fields_in_order file wanted seeking (
 
 -- ---- `news`
 
--- Returns the fields in the line of a message that is told in the news of a desk with `sides`.
+-- Returns the fields in the line of a message that is printed in the news of a desk with `sides`.
 abbrev pub fields_of_news : Option (List ℕ) → List Side → Apdu → List Field
 fields_of_news file sides a = news_fields sides a ++ file_fields file
 
@@ -93,18 +93,18 @@ pub record IsStanding (now : Shown) : Type 0 where
   pub released : now.released ≤ 255
   pub issued : now.issued ≤ 255
 
--- If a mail has no message for a fault in its bytes, the offset of this fault has 32 bits.
+-- If a message file has no message for a fault in its bytes, the offset of this fault has 32 bits.
 abbrev pub HasNearPlace : Unfit → Type 0
 HasNearPlace (NoMessage fault) = IfSome (place_of fault) (λ at. at < 2 ^ 32)
 HasNearPlace unfit = Unit {0}
 
--- Each count of mails has 64 bits. `further` mails wait.
+-- Each count of message files has 64 bits. `further` message files wait.
 pub record AreFew (tally : Tally) (further : ℕ) : Type 0 where
   pub taken : tally.taken < 2 ^ 64
   pub repeat : tally.repeat < 2 ^ 64
   pub stale : tally.stale < 2 ^ 64
   pub conflict : tally.conflict < 2 ^ 64
   pub unknown : tally.unknown < 2 ^ 64
-  pub aside : tally.aside < 2 ^ 64
+  pub quarantined : tally.quarantined < 2 ^ 64
   pub left : tally.left < 2 ^ 64
   pub waiting : further < 2 ^ 64

@@ -1,5 +1,5 @@
--- Texts that are JSON (RFC 8259). JSON is what the kit's crate `json` reads: its `document` returns the value that a text
--- is, or `None` if the text is no JSON.
+-- Texts that are JSON (RFC 8259). JSON is what the kit's crate `json` reads: its `document` returns the value that a
+-- text is, or `None` if the text is no JSON.
 use Rattle.std.specs.Prelude.{◌≡◌, ℕ, true, List, [], ◌∷◌, ◌++◌, codes, Option, Some, option_map, option_and_then, IsUtf8}
 use Rattle.std.specs.List.{flat_map, list_all}
 use Rattle.json.specs.Json.{Items, Members, no_items, item, no_members, member, string, object, document}

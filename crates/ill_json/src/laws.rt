@@ -20,7 +20,7 @@ ghost use Rattle.ill_text.specs.Json as texts;
 ghost use Rattle.ill_text.specs.Json.{Field, flag, quoted};
 ghost use Rattle.ill_show.specs.declared.loan.LoanForm.TheVariants.{Object};
 ghost use Rattle.ill_list.specs.declared.wanted.Wanted.{Wanted};
-ghost use Rattle.ill_rows.specs.Heading.{between, file_told};
+ghost use Rattle.ill_rows.specs.Heading.{between, file_printed};
 ghost use Rattle.ill_list.specs.Listing.{listed_desk};
 ghost use Rattle.ill_list.specs.Seeking.{Seeking};
 ghost use Rattle.ill_beside.specs.Diary.{history_of, messages_of, part_fields, part_object};
@@ -28,7 +28,7 @@ ghost use Rattle.ill_show.specs.Loan.{loan_text};
 ghost use Rattle.ill_beside.specs.Notes.{note_of};
 ghost use Rattle.ill_record.specs.Side.{txn_of};
 ghost use Rattle.ill_news.specs.News.{last_of, news_desk};
-ghost use Rattle.ill_news.specs.Told.{told_since};
+ghost use Rattle.ill_news.specs.PrintedNews.{printed_since};
 ghost use Rattle.ill_show.specs.Objects.{message_object, status_of_desk};
 ghost use Rattle.ill_show.specs.Verify.{fault_fields, record_fields, record_text};
 ghost use Rattle.ill_values.specs.TxnId.{AreQualifiers, Qualifiers};
@@ -36,36 +36,38 @@ ghost use Rattle.ill_core.specs.declared.responder.Deed.{Deed};
 ghost use Rattle.ill_saved.specs.declared.shown.Shown.{Shown};
 ghost use Rattle.ill_words.specs.declared.outcome.DeskOutcome.{DeskOutcome};
 ghost use Rattle.ill_night.specs.Lines.{delay_text, unfit_text};
-ghost use Rattle.ill_inbox.specs.Objects.{deed_fields, message_fields, sent_fields, stays_fields, tally_fields, told_message, told_sent, told_tally, told_verdict};
+ghost use Rattle.ill_inbox.specs.Objects.{deed_fields, message_fields, sent_fields, stays_fields, tally_fields, printed_message, printed_sent, printed_tally, printed_verdict};
 ghost use Rattle.ill_inbox.specs.declared.tally.Tally.{Tally};
 ghost use Rattle.ill_night.specs.declared.verdict.Delay.{Delay};
 ghost use Rattle.ill_night.specs.declared.verdict.Unfit.{Unfit};
-ghost use Rattle.ill_night.specs.declared.verdict.Verdict.TheVariants.{Aside, Left};
+ghost use Rattle.ill_night.specs.declared.verdict.Verdict.TheVariants.{Quarantined, Deferred};
 ghost use Rattle.ill_json.specs.BadLines.{AreBadLines, IsBadLine, broken_texts};
-ghost use Rattle.ill_json.specs.Lines.{AreFew, AreToldNews, HasNearPlace, IsEntry, IsStanding, fields_of_list, fields_of_loan, fields_of_message, fields_of_news, fields_of_status};
+ghost use Rattle.ill_json.specs.Lines.{AreFew, ArePrintedNews, HasNearPlace, IsEntry, IsStanding, fields_of_list, fields_of_loan, fields_of_message, fields_of_news, fields_of_status};
 ghost use Rattle.ill_json.specs.Objects.{AreObjectLines, IsObject, IsObjectLine, items_of, strings};
 
 /// Each line of `list` is an object of JSON with the fields of a loan. The last line of a desk has the counts. The path
-/// of the desk is UTF-8, and news that are told are messages.
+/// of the desk is UTF-8, and news that are printed are messages.
 pub fn list_is_json()
     ensures { (is_first is_headed : Bool) (wanted : Wanted) (seeking : Seeking) (path : List ℕ) (held : SidesOf) →
-        IsUtf8 path → AreSides held → AreToldNews seeking.annex →
+        IsUtf8 path → AreSides held → ArePrintedNews seeking.annex →
         AreObjectLines (between forms.Json is_first ++ listed_desk forms.Json is_headed wanted seeking path held.sides)
-        (fields_of_list (file_told is_headed path) wanted seeking held.sides) }
+        (fields_of_list (file_printed is_headed path) wanted seeking held.sides) }
 {}
 
-/// Each line of `news` is an object of JSON with the fields of a message that is told. The path of the desk is UTF-8.
+/// Each line of `news` is an object of JSON with the fields of a message that is printed. The path of the desk is
+/// UTF-8.
 pub fn news_is_json()
     ensures { (is_first is_headed : Bool) (last : Option ℕ) (path : List ℕ) (held : SidesOf) (news : List Apdu) →
         IsUtf8 path → AreSides held → Each IsApdu news →
         AreObjectLines (between forms.Json is_first ++ news_desk forms.Json is_headed last path held.sides news)
-        (map (fields_of_news (file_told is_headed path) held.sides) (last_of last news)) }
+        (map (fields_of_news (file_printed is_headed path) held.sides) (last_of last news)) }
 {}
 
-/// The news told of a desk are messages in range, if the messages that came to it are. So the news have lines of JSON.
+/// The news printed of a desk are messages in range, if the messages that came to it are. So the news have lines of
+/// JSON.
 pub fn news_are_messages()
     ensures { (since : Option Date) (notes lines : List (List ℕ)) (held : SidesOf) (came : List Apdu) →
-        AreSides held → Each IsApdu came → Each IsApdu (told_since since notes lines held.sides came) }
+        AreSides held → Each IsApdu came → Each IsApdu (printed_since since notes lines held.sides came) }
 {}
 
 /// Each line of `status` is an object of JSON with the fields of a side.
@@ -100,22 +102,22 @@ pub fn verify_is_json()
         IsObjectLine (object_line (fault_fields fault)) (fault_fields fault) }
 {}
 
-/// Each line that a night writes in objects is an object of JSON: a message with its outcome, a mail that stays, the counts,
-/// a deed, and the number of messages that are sent. The name of a mail is UTF-8.
-#[tactic(auto, using(crate::proofs::NightLines::message_is, crate::proofs::NightLines::aside_is, crate::proofs::NightLines::left_is, crate::proofs::NightLines::tally_is, crate::proofs::NightLines::deed_is, crate::proofs::NightLines::sent_is))]
+/// Each line that a night writes in objects is an object of JSON: a message with its outcome, a message file that
+/// stays, the counts, a deed, and the number of messages that are sent. The name of a message file is UTF-8.
+#[tactic(auto, using(crate::proofs::NightLines::message_is, crate::proofs::NightLines::quarantined_is, crate::proofs::NightLines::left_is, crate::proofs::NightLines::tally_is, crate::proofs::NightLines::deed_is, crate::proofs::NightLines::sent_is))]
 pub fn a_night_is_json()
     ensures message { (a : Apdu) (outcome : DeskOutcome) (now : Shown) → IsApdu a → IsStanding now →
-        IsObjectLine (told_message forms.Json a outcome now) (message_fields a outcome now) }
-    ensures aside { (name : List ℕ) (unfit : Unfit) → IsUtf8 name → HasNearPlace unfit →
-        IsObjectLine (told_verdict forms.Json name (Aside unfit)) (stays_fields name (codes "aside") (unfit_text unfit)) }
+        IsObjectLine (printed_message forms.Json a outcome now) (message_fields a outcome now) }
+    ensures quarantined { (name : List ℕ) (unfit : Unfit) → IsUtf8 name → HasNearPlace unfit →
+        IsObjectLine (printed_verdict forms.Json name (Quarantined unfit)) (stays_fields name (codes "aside") (unfit_text unfit)) }
     ensures left { (name : List ℕ) (delay : Delay) → IsUtf8 name →
-        IsObjectLine (told_verdict forms.Json name (Left delay)) (stays_fields name (codes "left") (delay_text delay)) }
+        IsObjectLine (printed_verdict forms.Json name (Deferred delay)) (stays_fields name (codes "left") (delay_text delay)) }
     ensures counts { (tally : Tally) (waiting : ℕ) → AreFew tally waiting →
-        IsObjectLine (told_tally forms.Json tally waiting) (tally_fields tally waiting) }
+        IsObjectLine (printed_tally forms.Json tally waiting) (tally_fields tally waiting) }
     ensures deed { (txn : Qualifiers) (deed : Deed) (now : Shown) → AreQualifiers txn → IsStanding now →
         IsObjectLine (object_line (deed_fields (record { txn = txn; deed = deed }) now))
         (deed_fields (record { txn = txn; deed = deed }) now) }
-    ensures sent { (count : ℕ) → count < 2 ^ 64 → IsObjectLine (told_sent forms.Json count) (sent_fields count) }
+    ensures sent { (count : ℕ) → count < 2 ^ 64 → IsObjectLine (printed_sent forms.Json count) (sent_fields count) }
 {}
 
 /// Each line of `show` is an object of JSON with the fields of an APDU.

@@ -9,7 +9,7 @@ use Rattle.ill_text.specs.declared.fault.ToolFault.TheVariants.{Key, OutOfMemory
 use Rattle.ill_text.specs.Fault.{IsOpenFault}
 use Rattle.ill_text.specs.Input.{IsWhole, StopsWhole}
 use Rattle.ill_text.specs.Output.{WritesText}
-use Rattle.ill_files.specs.Opening.{GoesWell}
+use Rattle.ill_files.specs.Opening.{Succeeds}
 use Rattle.ill_key.specs.declared.key.KeyDeed.{KeyDeed}
 use Rattle.ill_key.specs.declared.key.KeyDeed.TheVariants as deeds
 
@@ -29,13 +29,13 @@ FailsAtKey before after result = IsErrAnd result IsKeyFault × (after ≡ before
 -- The file of a key was made, and then `done` was written. Or the file could not be made, and nothing was written.
 abbrev pub MakesKey : Option (List ℕ) → Option (List ℕ) → Result Bool ToolFault → Type 0
 MakesKey before after result =
-    FailsAtKey before after result ⊎ GoesWell (WritesText before after (codes "done\n")) result
+    FailsAtKey before after result ⊎ Succeeds (WritesText before after (codes "done\n")) result
 
 -- The text of a key was written, in a line. Or no key could be read, and nothing was written.
 abbrev pub ShowsKey : Option (List ℕ) → Option (List ℕ) → Result Bool ToolFault → Type 0
 ShowsKey before after result =
     FailsAtKey before after result
-    ⊎ ((key : List ℕ) × (length key ≡ 32) × GoesWell (WritesText before after (key_text key ++ 10 ∷ [])) result)
+    ⊎ ((key : List ℕ) × (length key ≡ 32) × Succeeds (WritesText before after (key_text key ++ 10 ∷ [])) result)
 
 -- Returns the fault of the command for the fault of the text of a key.
 abbrev pub key_fault : KeyFault → ToolFault

@@ -8,7 +8,7 @@ ghost use Rattle.ill_text.specs.Output.{WritesText};
 
 use crate::key_file::{make_key_file, new_key, read_key};
 use ill_files::machine::Machine;
-use ill_files::open::all_well;
+use ill_files::open::all_succeed;
 use ill_seal::{Key, KeyFault};
 use ill_text::fault::{BadKey, ToolFault};
 use ill_text::input::read_whole;
@@ -69,7 +69,7 @@ fn keep<T: Files, W: Write, E: Write>(
     ensures { MakesKey (W.contents machine.old.writer) (W.contents machine.new.writer) result }
 {
     make_key_file(machine.rt, file, key)?;
-    all_well(write_whole(&mut machine.writer, b"done\n"))
+    all_succeed(write_whole(&mut machine.writer, b"done\n"))
 }
 
 /// Writes the text of the key in `file`, in a line.
@@ -82,7 +82,7 @@ fn show<T: Files, W: Write, E: Write>(
     let key = read_key(machine.rt, file)?;
     let mut text = key.to_text(machine.alloc)?;
     text.push(b'\n')?;
-    all_well(write_whole(&mut machine.writer, &text))
+    all_succeed(write_whole(&mut machine.writer, &text))
 }
 
 /// Makes the file of the key whose text is on the input, at `file`, and then writes `done`.

@@ -1,5 +1,5 @@
-//! Keys in files, and sealed letters on inputs and outputs. A key file has the bytes of one key, and nobody but its owner
-//! may read or write it.
+//! Keys in files, and sealed letters on inputs and outputs. A key file has the bytes of one key, and nobody but its
+//! owner may read or write it.
 #![tactic(auto)]
 
 pub mod key;

@@ -45,7 +45,8 @@ use Rattle.ill_line.specs.declared.command_line.Argument.TheVariants as argument
 use Rattle.ill_line.specs.declared.command_line.Argument.TheVariants.{NewFile, File, Folder, Group, Transaction, Today}
 use Rattle.ill_line.specs.declared.command_line.Argument.TheVariants.{Words, Number, Long, Keep, Picture, Open, Mine, Json, Paths}
 use Rattle.ill_line.specs.declared.command_line.Argument.TheVariants.{OnDay, DueBefore, InState, ReportDay, OutFolder, Stream, In}
-use Rattle.ill_line.specs.declared.command_line.Argument.TheVariants.{Out, NightDay, Overdue, Expire, Copy, Beat, NewGroup, Ahead}
+use Rattle.ill_line.specs.declared.command_line.Argument.TheVariants.{Out, NightDay, Overdue, Expire, Copy, Heartbeat, NewGroup}
+use Rattle.ill_line.specs.declared.command_line.Argument.TheVariants.{Ahead}
 use Rattle.ill_line.specs.declared.command_line.Argument.TheVariants.{By, DryRun, Seen}
 use Rattle.ill_line.specs.declared.command_line.Argument.TheVariants.{Actions, Last, Since, Title, NoteWords, Find, Notes}
 use Rattle.ill_line.specs.declared.command_line.Argument.TheVariants.{SinceWhen, NightKey}
@@ -316,7 +317,7 @@ pub data Asked : Type 0 where
   Inbox : (file folder : List ℕ) → (stamp : Option Stamped) → (key : Option (List ℕ)) → Asked
   Outbox : (file : List ℕ) → (folder key : Option (List ℕ)) → Asked
   Exchange : (file incoming outgoing : List ℕ) → (form : Form) → (dates : Option (Date × Dates)) → (stamp : Option Stamped) →
-      (copy beat key : Option (List ℕ)) → Asked
+      (copy heartbeat key : Option (List ℕ)) → Asked
   Key : (file : List ℕ) → (deed : KeyDeed) → Asked
   Send : (file : List ℕ) → (txn : Qualifiers) → (number : ℕ) → (key : Option (List ℕ)) → Asked
   Listing : (paths : List (List ℕ)) → (wanted : Wanted) → (find : Option (List ℕ)) → (form : Form) → Asked
@@ -353,7 +354,7 @@ asked (requests.Outbox file folder key) =
     Outbox file.now (option_map (λ text. text.now) folder) (option_map (λ text. text.now) key)
 asked (requests.Exchange file night key) =
     Exchange file.now night.incoming.now night.outgoing.now night.form night.dates (option_map stamped night.stamp)
-    (option_map (λ text. text.now) night.copy) (option_map (λ text. text.now) night.beat) (option_map (λ text. text.now) key)
+    (option_map (λ text. text.now) night.copy) (option_map (λ text. text.now) night.heartbeat) (option_map (λ text. text.now) key)
 asked (requests.Key file deed) = Key file.now deed
 asked (requests.Send file txn number key) = Send file.now txn number (option_map (λ text. text.now) key)
 asked (requests.List paths wanted find form) =
@@ -376,7 +377,7 @@ desk_at_stake (Act file asking by is_long is_new_group) = Some file
 desk_at_stake (Take file form stamp key) = Some file
 desk_at_stake (Inbox file folder stamp key) = Some file
 desk_at_stake (Outbox file folder key) = Some file
-desk_at_stake (Exchange file incoming outgoing form dates stamp copy beat key) = Some file
+desk_at_stake (Exchange file incoming outgoing form dates stamp copy heartbeat key) = Some file
 desk_at_stake (Key file deed) = Some file
 desk_at_stake (Send file txn number key) = Some file
 desk_at_stake (Note file txn words) = Some file
@@ -426,7 +427,7 @@ asked_of names.Exchange found = do
   incoming ← text_of In found
   outgoing ← text_of Out found
   both ← dates_and_stamp_of found
-  Some (Exchange file incoming outgoing (form_of found) both.0 both.1 (text_of Copy found) (text_of Beat found)
+  Some (Exchange file incoming outgoing (form_of found) both.0 both.1 (text_of Copy found) (text_of Heartbeat found)
       (text_of NightKey found))
 asked_of names.Key found = do
   file ← new_file_of KeyFile found

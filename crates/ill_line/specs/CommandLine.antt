@@ -11,7 +11,8 @@ use Rattle.ill_line.specs.declared.command_line.Argument.{Argument}
 use Rattle.ill_line.specs.declared.command_line.Argument.TheVariants.{NewFile, File, Folder, Role, Group, Transaction, Today}
 use Rattle.ill_line.specs.declared.command_line.Argument.TheVariants.{Words, Number, Long, Keep, Picture, Open, Mine, Json, Paths}
 use Rattle.ill_line.specs.declared.command_line.Argument.TheVariants.{OnDay, DueBefore, InState, ReportDay, OutFolder, Stream, In}
-use Rattle.ill_line.specs.declared.command_line.Argument.TheVariants.{Out, NightDay, Overdue, Expire, Copy, Beat, NewGroup, Ahead}
+use Rattle.ill_line.specs.declared.command_line.Argument.TheVariants.{Out, NightDay, Overdue, Expire, Copy, Heartbeat, NewGroup}
+use Rattle.ill_line.specs.declared.command_line.Argument.TheVariants.{Ahead}
 use Rattle.ill_line.specs.declared.command_line.Argument.TheVariants.{By, DryRun, Seen}
 use Rattle.ill_line.specs.declared.command_line.Argument.TheVariants.{Actions, Last, Since, Title, NoteWords, Find, Notes}
 use Rattle.ill_line.specs.declared.command_line.Argument.TheVariants.{SinceWhen, NightKey}
@@ -81,7 +82,7 @@ id_of NightDay = codes "today"
 id_of Overdue = codes "overdue"
 id_of Expire = codes "expire"
 id_of Copy = codes "copy"
-id_of Beat = codes "beat"
+id_of Heartbeat = codes "beat"
 id_of NewGroup = codes "new-group"
 id_of By = codes "by"
 id_of Seen = codes "seen"

@@ -157,7 +157,7 @@ impl Name {
                 Argument::Overdue,
                 Argument::Expire,
                 Argument::Copy,
-                Argument::Beat,
+                Argument::Heartbeat,
                 Argument::NightKey,
                 Argument::Json,
             ],
@@ -243,17 +243,17 @@ pub enum Argument {
     NewFile,
     /// The file of a desk.
     File,
-    /// A folder of mails.
+    /// A folder of message files.
     Folder,
-    /// A folder into which mails are put, which may be left out.
+    /// A folder into which message files are put, which may be left out.
     OutFolder,
     /// Set if messages are written to the output instead of a folder.
     Stream,
-    /// The folder of the mails that have come.
+    /// The folder of the message files that have come.
     In,
-    /// The folder of the mails that are to go.
+    /// The folder of the message files that are to go.
     Out,
-    /// The day on which mails or APDUs are taken.
+    /// The day on which message files or APDUs are taken.
     NightDay,
     /// Set if a responder says of each overdue loan that it is overdue.
     Overdue,
@@ -262,7 +262,7 @@ pub enum Argument {
     /// The file to which a night copies its desk before it sends. On a shelf it is a folder of copies.
     Copy,
     /// The file that is written anew at the end of a run, as a sign of life.
-    Beat,
+    Heartbeat,
     /// The role of a desk that begins.
     Role,
     /// The group qualifier of a loan, or the group of a shelf.
@@ -358,7 +358,7 @@ impl Argument {
             Argument::Overdue => "overdue",
             Argument::Expire => "expire",
             Argument::Copy => "copy",
-            Argument::Beat => "beat",
+            Argument::Heartbeat => "beat",
             Argument::Role => "ROLE",
             Argument::Group => "GROUP",
             Argument::Transaction => "TRANSACTION",
@@ -424,7 +424,7 @@ impl Argument {
             Argument::Ahead => Shape::Valued("DAYS"),
             Argument::InState => Shape::Valued("STATE"),
             Argument::Last => Shape::Valued("N"),
-            Argument::Copy | Argument::Beat => Shape::Path("FILE"),
+            Argument::Copy | Argument::Heartbeat => Shape::Path("FILE"),
             Argument::Key | Argument::NightKey => Shape::Path("KEYFILE"),
             Argument::Stream
             | Argument::Overdue

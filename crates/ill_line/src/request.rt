@@ -93,7 +93,7 @@ pub enum Request<'a> {
         /// The path of the key, if the input is a sealed letter.
         key: Option<&'a str>,
     },
-    /// Take the mails of a folder: `ill inbox`.
+    /// Take the message files of a folder: `ill inbox`.
     Inbox {
         /// The path of the file.
         file: &'a str,
@@ -101,7 +101,7 @@ pub enum Request<'a> {
         folder: &'a str,
         /// The stamp of the lines of the diary, if a day is given.
         stamp: Option<Stamp<'a>>,
-        /// The path of the key, if the mails are sealed letters.
+        /// The path of the key, if the message files are sealed letters.
         key: Option<&'a str>,
     },
     /// Send the messages of the loans that want sending: `ill outbox`.
@@ -110,16 +110,16 @@ pub enum Request<'a> {
         file: &'a str,
         /// The path of the folder, or none for the output.
         folder: Option<&'a str>,
-        /// The path of the key, if the mails are sealed letters. Then there is a folder.
+        /// The path of the key, if the message files are sealed letters. Then there is a folder.
         key: Option<&'a str>,
     },
-    /// Exchange the mail of a desk: `ill exchange`.
+    /// Exchange the message files of a desk: `ill exchange`.
     Exchange {
         /// The path of the file.
         file: &'a str,
         /// The arguments of the night.
         night: Night<'a>,
-        /// The path of the key, if the mails are sealed letters.
+        /// The path of the key, if the message files are sealed letters.
         key: Option<&'a str>,
     },
     /// Make, show or read a key: `ill key`.
@@ -635,7 +635,7 @@ fn exchange_request<'a>(alloc: Global, matches: &ArgMatches<'a>) -> Result<Reque
         Err(refusal) => return Err(refusal),
     };
     let copy = said(matches, Argument::Copy);
-    let beat = said(matches, Argument::Beat);
+    let heartbeat = said(matches, Argument::Heartbeat);
     let key = said(matches, Argument::NightKey);
     Ok(Request::Exchange {
         file,
@@ -645,7 +645,7 @@ fn exchange_request<'a>(alloc: Global, matches: &ArgMatches<'a>) -> Result<Reque
             dates,
             stamp,
             copy,
-            beat,
+            heartbeat,
             form: form(matches),
             is_on_shelf: false,
         },

@@ -8,7 +8,8 @@ use Rattle.ill_list.specs.ListedNews.{listed_news}
 use Rattle.ill_list.specs.List.{columns_of, counts_line, counts_of, has_work}
 use Rattle.ill_list.specs.Listing.{chosen_of, lines_text, list_lines, listed_desk, morning_heading, morning_lines}
 use Rattle.ill_rows.specs.Heading.{heading}
-use Rattle.ill_list.specs.Listing.{note_shown, noted_row, section, since_shown, told_morning, told_row, work_heading, work_lines}
+use Rattle.ill_list.specs.Listing.{note_shown, noted_row, section, since_shown, printed_morning, printed_row, work_heading}
+use Rattle.ill_list.specs.Listing.{work_lines}
 use Rattle.ill_list.specs.Morning.{is_morning, morning_columns, morning_row}
 use Rattle.ill_list.specs.declared.morning.MorningColumns.{MorningColumns}
 use Rattle.ill_beside.specs.Since.{AnnexRead, notes_alone, since_line, since_of}
@@ -24,7 +25,7 @@ same_texts : {X : Type 0} (one other : X → List ℕ) (items : List X) → ((it
 same_texts one other [] same = refl
 same_texts one other (item ∷ items) same = ap₂ (λ first rest. first ++ rest) (same item) (same_texts one other items same)
 
--- The list has no lines of days (`off`). The notes alone are `notes_alone annex`: it has the news that are told, but
+-- The list has no lines of days (`off`). The notes alone are `notes_alone annex`: it has the news that are printed, but
 -- no diary and no messages that came.
 module _ (wanted : Wanted) (off : wanted.has_since ≡ false) where
   -- A loan has no line of its day.
@@ -33,7 +34,7 @@ module _ (wanted : Wanted) (off : wanted.has_since ≡ false) where
 
   -- The lines of a loan are those by the notes alone.
   row_stays : (columns : Columns) (annex : AnnexRead) (side : Side)
-      → told_row columns annex wanted side ≡ told_row columns (notes_alone annex) wanted side
+      → printed_row columns annex wanted side ≡ printed_row columns (notes_alone annex) wanted side
   row_stays columns annex side =
       ap (λ (day : List ℕ). (noted_row columns annex.notes wanted side ++ day) ++ listed_news annex.news side)
       (no_day annex side ∙ sym (no_day (notes_alone annex) side))
@@ -44,12 +45,12 @@ module _ (wanted : Wanted) (off : wanted.has_since ≡ false) where
   work_stays columns annex work [] = refl
   work_stays columns annex work (first ∷ others) =
       ap (λ (rows : List ℕ). work_heading work (length (first ∷ others)) ++ rows)
-      (same_texts (told_row columns annex wanted) (told_row columns (notes_alone annex) wanted) (first ∷ others)
+      (same_texts (printed_row columns annex wanted) (printed_row columns (notes_alone annex) wanted) (first ∷ others)
       (row_stays columns annex))
 
   -- The lines of a loan in a morning's list are those by the notes alone.
   morning_row_stays : (columns : MorningColumns) (annex : AnnexRead) (side : Side)
-      → told_morning columns annex wanted side ≡ told_morning columns (notes_alone annex) wanted side
+      → printed_morning columns annex wanted side ≡ printed_morning columns (notes_alone annex) wanted side
   morning_row_stays columns annex side =
       ap (λ (day : List ℕ). morning_row columns annex.news wanted side ++ (note_shown annex.notes wanted side ++ day))
       (no_day annex side ∙ sym (no_day (notes_alone annex) side))
@@ -60,7 +61,7 @@ module _ (wanted : Wanted) (off : wanted.has_since ≡ false) where
   morning_stays columns annex work [] = refl
   morning_stays columns annex work (first ∷ others) =
       ap (λ (rows : List ℕ). morning_heading work (length (first ∷ others)) ++ rows)
-      (same_texts (told_morning columns annex wanted) (told_morning columns (notes_alone annex) wanted) (first ∷ others)
+      (same_texts (printed_morning columns annex wanted) (printed_morning columns (notes_alone annex) wanted) (first ∷ others)
       (morning_row_stays columns annex))
 
   -- The lines of a kind of work are those by the notes alone, in a morning's list and in any other.

@@ -20,7 +20,7 @@ use Rattle.ill_list.specs.List.{columns_of, row, has_work, listed_of, counts_of,
 use Rattle.ill_list.specs.ListObjects.{row_object, counts_object}
 use Rattle.ill_list.specs.Seeking.{Seeking, found_of}
 use Rattle.ill_list.specs.ListedNews.{listed_news}
-use Rattle.ill_rows.specs.Heading.{file_told, heading}
+use Rattle.ill_rows.specs.Heading.{file_printed, heading}
 use Rattle.ill_list.specs.Morning.{is_morning, morning_columns, morning_row}
 use Rattle.ill_beside.specs.Notes.{listed_note, note_of}
 use Rattle.ill_beside.specs.Since.{AnnexRead, annex_of, since_line, since_of}
@@ -48,18 +48,18 @@ abbrev pub dated_row : Columns → AnnexRead → Wanted → Side → List ℕ
 dated_row columns annex wanted side = noted_row columns annex.notes wanted side ++ since_shown annex wanted side
 
 -- Returns the line of a loan, those of its note and its day below it, and then those of its news.
-abbrev pub told_row : Columns → AnnexRead → Wanted → Side → List ℕ
-told_row columns annex wanted side = dated_row columns annex wanted side ++ listed_news annex.news side
+abbrev pub printed_row : Columns → AnnexRead → Wanted → Side → List ℕ
+printed_row columns annex wanted side = dated_row columns annex wanted side ++ listed_news annex.news side
 
 -- Returns the lines of the loans with this work: a heading, and those of each. Without a loan there is no line.
 abbrev pub work_lines : Columns → AnnexRead → Wanted → Work → List Side → List ℕ
 work_lines columns annex wanted work [] = []
 work_lines columns annex wanted work (first ∷ others) =
-    work_heading work (length (first ∷ others)) ++ flat_map (told_row columns annex wanted) (first ∷ others)
+    work_heading work (length (first ∷ others)) ++ flat_map (printed_row columns annex wanted) (first ∷ others)
 
 -- Returns the line of a loan in a morning's list, and those of its note and its day below it.
-abbrev pub told_morning : MorningColumns → AnnexRead → Wanted → Side → List ℕ
-told_morning columns annex wanted side =
+abbrev pub printed_morning : MorningColumns → AnnexRead → Wanted → Side → List ℕ
+printed_morning columns annex wanted side =
     morning_row columns annex.news wanted side ++ (note_shown annex.notes wanted side ++ since_shown annex wanted side)
 
 -- Returns the heading of a kind of work with `count` loans in a morning's list: none if that work wants no hand.
@@ -71,7 +71,7 @@ morning_heading work count = if wants_a_hand work then work_heading work count e
 abbrev pub morning_lines : MorningColumns → AnnexRead → Wanted → Work → List Side → List ℕ
 morning_lines columns annex wanted work [] = []
 morning_lines columns annex wanted work (first ∷ others) =
-    morning_heading work (length (first ∷ others)) ++ flat_map (told_morning columns annex wanted) (first ∷ others)
+    morning_heading work (length (first ∷ others)) ++ flat_map (printed_morning columns annex wanted) (first ∷ others)
 
 -- Returns the objects of the loans with this work.
 abbrev pub work_objects : Option (List ℕ) → AnnexRead → Wanted → Work → List Side → List ℕ
@@ -109,8 +109,8 @@ counts_text (rows.Lines lines) = counts_line
 counts_text (rows.Morning lines) = counts_line
 counts_text (rows.Objects objects) = counts_object (option_map (λ path. path.now) objects.file)
 
--- Returns the function that writes the lines of the `chosen` loans with one kind of work. Its columns are wide enough for all
--- chosen loans.
+-- Returns the function that writes the lines of the `chosen` loans with one kind of work. Its columns are wide enough
+-- for all chosen loans.
 abbrev pub lines_text : Wanted → AnnexRead → (chosen : List Side) → (Wanted → Work → List Side → List ℕ)
 lines_text wanted annex chosen =
     if is_morning wanted then morning_lines (morning_columns wanted annex.news chosen) annex
@@ -135,4 +135,4 @@ list_objects file wanted seeking sides =
 -- Returns the text of a listed desk in this form. If `is_headed` is true, it has the path of the desk.
 abbrev pub listed_desk : Form → Bool → Wanted → Seeking → List ℕ → List Side → List ℕ
 listed_desk Lines is_headed wanted seeking path sides = heading is_headed path ++ list_lines wanted seeking sides
-listed_desk Json is_headed wanted seeking path sides = list_objects (file_told is_headed path) wanted seeking sides
+listed_desk Json is_headed wanted seeking path sides = list_objects (file_printed is_headed path) wanted seeking sides

@@ -9,7 +9,7 @@ use Rattle.ill_list.specs.declared.wanted.Wanted.{Wanted}
 use Rattle.ill_rows.specs.Cells.{cell, title_text}
 use Rattle.ill_list.specs.List.{columns_of, due_cell, is_mine, is_to_do, name_cells}
 use Rattle.ill_beside.specs.Kept.{kept_of}
-use Rattle.ill_beside.specs.NewsWords.{told_words}
+use Rattle.ill_beside.specs.NewsWords.{printed_words}
 
 -- Returns true if a list is one of a morning: of what wants a hand, and of what came since a day.
 abbrev pub is_morning : Wanted → Bool
@@ -24,7 +24,7 @@ break_after text = codes "; "
 
 -- Returns `text`, and after it the words of the message `a` in the loan of a side.
 abbrev pub with_words : Side → (text : List ℕ) → Apdu → List ℕ
-with_words side text a = text ++ (break_after text ++ told_words side a.body)
+with_words side text a = text ++ (break_after text ++ printed_words side a.body)
 
 -- Returns the words of messages in the loan of a side, one after another.
 abbrev pub words_of : Side → List Apdu → List ℕ
@@ -53,7 +53,8 @@ morning_columns wanted news listed = record {
   news = widest (λ side. text_or_dash (news_text news side)) listed;
 }
 
--- Returns the beginning of the line of a loan: its due date if it wants a hand, and else the word that it has news alone.
+-- Returns the beginning of the line of a loan: its due date if it wants a hand, and else the word that it has news
+-- alone.
 abbrev pub due_or_news : Wanted → Side → List ℕ
 due_or_news wanted side = if is_to_do wanted side then codes "  " ++ due_cell side else cell 10 (codes "news:")
 

@@ -30,7 +30,8 @@ pub fn no_other_list_minds_news()
         is_listed wanted news side ≡ is_listed wanted None side }
 {}
 
-/// Lines of a list without days do not depend on the diary, nor on the messages that came, but for the news that are told.
+/// Lines of a list without days do not depend on the diary, nor on the messages that came, but for the news that are
+/// printed.
 #[tactic(auto, using(crate::proofs::ListLaws::no_list_depends))]
 pub fn no_list_without_days_depends_on_a_diary()
     ensures { (is_headed : Bool) (wanted : Wanted) (find : Option (List ℕ)) (annex : AnnexRead) (path : List ℕ)

@@ -8,8 +8,8 @@ ghost use Rattle.ill_list.specs.List.{columns_of, counts_line, counts_of, has_wo
 ghost use Rattle.ill_list.specs.Seeking.{seeking_of};
 ghost use Rattle.ill_list.specs.Morning.{is_morning, morning_columns};
 ghost use Rattle.ill_beside.specs.Since.{annex_of};
-ghost use Rattle.ill_rows.specs.Heading.{between, file_told, gap, heading};
-ghost use Rattle.ill_list.specs.Listing.{chosen_of, counts_text, dated_row, list_lines, list_objects, listed_desk, morning_heading, morning_lines, note_shown, noted_row, ordered_lines, section, sections, since_shown, told_morning, told_row, work_heading, work_lines, work_objects, work_text};
+ghost use Rattle.ill_rows.specs.Heading.{between, file_printed, gap, heading};
+ghost use Rattle.ill_list.specs.Listing.{chosen_of, counts_text, dated_row, list_lines, list_objects, listed_desk, morning_heading, morning_lines, note_shown, noted_row, ordered_lines, section, sections, since_shown, printed_morning, printed_row, work_heading, work_lines, work_objects, work_text};
 
 use crate::counts::Counts;
 use crate::list_objects::{RowObjects, push_counts_object, push_row_object};
@@ -112,10 +112,10 @@ fn write_objects<W: Write>(
     writer: &mut W,
 ) -> Result<(), ToolFault>
     ensures { WritesText (W.contents writer.old) (W.contents writer.new)
-        (list_objects (file_told listed.now.is_headed listed.now.path.now) sought.now.wanted.now (seeking_of sought.now) sides.now.sides) result }
+        (list_objects (file_printed listed.now.is_headed listed.now.path.now) sought.now.wanted.now (seeking_of sought.now) sides.now.sides) result }
 {
     let mut text = Vec::new(alloc);
-    push_list_objects(&mut text, listed.told(), sides, sought)?;
+    push_list_objects(&mut text, listed.printed(), sides, sought)?;
     write_whole(writer, &text)
 }
 
@@ -335,9 +335,9 @@ fn push_work_lines(
 fn push_work_heading(lines: &mut Vec<u8>, work: Work, count: usize) -> Result<(), OutOfMemory>
     ensures { OnOk result (lines.new.items ≡ lines.old.items ++ work_heading work count) }
 {
-    let told = format!(in *lines.allocator(); " ({count}):\n")?;
+    let printed = format!(in *lines.allocator(); " ({count}):\n")?;
     lines.extend_from_slice(work.words().as_bytes())?;
-    lines.extend_from_slice(told.as_bytes())?;
+    lines.extend_from_slice(printed.as_bytes())?;
     Ok(())
 }
 
@@ -349,23 +349,23 @@ fn push_rows(
     sides: &[&Side],
 ) -> Result<(), OutOfMemory>
     ensures { OnOk result (lines.new.items ≡ lines.old.items
-        ++ flat_map (told_row rows.now.columns (annex_of rows.now.annex.now) wanted.now) (map (λ side. side.now) sides.now)) }
+        ++ flat_map (printed_row rows.now.columns (annex_of rows.now.annex.now) wanted.now) (map (λ side. side.now) sides.now)) }
 {
     for side in sides {
-        push_told_row(lines, rows, wanted, side)?;
+        push_printed_row(lines, rows, wanted, side)?;
     }
     Ok(())
 }
 
 /// Appends the line of the loan of `side`, and those of its note, its day and its news if the list has them.
-fn push_told_row(
+fn push_printed_row(
     lines: &mut Vec<u8>,
     rows: &RowLines<'_>,
     wanted: &Wanted,
     side: &Side,
 ) -> Result<(), OutOfMemory>
     ensures { OnOk result (lines.new.items ≡ lines.old.items
-        ++ told_row rows.now.columns (annex_of rows.now.annex.now) wanted.now side.now) }
+        ++ printed_row rows.now.columns (annex_of rows.now.annex.now) wanted.now side.now) }
 {
     push_dated_row(lines, rows, wanted, side)?;
     push_listed_news(lines, rows.annex, side)
@@ -385,8 +385,8 @@ fn push_dated_row(
     push_since_shown(lines, rows.annex, wanted, side)
 }
 
-/// Appends the line of the day since which the loan of `side` stands as it does, if the list has such lines and the day is
-/// known.
+/// Appends the line of the day since which the loan of `side` stands as it does, if the list has such lines and the day
+/// is known.
 fn push_since_shown(
     lines: &mut Vec<u8>,
     annex: &Annex,
@@ -461,7 +461,8 @@ fn push_morning_heading(lines: &mut Vec<u8>, work: Work, count: usize) -> Result
     Ok(())
 }
 
-/// Appends a line for each loan of `sides` in the list of a morning, and those of its note and its day if the list has them.
+/// Appends a line for each loan of `sides` in the list of a morning, and those of its note and its day if the list has
+/// them.
 fn push_morning_rows(
     lines: &mut Vec<u8>,
     rows: &MorningLines<'_>,
@@ -469,23 +470,24 @@ fn push_morning_rows(
     sides: &[&Side],
 ) -> Result<(), OutOfMemory>
     ensures { OnOk result (lines.new.items ≡ lines.old.items
-        ++ flat_map (told_morning rows.now.columns (annex_of rows.now.annex.now) wanted.now) (map (λ side. side.now) sides.now)) }
+        ++ flat_map (printed_morning rows.now.columns (annex_of rows.now.annex.now) wanted.now) (map (λ side. side.now) sides.now)) }
 {
     for side in sides {
-        push_told_morning(lines, rows, wanted, side)?;
+        push_printed_morning(lines, rows, wanted, side)?;
     }
     Ok(())
 }
 
-/// Appends the line of the loan of `side` in the list of a morning, and those of its note and its day if the list has them.
-fn push_told_morning(
+/// Appends the line of the loan of `side` in the list of a morning, and those of its note and its day if the list has
+/// them.
+fn push_printed_morning(
     lines: &mut Vec<u8>,
     rows: &MorningLines<'_>,
     wanted: &Wanted,
     side: &Side,
 ) -> Result<(), OutOfMemory>
     ensures { OnOk result (lines.new.items ≡ lines.old.items
-        ++ told_morning rows.now.columns (annex_of rows.now.annex.now) wanted.now side.now) }
+        ++ printed_morning rows.now.columns (annex_of rows.now.annex.now) wanted.now side.now) }
 {
     push_morning_row(lines, rows, wanted, side)?;
     push_note_shown(lines, &rows.annex.notes, wanted, side)?;

@@ -9,12 +9,12 @@ ghost use Rattle.ill_beside.specs.Since.{annex_of};
 ghost use Rattle.ill_list.specs.ListedNews.{has_news, heard_array, heard_fields, heard_object, listed_news, listed_news_fields, news_line, news_value};
 
 use ill_beside::annex::Annex;
-use ill_beside::news_words::told_words;
+use ill_beside::news_words::printed_words;
 use ill_saved::Side;
 use ill_text::json::{ItemForm, Value, push_array, push_label, push_members, push_plain};
 use ill_values::{Apdu, OutOfMemory};
 
-/// Returns true if one of the news of `annex` is of the loan of `side`, and news are told.
+/// Returns true if one of the news of `annex` is of the loan of `side`, and news are printed.
 pub(crate) fn has_news(annex: &Annex, side: &Side) -> bool
     ensures { result ≡ has_news (annex_of annex.now).news side.now }
 {
@@ -38,7 +38,7 @@ fn is_of(apdu: &Apdu, side: &Side) -> bool
     apdu.txn == *side.txn()
 }
 
-/// Appends the lines of the news of `annex` that came to the loan of `side`, if news are told.
+/// Appends the lines of the news of `annex` that came to the loan of `side`, if news are printed.
 pub(crate) fn push_listed_news(
     lines: &mut Vec<u8>,
     annex: &Annex,
@@ -70,14 +70,14 @@ fn push_news_lines(lines: &mut Vec<u8>, side: &Side, kept: &[Apdu]) -> Result<()
 fn push_news_line(lines: &mut Vec<u8>, side: &Side, apdu: &Apdu) -> Result<(), OutOfMemory>
     ensures { OnOk result (lines.new.items ≡ lines.old.items ++ news_line side.now apdu.now) }
 {
-    let words = told_words(*lines.allocator(), side, &apdu.body)?;
+    let words = printed_words(*lines.allocator(), side, &apdu.body)?;
     lines.extend_from_slice(b"    news ")?;
     lines.extend_from_slice(&words)?;
     lines.push(b'\n')?;
     Ok(())
 }
 
-/// Appends the field of the news of `annex` that came to the loan of `side`. It is `null` if no news are told.
+/// Appends the field of the news of `annex` that came to the loan of `side`. It is `null` if no news are printed.
 #[tactic(auto, unfolding(ill_text::specs::Json::joined))]
 pub(crate) fn push_news_field(
     text: &mut Vec<u8>,
@@ -92,7 +92,7 @@ pub(crate) fn push_news_field(
     push_news_value(text, annex, side)
 }
 
-/// Appends an array of the news of `annex` that came to the loan of `side`, or `null` if no news are told.
+/// Appends an array of the news of `annex` that came to the loan of `side`, or `null` if no news are printed.
 fn push_news_value(text: &mut Vec<u8>, annex: &Annex, side: &Side) -> Result<(), OutOfMemory>
     ensures { OnOk result (text.new.items ≡ text.old.items
         ++ news_value (annex_of annex.now).news side.now) }
@@ -142,7 +142,7 @@ fn push_object(text: &mut Vec<u8>, side: &Side, apdu: &Apdu) -> Result<(), OutOf
 fn push_fields(text: &mut Vec<u8>, side: &Side, apdu: &Apdu) -> Result<(), OutOfMemory>
     ensures { OnOk result (text.new.items ≡ text.old.items ++ joined member [] (heard_fields side.now apdu.now)) }
 {
-    let words = told_words(*text.allocator(), side, &apdu.body)?;
+    let words = printed_words(*text.allocator(), side, &apdu.body)?;
     push_members(
         text,
         b"",

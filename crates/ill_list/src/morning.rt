@@ -8,7 +8,7 @@ ghost use Rattle.ill_list.specs.Morning.{break_after, due_or_news, is_morning, m
 use crate::row::{Columns, push_due, push_name_cells};
 use crate::wanted::{Wanted, is_to_do};
 use ill_beside::annex::Annex;
-use ill_beside::news_words::told_words;
+use ill_beside::news_words::printed_words;
 use ill_rows::cells::{push_cell, push_title};
 use ill_saved::Side;
 use ill_values::{Apdu, OutOfMemory};
@@ -75,7 +75,7 @@ fn news_text(alloc: Global, annex: &Annex, side: &Side) -> Result<Vec<u8>, OutOf
     Ok(text)
 }
 
-/// Returns the words of the news of the loan of `side`. The text is empty if the loan has none or no news are told.
+/// Returns the words of the news of the loan of `side`. The text is empty if the loan has none or no news are printed.
 fn known_news(alloc: Global, annex: &Annex, side: &Side) -> Result<Vec<u8>, OutOfMemory>
     ensures { IfOk result (λ text. text.items ≡ news_text (annex_of annex.now).news side.now) }
 {
@@ -101,7 +101,7 @@ fn push_words(text: &mut Vec<u8>, side: &Side, apdu: &Apdu) -> Result<(), OutOfM
     ensures { OnOk result (text.new.items ≡ with_words side.now text.old.items apdu.now) }
 {
     push_break(text)?;
-    let words = told_words(*text.allocator(), side, &apdu.body)?;
+    let words = printed_words(*text.allocator(), side, &apdu.body)?;
     text.extend_from_slice(&words)?;
     Ok(())
 }
@@ -136,8 +136,8 @@ pub(crate) fn push_morning_row(
     Ok(())
 }
 
-/// Appends the beginning of the line of the loan of `side`: its due date if it wants a hand, and else the word that it has
-/// news alone.
+/// Appends the beginning of the line of the loan of `side`: its due date if it wants a hand, and else the word that it
+/// has news alone.
 fn push_due_or_news(lines: &mut Vec<u8>, wanted: &Wanted, side: &Side) -> Result<(), OutOfMemory>
     ensures { OnOk result (lines.new.items ≡ lines.old.items ++ due_or_news wanted.now side.now) }
 {

@@ -43,7 +43,7 @@ pub struct Wanted {
     pub has_notes: bool,
     /// Set if a line below that of each loan has the day since which the loan stands as it does.
     pub has_since: bool,
-    /// The day, if it is given, since which news are told: what came to the loans on this day or later.
+    /// The day, if it is given, since which news are printed: what came to the loans on this day or later.
     pub since: Option<Day>,
 }
 

@@ -135,29 +135,29 @@ after_more {X} f xs later none =
 
 -- Let `past` messages stand before the longest end of `came` in which none came before `day`. Then that end has the
 -- messages after the last one that came before `day`.
-pub told_from : (day : Date) (lines : List (List ℕ)) (came : List Apdu) (past : ℕ)
+pub printed_from : (day : Date) (lines : List (List ℕ)) (came : List Apdu) (past : ℕ)
     → past + suffix_len (λ a. not (came_before day lines a)) came ≡ length came
     → take (length came - past) (drop past came) ≡ after_last (came_before day lines) came
-told_from day lines came past is =
+printed_from day lines came past is =
     let cut : past ≡ length came - suffix_len (λ a. not (came_before day lines a)) came = omega (arith, is) in
     take_all (length came - past) (drop past came) (omega (arith, length-drop past came)) ∙ ap (λ n. drop n came) cut
 
--- If no message of `came` came before the day, all of them but repeats are told.
-pub all_told : (day : Date) (lines : List (List ℕ)) (came : List Apdu) → list_any (came_before day lines) came ≡ false
+-- If no message of `came` came before the day, all of them but repeats are printed.
+pub all_printed : (day : Date) (lines : List (List ℕ)) (came : List Apdu) → list_any (came_before day lines) came ≡ false
     → came_since (Some day) lines came ≡ filter (is_new day lines) came
-all_told day lines came none = ap (filter (is_new day lines)) (all_after (came_before day lines) came none)
+all_printed day lines came none = ap (filter (is_new day lines)) (all_after (came_before day lines) came none)
 
--- If `a` came before `day` and none of `later` did, `later` without repeats is told, and no other message.
-pub later_told : (day : Date) (lines : List (List ℕ)) (came later : List Apdu) (a : Apdu) → came_before day lines a ≡ true
+-- If `a` came before `day` and none of `later` did, `later` without repeats is printed, and no other message.
+pub later_printed : (day : Date) (lines : List (List ℕ)) (came later : List Apdu) (a : Apdu) → came_before day lines a ≡ true
     → list_any (came_before day lines) later ≡ false
     → came_since (Some day) lines (came ++ a ∷ later) ≡ filter (is_new day lines) later
-later_told day lines came later a before none =
+later_printed day lines came later a before none =
     ap (filter (is_new day lines)) (after_it (came_before day lines) came a later before none)
 
 -- A message that a line of the day or later names did not come before the day.
-pub named_told : (day : Date) (lines : List (List ℕ)) (a : Apdu) → is_named_since day (came_key a) lines ≡ true
+pub named_printed : (day : Date) (lines : List (List ℕ)) (a : Apdu) → is_named_since day (came_key a) lines ≡ true
     → came_before day lines a ≡ false
-named_told day lines a named = go (is_named_before day (came_key a) lines)
+named_printed day lines a named = go (is_named_before day (came_key a) lines)
   where
     -- `is` is true if a line of an earlier day names the message.
     go : (is : Bool) → (is && not (is_named_since day (came_key a) lines)) ≡ false
@@ -184,9 +184,9 @@ unnamed_before : (day : Date) (key : List ℕ) (lines : List (List ℕ)) → is_
 unnamed_before day key lines none = ap (list_any (is_earlier day)) (no_days key lines none)
 
 -- A message that no line names did not come before the day.
-pub unnamed_told : (day : Date) (lines : List (List ℕ)) (a : Apdu) → is_named (came_key a) lines ≡ false
+pub unnamed_printed : (day : Date) (lines : List (List ℕ)) (a : Apdu) → is_named (came_key a) lines ≡ false
     → came_before day lines a ≡ false
-unnamed_told day lines a none = rw (unnamed_before day (came_key a) lines none) refl
+unnamed_printed day lines a none = rw (unnamed_before day (came_key a) lines none) refl
 
 -- If no item passes both `f` and `p`, none of the items that pass `p` passes `f`.
 pub none_kept : {X : Type 0} (f p : X → Bool) (xs : List X) → ((x : X) → f x ≡ true → p x ≡ false)
@@ -215,15 +215,15 @@ none_before_day : (day : Date) (lines : List (List ℕ)) (later : List Apdu)
 unfolding Each
 none_before_day day lines [] each = refl
 none_before_day day lines (b ∷ later) each =
-    rw (named_told day lines b each.0, none_before_day day lines later each.1) refl
+    rw (named_printed day lines b each.0, none_before_day day lines later each.1) refl
 
--- If no line names `a`, and lines of `day` or later name each of `repeats` after it, `a` is told.
+-- If no line names `a`, and lines of `day` or later name each of `repeats` after it, `a` is printed.
 pub not_hidden : (day : Date) (lines : List (List ℕ)) (came repeats : List Apdu) (a : Apdu) → is_named (came_key a) lines ≡ false
     → Each (λ b. is_named_since day (came_key b) lines ≡ true) repeats
     → (before after : List Apdu) × (came_since (Some day) lines (came ++ a ∷ repeats) ≡ before ++ a ∷ after)
 not_hidden day lines came repeats a unnamed each =
     let none : list_any (came_before day lines) (a ∷ repeats) ≡ false =
-    rw (unnamed_told day lines a unnamed, none_before_day day lines repeats each) refl in
+    rw (unnamed_printed day lines a unnamed, none_before_day day lines repeats each) refl in
     let kept : is_new day lines a ≡ true = ap not (unnamed_before day (came_key a) lines unnamed) in
     let before = after_last (came_before day lines) came in (
       filter (is_new day lines) before,

@@ -1,4 +1,4 @@
--- Proves which messages of a desk are told since dates have made them due.
+-- Proves which messages of a desk are printed since dates have made them due.
 use Rattle.std.proofs.Common.{◌≡◌, ℕ, Bool, true, false, cond, List, [], ◌∷◌, ◌++◌, Some, ap, refl, sym}
 use Rattle.std.proofs.Common.{true≢false}
 use Rattle.std.proofs.Common.{append_assoc, ◌∙◌}
@@ -23,12 +23,12 @@ pub kept_within : {X : Type 0} (keeps : X → Bool) (first last : List X) (x : X
 kept_within keeps first last x is =
     filter-append keeps first (x ∷ last) ∙ ap (λ rest. filter keeps first ++ rest) (rw is refl)
 
--- If `y` issued `a`, and a date has made `a` due since `day`, `a` is among the deeds told. `here` has the deeds of
+-- If `y` issued `a`, and a date has made `a` due since `day`, `a` is among the deeds printed. `here` has the deeds of
 -- the sides before `y`, and `rest` those of the sides after it.
-pub deed_told : (day : Date) (lines : List (List ℕ)) (before after : List Side) (y : ResponderRecord) (first last : List Apdu)
+pub deed_printed : (day : Date) (lines : List (List ℕ)) (before after : List Side) (y : ResponderRecord) (first last : List Apdu)
     (a : Apdu) → y.issued ≡ first ++ a ∷ last → is_deed_since day lines a ≡ true
     → (more less : List Apdu) × (deeds_since (Some day) lines (before ++ Responder y ∷ after) ≡ more ++ a ∷ less)
-deed_told day lines before after y first last a issued is =
+deed_printed day lines before after y first last a issued is =
     let keeps = is_deed_since day lines in
     let here = flat_map (deeds_at day lines) before in
     let rest = flat_map (deeds_at day lines) after in

@@ -13,21 +13,21 @@ use Rattle.ill_record.specs.declared.side.Side.{Side}
 use Rattle.ill_record.proofs.Finding.{same_is}
 use Rattle.ill_beside.specs.Notes.{note_of}
 use Rattle.ill_news.specs.Deeds.{deeds_since}
-use Rattle.ill_news.specs.News.{heard_at, is_same, is_told, news_of}
+use Rattle.ill_news.specs.News.{heard_at, is_same, is_printed, news_of}
 use Rattle.ill_news.specs.OpenAnswers.{is_asking, is_left, is_open, left_open, says_done}
-use Rattle.ill_news.specs.Told.{recent_of, told_since, with_open}
+use Rattle.ill_news.specs.PrintedNews.{recent_of, printed_since, with_open}
 use Rattle.ill_news.proofs.CameSinceLemmas.{none_kept}
 use Rattle.ill_news.proofs.DeedLemmas.{kept_within}
-use Rattle.ill_news.proofs.NewsLemmas.{taken_is_told, told_was_taken}
+use Rattle.ill_news.proofs.NewsLemmas.{taken_is_printed, printed_was_taken}
 
 -- If `other` is false, `one` and `other` do not both hold.
 and_false_right : (one other : Bool) → other ≡ false → (one && other) ≡ false
 and_false_right true other off = off
 and_false_right false other off = refl
 
--- `a` is told in `news ++ more` if, and only if, it is told in `news` or in `more`.
-told_in_both : (news more : List Apdu) (a : Apdu) → is_told (news ++ more) a ≡ (is_told news a || is_told more a)
-told_in_both news more a = list_any-append (λ (b : Apdu). is_same b a) news more
+-- `a` is printed in `news ++ more` if, and only if, it is printed in `news` or in `more`.
+printed_in_both : (news more : List Apdu) (a : Apdu) → is_printed (news ++ more) a ≡ (is_printed news a || is_printed more a)
+printed_in_both news more a = list_any-append (λ (b : Apdu). is_same b a) news more
 
 -- If `other` is true, `one` or `other` holds.
 or_true_right : (one other : Bool) → other ≡ true → (one || other) ≡ true
@@ -41,43 +41,44 @@ and_false_left false other off = refl
 
 -- ---- what is open stays news
 
--- If an open answer was taken and is not told as recent, it is told among the open answers.
-left_told : (notes : List (List ℕ)) (sides : List Side) (recent before after : List Apdu) (a : Apdu)
+-- If an open answer was taken and is not printed as recent, it is printed among the open answers.
+left_printed : (notes : List (List ℕ)) (sides : List Side) (recent before after : List Apdu) (a : Apdu)
     → heard_at sides a ≡ true → is_left notes recent a ≡ true
-    → is_told (news_of sides (left_open notes recent (before ++ a ∷ after))) a ≡ true
-left_told notes sides recent before after a heard left =
+    → is_printed (news_of sides (left_open notes recent (before ++ a ∷ after))) a ≡ true
+left_printed notes sides recent before after a heard left =
     let keeps = is_left notes recent in
-    ap (λ (came : List Apdu). is_told (news_of sides came) a) (kept_within keeps before after a left)
-    ∙ taken_is_told sides (filter keeps before) (filter keeps after) a heard
+    ap (λ (came : List Apdu). is_printed (news_of sides came) a) (kept_within keeps before after a left)
+    ∙ taken_is_printed sides (filter keeps before) (filter keeps after) a heard
 
--- If an answer was taken and is open (`is_kept`), it is told among the open answers or as recent.
-told_with_open : (notes : List (List ℕ)) (sides : List Side) (recent before after : List Apdu) (a : Apdu)
+-- If an answer was taken and is open (`is_kept`), it is printed among the open answers or as recent.
+printed_with_open : (notes : List (List ℕ)) (sides : List Side) (recent before after : List Apdu) (a : Apdu)
     → heard_at sides a ≡ true → is_open notes a ≡ true
-    → is_told (with_open notes sides recent (before ++ a ∷ after)) a ≡ true
-told_with_open notes sides recent before after a heard is_kept =
+    → is_printed (with_open notes sides recent (before ++ a ∷ after)) a ≡ true
+printed_with_open notes sides recent before after a heard is_kept =
     let left = news_of sides (left_open notes recent (before ++ a ∷ after)) in
-    told_in_both left recent a ∙ go (is_told recent a) refl
+    printed_in_both left recent a ∙ go (is_printed recent a) refl
   where
-    -- `is` is true if `a` is told as recent.
-    go : (is : Bool) → is_told recent a ≡ is
-        → (is_told (news_of sides (left_open notes recent (before ++ a ∷ after))) a || is_told recent a) ≡ true
-    go true is = or_true_right (is_told (news_of sides (left_open notes recent (before ++ a ∷ after))) a) (is_told recent a) is
+    -- `is` is true if `a` is printed as recent.
+    go : (is : Bool) → is_printed recent a ≡ is
+        → (is_printed (news_of sides (left_open notes recent (before ++ a ∷ after))) a || is_printed recent a) ≡ true
+    go true is = or_true_right (is_printed (news_of sides (left_open notes recent (before ++ a ∷ after))) a) (is_printed recent a)
+        is
     go false is =
-        ap (λ first. first || is_told recent a)
-        (left_told notes sides recent before after a heard (ap (λ b. b && not (is_told recent a)) is_kept ∙ ap not is))
+        ap (λ first. first || is_printed recent a)
+        (left_printed notes sides recent before after a heard (ap (λ b. b && not (is_printed recent a)) is_kept ∙ ap not is))
 
--- If an answer was taken and is open (`is_kept`), it is told.
-pub open_told : (since : Option Date) (notes lines : List (List ℕ)) (sides : List Side) (before after : List Apdu) (a : Apdu)
+-- If an answer was taken and is open (`is_kept`), it is printed.
+pub open_printed : (since : Option Date) (notes lines : List (List ℕ)) (sides : List Side) (before after : List Apdu) (a : Apdu)
     → heard_at sides a ≡ true → is_open notes a ≡ true
-    → is_told (told_since since notes lines sides (before ++ a ∷ after)) a ≡ true
-open_told since notes lines sides before after a heard is_kept =
+    → is_printed (printed_since since notes lines sides (before ++ a ∷ after)) a ≡ true
+open_printed since notes lines sides before after a heard is_kept =
     let came = before ++ a ∷ after in
     let recent = recent_of since lines sides came in
     let deeds = deeds_since since lines sides in
-    told_in_both (with_open notes sides recent came) deeds a
-    ∙ ap (λ first. first || is_told deeds a) (told_with_open notes sides recent before after a heard is_kept)
+    printed_in_both (with_open notes sides recent came) deeds a
+    ∙ ap (λ first. first || is_printed deeds a) (printed_with_open notes sides recent before after a heard is_kept)
 
--- ---- messages that are not open are told as recent or as deeds alone
+-- ---- messages that are not open are printed as recent or as deeds alone
 
 -- No message of a loan whose note says `done` is open.
 done_shut : (notes : List (List ℕ)) (a : Apdu) → says_done (note_of notes a.txn) ≡ true → is_open notes a ≡ false
@@ -90,13 +91,13 @@ done_not_left notes sides recent a b done named =
     let same = and_parts (is_same b a) (heard_at sides b) named in
     let txn : b.txn ≡ a.txn =
     same_is b.txn a.txn (and_parts (is_same_txn b.txn a.txn) (nat_eq b.number a.number) same.0).0 in
-    and_false_left (is_open notes b) (not (is_told recent b))
+    and_false_left (is_open notes b) (not (is_printed recent b))
     (done_shut notes b (ap (λ (t : Qualifiers). says_done (note_of notes t)) txn ∙ done))
 
--- If the note of the loan of `a` says `done`, `a` is not told as an open answer.
+-- If the note of the loan of `a` says `done`, `a` is not printed as an open answer.
 not_left : (notes : List (List ℕ)) (sides : List Side) (recent came : List Apdu) (a : Apdu)
-    → says_done (note_of notes a.txn) ≡ true → is_told (news_of sides (left_open notes recent came)) a ≡ false
-not_left notes sides recent came a done = go (is_told (news_of sides left) a) refl
+    → says_done (note_of notes a.txn) ≡ true → is_printed (news_of sides (left_open notes recent came)) a ≡ false
+not_left notes sides recent came a done = go (is_printed (news_of sides left) a) refl
   where
     -- The open answers in `came` that `recent` lacks.
     left : List Apdu
@@ -107,24 +108,24 @@ not_left notes sides recent came a done = go (is_told (news_of sides left) a) re
     none = none_kept (λ b. is_same b a && heard_at sides b) (is_left notes recent) came
         (λ b named. done_not_left notes sides recent a b done named)
 
-    -- `is` is true if `a` is told among the messages of `left`. By `told_was_taken` one of them would be the same as
-    -- `a` and taken then.
-    go : (is : Bool) → is_told (news_of sides left) a ≡ is → is_told (news_of sides left) a ≡ false
+    -- `is` is true if `a` is printed among the messages of `left`. By `printed_was_taken` one of them would be the same
+    -- as `a` and taken then.
+    go : (is : Bool) → is_printed (news_of sides left) a ≡ is → is_printed (news_of sides left) a ≡ false
     go false is = is
-    go true is = absurd (true≢false (sym (told_was_taken sides left a is) ∙ none))
+    go true is = absurd (true≢false (sym (printed_was_taken sides left a is) ∙ none))
 
--- If the note of the loan of `a` says `done`, `a` is told as recent, as a deed, or not at all.
-pub done_told : (since : Option Date) (notes lines : List (List ℕ)) (sides : List Side) (came : List Apdu) (a : Apdu)
+-- If the note of the loan of `a` says `done`, `a` is printed as recent, as a deed, or not at all.
+pub done_printed : (since : Option Date) (notes lines : List (List ℕ)) (sides : List Side) (came : List Apdu) (a : Apdu)
     → says_done (note_of notes a.txn) ≡ true
-    → is_told (told_since since notes lines sides came) a
-    ≡ is_told (recent_of since lines sides came ++ deeds_since since lines sides) a
-done_told since notes lines sides came a done =
+    → is_printed (printed_since since notes lines sides came) a
+    ≡ is_printed (recent_of since lines sides came ++ deeds_since since lines sides) a
+done_printed since notes lines sides came a done =
     let recent = recent_of since lines sides came in
     let deeds = deeds_since since lines sides in
     let left = news_of sides (left_open notes recent came) in
-    ap (λ (news : List Apdu). is_told news a) (append_assoc left recent deeds)
-    ∙ told_in_both left (recent ++ deeds) a
-    ∙ ap (λ first. first || is_told (recent ++ deeds) a) (not_left notes sides recent came a done)
+    ap (λ (news : List Apdu). is_printed news a) (append_assoc left recent deeds)
+    ∙ printed_in_both left (recent ++ deeds) a
+    ∙ ap (λ first. first || is_printed (recent ++ deeds) a) (not_left notes sides recent came a done)
 
 -- If no message is open, none is left open.
 none_left : (notes : List (List ℕ)) (news came : List Apdu) → list_any (is_open notes) came ≡ false
@@ -132,13 +133,13 @@ none_left : (notes : List (List ℕ)) (news came : List Apdu) → list_any (is_o
 none_left notes news [] none = refl
 none_left notes news (a ∷ came) none =
     let both = or_parts (is_open notes a) (list_any (is_open notes) came) none in
-    rw (and_false_left (is_open notes a) (not (is_told news a)) both.0) (none_left notes news came both.1)
+    rw (and_false_left (is_open notes a) (not (is_printed news a)) both.0) (none_left notes news came both.1)
 
--- If no message is open, what is told is recent, or a date made it due.
-pub none_told : (since : Option Date) (notes lines : List (List ℕ)) (sides : List Side) (came : List Apdu)
+-- If no message is open, what is printed is recent, or a date made it due.
+pub none_printed : (since : Option Date) (notes lines : List (List ℕ)) (sides : List Side) (came : List Apdu)
     → list_any (is_open notes) came ≡ false
-    → told_since since notes lines sides came ≡ recent_of since lines sides came ++ deeds_since since lines sides
-none_told since notes lines sides came none =
+    → printed_since since notes lines sides came ≡ recent_of since lines sides came ++ deeds_since since lines sides
+none_printed since notes lines sides came none =
     let recent = recent_of since lines sides came in
     ap (λ (left : List Apdu). (news_of sides left ++ recent) ++ deeds_since since lines sides)
     (none_left notes recent came none)

@@ -32,7 +32,7 @@ is_named_before day key lines = list_any (is_earlier day) (days_named key lines)
 abbrev pub came_before : Date → (lines : List (List ℕ)) → Apdu → Bool
 came_before day lines a = is_named_before day (came_key a) lines && not (is_named_since day (came_key a) lines)
 
--- Returns true if no line of an earlier day than `day` names a message. Such a message repeats none that was told
+-- Returns true if no line of an earlier day than `day` names a message. Such a message repeats none that was printed
 -- before `day`.
 abbrev pub is_new : Date → (lines : List (List ℕ)) → Apdu → Bool
 is_new day lines a = not (is_named_before day (came_key a) lines)

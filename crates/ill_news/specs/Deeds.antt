@@ -26,7 +26,8 @@ deed_key a = message_key a.txn (verb_name (body_verb a.body)) a.number
 abbrev pub is_done_since : Date → (lines : List (List ℕ)) → Apdu → Bool
 is_done_since day lines a = is_named_since day (deed_key a) lines && not (is_named_before day (deed_key a) lines)
 
--- Returns true if a date made the issued message due, and the lines of a diary tell that it was issued on `day` or later.
+-- Returns true if a date made the issued message due, and the lines of a diary tell that it was issued on `day` or
+-- later.
 abbrev pub is_deed_since : Date → (lines : List (List ℕ)) → Apdu → Bool
 is_deed_since day lines a = is_by_date a.body && is_done_since day lines a
 

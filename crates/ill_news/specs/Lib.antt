@@ -2,4 +2,4 @@ pub mod CameSince
 pub mod Deeds
 pub mod News
 pub mod OpenAnswers
-pub mod Told
+pub mod PrintedNews

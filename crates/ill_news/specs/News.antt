@@ -15,9 +15,9 @@ use Rattle.ill_text.specs.Json.{Field, optional, quoted}
 use Rattle.ill_news.specs.declared.news.NewsColumns.{NewsColumns}
 use Rattle.ill_beside.specs.Heard.{is_heard}
 use Rattle.ill_rows.specs.Cells.{cell, column, title_text}
-use Rattle.ill_rows.specs.Heading.{file_told, heading}
+use Rattle.ill_rows.specs.Heading.{file_printed, heading}
 use Rattle.ill_show.specs.ItemLine.{item_of}
-use Rattle.ill_beside.specs.NewsWords.{news_words, told_words}
+use Rattle.ill_beside.specs.NewsWords.{news_words, printed_words}
 use Rattle.ill_rows.specs.Heading.{file_fields}
 
 -- ---- the news
@@ -36,12 +36,12 @@ abbrev pub is_same : Apdu → Apdu → Bool
 is_same a b = is_same_txn a.txn b.txn && a.number == b.number
 
 -- Returns true if `a` is among `news`.
-abbrev pub is_told : List Apdu → Apdu → Bool
-is_told news a = list_any (λ b. is_same b a) news
+abbrev pub is_printed : List Apdu → Apdu → Bool
+is_printed news a = list_any (λ b. is_same b a) news
 
 -- Returns `news`, and `a` at its end if its side has taken it and `news` lacks it.
 abbrev pub with_news : List Side → List Apdu → Apdu → List Apdu
-with_news sides news a = if heard_at sides a && not (is_told news a) then news ++ a ∷ [] else news
+with_news sides news a = if heard_at sides a && not (is_printed news a) then news ++ a ∷ [] else news
 
 -- Returns the messages in `came` that the sides have taken, each once, in their order.
 abbrev pub news_of : List Side → List Apdu → List Apdu
@@ -58,7 +58,7 @@ last_of (Some count) news = drop (length news - count) news
 -- of its record.
 abbrev pub words_by : Option Side → Body → List ℕ
 words_by None body = news_words None body
-words_by (Some side) body = told_words side body
+words_by (Some side) body = printed_words side body
 
 -- Returns the words of the message `a`. Those of a refused renewal have the due date of the record in `sides`, if
 -- there is one.
@@ -106,15 +106,15 @@ news_lines sides news shown =
 -- ---- objects
 
 -- Returns the fields of a message with these words, in the loan of a side.
-abbrev pub told_fields : Option Side → (words : List ℕ) → Apdu → List Field
-told_fields side words a =
+abbrev pub printed_fields : Option Side → (words : List ℕ) → Apdu → List Field
+printed_fields side words a =
     (codes "kind", quoted (codes "news")) ∷ (codes "group", quoted a.txn.group)
     ∷ (codes "transaction", quoted a.txn.transaction) ∷ (codes "number", decimal a.number)
     ∷ (codes "words", quoted words) ∷ (codes "item", optional quoted (item_of side)) ∷ []
 
 -- Returns the fields of a message, with its words and the item of its loan.
 abbrev pub news_fields : List Side → Apdu → List Field
-news_fields sides a = told_fields (side_with a.txn sides) (words_at sides a) a
+news_fields sides a = printed_fields (side_with a.txn sides) (words_at sides a) a
 
 -- Returns the object of a message, with the path of the desk, if it is given.
 abbrev pub news_object : Option (List ℕ) → List Side → Apdu → List ℕ
@@ -130,4 +130,4 @@ news_objects file sides shown = flat_map (news_object file sides) shown
 -- `is_headed` is true, it has the path of the desk.
 abbrev pub news_desk : Form → (is_headed : Bool) → (last : Option ℕ) → (path : List ℕ) → List Side → List Apdu → List ℕ
 news_desk Lines is_headed last path sides news = heading is_headed path ++ news_lines sides news (last_of last news)
-news_desk Json is_headed last path sides news = news_objects (file_told is_headed path) sides (last_of last news)
+news_desk Json is_headed last path sides news = news_objects (file_printed is_headed path) sides (last_of last news)

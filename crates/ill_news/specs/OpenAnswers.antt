@@ -8,11 +8,12 @@ use Rattle.ill_values.specs.declared.apdu.AnswerResult.{AnswerResult}
 use Rattle.ill_values.specs.declared.apdu.AnswerResult.TheVariants.{Estimate, LocationsProvided, Retry}
 use Rattle.ill_values.specs.declared.apdu.BodyWith.TheVariants.{IllAnswer}
 use Rattle.ill_beside.specs.Notes.{note_of}
-use Rattle.ill_news.specs.News.{is_told}
+use Rattle.ill_news.specs.News.{is_printed}
 
 -- ---- the answer
 
--- Returns true if an answer with this result ends a loan and asks staff for something: to ask again, or to read a letter.
+-- Returns true if an answer with this result ends a loan and asks staff for something: to ask again, or to read a
+-- letter.
 abbrev pub asks_staff : AnswerResult → Bool
 asks_staff Retry = true
 asks_staff Estimate = true
@@ -48,7 +49,7 @@ is_open notes a = is_asking a.body && not (says_done (note_of notes a.txn))
 
 -- Returns true if a message is an open answer, and `news` lack it.
 abbrev pub is_left : (notes : List (List ℕ)) → (news : List Apdu) → Apdu → Bool
-is_left notes news a = is_open notes a && not (is_told news a)
+is_left notes news a = is_open notes a && not (is_printed news a)
 
 -- Returns the open answers in `came` that `news` lack, in their order.
 abbrev pub left_open : (notes : List (List ℕ)) → (news came : List Apdu) → List Apdu

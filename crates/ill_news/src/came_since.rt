@@ -11,7 +11,7 @@ use ill_text::diary::message_key;
 use ill_values::{Apdu, Day, Number, OutOfMemory};
 use std::alloc::Global;
 
-/// The messages that came to a desk. The notes, the diary, the day and the number say which of them are told.
+/// The messages that came to a desk. The notes, the diary, the day and the number say which of them are printed.
 #[derive(Clone, Copy)]
 pub struct Came<'a> {
     /// The bytes of the messages, one after another.
@@ -20,21 +20,21 @@ pub struct Came<'a> {
     pub notes: &'a Notes,
     /// The diary.
     pub diary: &'a KeyedDiary,
-    /// The day since which messages are told. Without a day all messages are told.
+    /// The day since which messages are printed. Without a day all messages are printed.
     pub since: Option<Day>,
-    /// The number of the last told messages that are shown. Without a number all of them are shown.
+    /// The number of the last printed messages that are shown. Without a number all of them are shown.
     pub last: Option<Number>,
 }
 
 impl Came<'_> {
-    /// Returns those of the messages `apdus` that are told. With a day these are the ones that came on the day or
+    /// Returns those of the messages `apdus` that are printed. With a day these are the ones that came on the day or
     /// later, without repeats. Without a day these are all.
-    pub(crate) fn told<'b>(
+    pub(crate) fn printed<'b>(
         &self,
         alloc: Global,
         apdus: &'b [Apdu],
     ) -> Result<Vec<&'b Apdu>, OutOfMemory>
-        ensures { IfOk result (λ told. map (λ a. a.now) told.items
+        ensures { IfOk result (λ printed. map (λ a. a.now) printed.items
             ≡ came_since self.now.since self.now.diary.now apdus.now) }
     {
         match self.since {
@@ -63,7 +63,7 @@ pub(crate) fn later<'a>(
     diary: &KeyedDiary,
     apdus: &'a [Apdu],
 ) -> Result<Vec<&'a Apdu>, OutOfMemory>
-    ensures { IfOk result (λ told. map (λ a. a.now) told.items
+    ensures { IfOk result (λ printed. map (λ a. a.now) printed.items
         ≡ came_since (Some day) diary.now apdus.now) }
 {
     let end = end_of(alloc, day, diary, apdus)?;
@@ -71,7 +71,7 @@ pub(crate) fn later<'a>(
 }
 
 /// Returns the messages of `apdus` after the last one that came before `day`, or all of them if none did.
-#[tactic(auto, using(crate::proofs::CameSinceLemmas::told_from))]
+#[tactic(auto, using(crate::proofs::CameSinceLemmas::printed_from))]
 fn end_of<'a>(
     alloc: Global,
     day: Day,

@@ -12,29 +12,29 @@ ghost use Rattle.ill_core.specs.Responder.{ResponderRecord};
 ghost use Rattle.ill_news.specs.Deeds.{deeds_since, is_by_date, is_deed_since};
 ghost use Rattle.ill_record.specs.declared.side.Side.TheVariants.{Responder};
 ghost use Rattle.ill_beside.specs.Heard.{is_heard};
-ghost use Rattle.ill_news.specs.News.{heard_at, is_same, is_told, news_of};
+ghost use Rattle.ill_news.specs.News.{heard_at, is_same, is_printed, news_of};
 ghost use Rattle.ill_beside.specs.Notes.{note_of};
 ghost use Rattle.ill_news.specs.OpenAnswers.{is_open, says_done};
-ghost use Rattle.ill_news.specs.Told.{recent_of, told_since};
+ghost use Rattle.ill_news.specs.PrintedNews.{recent_of, printed_since};
 
-/// A message that came is told if the record of its loan shows that it was taken.
-#[tactic(auto, using(crate::proofs::NewsLemmas::taken_is_told))]
+/// A message that came is printed if the record of its loan shows that it was taken.
+#[tactic(auto, using(crate::proofs::NewsLemmas::taken_is_printed))]
 pub fn what_was_taken_is_news()
     ensures { (sides : List Side) (before after : List Apdu) (a : Apdu) →
-        heard_at sides a ≡ true → is_told (news_of sides (before ++ a ∷ after)) a ≡ true }
+        heard_at sides a ≡ true → is_printed (news_of sides (before ++ a ∷ after)) a ≡ true }
 {}
 
-/// Nothing else is told: what is told came, and the record of its loan shows that it was taken.
-#[tactic(auto, using(crate::proofs::NewsLemmas::told_was_taken))]
+/// Nothing else is printed: what is printed came, and the record of its loan shows that it was taken.
+#[tactic(auto, using(crate::proofs::NewsLemmas::printed_was_taken))]
 pub fn nothing_else_is_news()
-    ensures { (sides : List Side) (came : List Apdu) (a : Apdu) → is_told (news_of sides came) a ≡ true →
+    ensures { (sides : List Side) (came : List Apdu) (a : Apdu) → is_printed (news_of sides came) a ≡ true →
         list_any (λ b. is_same b a && heard_at sides b) came ≡ true }
 {}
 
-/// What came since a day is told, but for repeats: all after the last message that came before, or all if none did. A
-/// message that no line of the diary names did not come before. Nor did one that a line of the day or later names.
-#[tactic(auto, using(crate::proofs::CameSinceLemmas::all_told, crate::proofs::CameSinceLemmas::later_told, crate::proofs::CameSinceLemmas::unnamed_told, crate::proofs::CameSinceLemmas::named_told))]
-pub fn what_came_since_is_told()
+/// What came since a day is printed, but for repeats: all after the last message that came before, or all if none did.
+/// A message that no line of the diary names did not come before. Nor did one that a line of the day or later names.
+#[tactic(auto, using(crate::proofs::CameSinceLemmas::all_printed, crate::proofs::CameSinceLemmas::later_printed, crate::proofs::CameSinceLemmas::unnamed_printed, crate::proofs::CameSinceLemmas::named_printed))]
+pub fn what_came_since_is_printed()
     ensures all { (day : Date) (lines : List (List ℕ)) (came : List Apdu) →
         list_any (came_before day lines) came ≡ false →
         came_since (Some day) lines came ≡ filter (is_new day lines) came }
@@ -47,7 +47,7 @@ pub fn what_came_since_is_told()
         came_before day lines a ≡ false }
 {}
 
-/// No repeat is told: a message that a line of an earlier day names is not among what came since the day.
+/// No repeat is printed: a message that a line of an earlier day names is not among what came since the day.
 #[tactic(auto, using(crate::proofs::CameSinceLemmas::no_repeat))]
 pub fn no_repeat_is_news()
     ensures { (day : Date) (lines : List (List ℕ)) (came : List Apdu) (a : Apdu) →
@@ -55,7 +55,7 @@ pub fn no_repeat_is_news()
         list_any (λ b. bytes_eq (came_key b) (came_key a)) (came_since (Some day) lines came) ≡ false }
 {}
 
-/// No repeat hides news: a message that no line names is told, whatever came again after it on the day or later.
+/// No repeat hides news: a message that no line names is printed, whatever came again after it on the day or later.
 #[tactic(auto, using(crate::proofs::CameSinceLemmas::not_hidden))]
 pub fn no_repeat_hides_news()
     ensures { (day : Date) (lines : List (List ℕ)) (came repeats : List Apdu) (a : Apdu) →
@@ -63,35 +63,35 @@ pub fn no_repeat_hides_news()
         (before after : List Apdu) × (came_since (Some day) lines (came ++ a ∷ repeats) ≡ before ++ a ∷ after) }
 {}
 
-/// An open answer is told on each day, if the record of its loan shows that it was taken. It asks staff for something, and
-/// the note of the loan does not begin with `done`.
-#[tactic(auto, using(crate::proofs::OpenLemmas::open_told))]
+/// An open answer is printed on each day, if the record of its loan shows that it was taken. It asks staff for
+/// something, and the note of the loan does not begin with `done`.
+#[tactic(auto, using(crate::proofs::OpenLemmas::open_printed))]
 pub fn an_open_answer_stays_news()
     ensures { (since : Option Date) (notes lines : List (List ℕ)) (sides : List Side) (before after : List Apdu) (a : Apdu) →
         heard_at sides a ≡ true → is_open notes a ≡ true →
-        is_told (told_since since notes lines sides (before ++ a ∷ after)) a ≡ true }
+        is_printed (printed_since since notes lines sides (before ++ a ∷ after)) a ≡ true }
 {}
 
-/// No other message stays news. Let the note of a loan begin with `done`. Then its messages are told only if they
+/// No other message stays news. Let the note of a loan begin with `done`. Then its messages are printed only if they
 /// came since the day, or a date made them due. If no message is open, this holds of all messages.
-#[tactic(auto, using(crate::proofs::OpenLemmas::done_told, crate::proofs::OpenLemmas::none_told))]
+#[tactic(auto, using(crate::proofs::OpenLemmas::done_printed, crate::proofs::OpenLemmas::none_printed))]
 pub fn nothing_else_stays_news()
     ensures done { (since : Option Date) (notes lines : List (List ℕ)) (sides : List Side) (came : List Apdu) (a : Apdu) →
-        says_done (note_of notes a.txn) ≡ true → is_told (told_since since notes lines sides came) a
-        ≡ is_told (recent_of since lines sides came ++ deeds_since since lines sides) a }
+        says_done (note_of notes a.txn) ≡ true → is_printed (printed_since since notes lines sides came) a
+        ≡ is_printed (recent_of since lines sides came ++ deeds_since since lines sides) a }
     ensures none { (since : Option Date) (notes lines : List (List ℕ)) (sides : List Side) (came : List Apdu) →
         list_any (is_open notes) came ≡ false →
-        told_since since notes lines sides came ≡ recent_of since lines sides came ++ deeds_since since lines sides }
+        printed_since since notes lines sides came ≡ recent_of since lines sides came ++ deeds_since since lines sides }
 {}
 
-/// What a date made due is told: a message of a responder that the diary names on the day or later, and not before.
+/// What a date made due is printed: a message of a responder that the diary names on the day or later, and not before.
 pub fn what_a_date_made_due_is_news()
     ensures { (day : Date) (lines : List (List ℕ)) (before after : List Side) (y : ResponderRecord) (first last : List Apdu)
         (a : Apdu) → y.issued ≡ first ++ a ∷ last → is_deed_since day lines a ≡ true →
         (more less : List Apdu) × (deeds_since (Some day) lines (before ++ Responder y ∷ after) ≡ more ++ a ∷ less) }
 {}
 
-/// Nothing else is told as made due by a date. It is an Overdue or an Expired that the diary names on the day or
+/// Nothing else is printed as made due by a date. It is an Overdue or an Expired that the diary names on the day or
 /// later, and not before. No message that came to a responder is one of these, so the words tell both apart.
 #[tactic(auto, using(crate::proofs::DeedLemmas::heard_apart))]
 pub fn nothing_else_was_made_due()

@@ -6,4 +6,4 @@ mod deeds;
 pub mod laws;
 pub mod news;
 mod open_answers;
-mod told;
+mod printed;

@@ -5,22 +5,22 @@ ghost use Rattle.std.specs.List.{flat_map};
 ghost use Rattle.ill_saved.specs.ManySides.{sides_held};
 ghost use Rattle.ill_text.specs.Json.{joined, member, optional, quoted, value_text};
 ghost use Rattle.ill_rows.specs.Cells.{title_text};
-ghost use Rattle.ill_rows.specs.Heading.{between, file_told, gap, heading};
+ghost use Rattle.ill_rows.specs.Heading.{between, file_printed, gap, heading};
 ghost use Rattle.ill_rows.specs.Heading.{file_fields};
-ghost use Rattle.ill_news.specs.Told.{news_since, recent_of, told_since, with_open};
+ghost use Rattle.ill_news.specs.PrintedNews.{news_since, recent_of, printed_since, with_open};
 ghost use Rattle.ill_beside.specs.Since.{annex_of};
 ghost use Rattle.ill_rows.specs.Messages.{IsTextOf, WritesNews};
-ghost use Rattle.ill_news.specs.News.{columns_of, heard_at, heard_by, last_of, named, news_counts, news_desk, news_fields, news_lines, news_object, news_objects, news_of, news_row, told_fields, widened, with_news, words_at, words_by};
+ghost use Rattle.ill_news.specs.News.{columns_of, heard_at, heard_by, last_of, named, news_counts, news_desk, news_fields, news_lines, news_object, news_objects, news_of, news_row, printed_fields, widened, with_news, words_at, words_by};
 ghost use Rattle.ill_show.specs.ItemLine.{item_of};
 
 use crate::came_since::Came;
 use crate::deeds::push_deeds;
 use crate::open_answers::left_open;
-use crate::told::is_told;
+use crate::printed::is_printed;
 use ill_beside::annex::Annex;
 use ill_beside::heard::is_heard;
 use ill_beside::keyed_came::KeyedCame;
-use ill_beside::news_words::{news_words, told_words};
+use ill_beside::news_words::{news_words, printed_words};
 use ill_beside::notes::Notes;
 use ill_rows::cells::{column, push_cell, push_title};
 use ill_rows::listed::{Listed, heading, push_file};
@@ -66,7 +66,7 @@ pub fn run_desk_news<S: Store, W: Write>(
 ) -> Result<(), ToolFault>
     ensures { WritesNews (λ apdus. between listed.now.form listed.now.is_first
         ++ news_desk listed.now.form listed.now.is_headed came.now.last listed.now.path.now (sides_held desk.now.live).sides
-        (told_since came.now.since came.now.notes.now came.now.diary.now (sides_held desk.now.live).sides apdus))
+        (printed_since came.now.since came.now.notes.now came.now.diary.now (sides_held desk.now.live).sides apdus))
         came.now.bytes.now (W.contents writer.old) (W.contents writer.new) result }
 {
     match text_of_news(alloc, desk.sides(), listed, came) {
@@ -84,24 +84,24 @@ fn text_of_news(
 ) -> Result<Vec<u8>, OutOfMemory>
     ensures { IfOk result (λ text. IsTextOf (λ apdus. between listed.now.form listed.now.is_first
         ++ news_desk listed.now.form listed.now.is_headed came.now.last listed.now.path.now sides.now.sides
-        (told_since came.now.since came.now.notes.now came.now.diary.now sides.now.sides apdus))
+        (printed_since came.now.since came.now.notes.now came.now.diary.now sides.now.sides apdus))
         came.now.bytes.now text.items) }
 {
     let apdus = apdus_in(alloc, came.bytes)?;
-    let news = told_since(alloc, sides, came, &apdus)?;
+    let news = printed_since(alloc, sides, came, &apdus)?;
     desk_text(alloc, sides, listed, came.last, &news)
 }
 
 /// Returns the news of a desk with these sides, to which `apdus` came. They are open answers, the messages that the
 /// sides have taken, and what dates have made due. `came` has the notes, the diary and the day.
-fn told_since(
+fn printed_since(
     alloc: Global,
     sides: &Sides,
     came: &Came<'_>,
     apdus: &[Apdu],
 ) -> Result<Vec<Apdu>, OutOfMemory>
     ensures { IfOk result (λ news. news.items
-        ≡ told_since came.now.since came.now.notes.now came.now.diary.now sides.now.sides apdus.now) }
+        ≡ printed_since came.now.since came.now.notes.now came.now.diary.now sides.now.sides apdus.now) }
 {
     let recent = recent_of(alloc, sides, came, apdus)?;
     let mut news = with_open(alloc, sides, came.notes, recent, apdus)?;
@@ -119,8 +119,8 @@ fn recent_of(
     ensures { IfOk result (λ recent. recent.items
         ≡ recent_of came.now.since came.now.diary.now sides.now.sides apdus.now) }
 {
-    let told = came.told(alloc, apdus)?;
-    news_of(alloc, sides, &told)
+    let printed = came.printed(alloc, apdus)?;
+    news_of(alloc, sides, &printed)
 }
 
 /// Returns the open answers in `came` that `sides` have taken and that `recent` lacks, and then `recent`.
@@ -140,8 +140,8 @@ fn with_open(
 }
 
 /// Returns the news of a desk with these sides since a day, by `annex`. They are open answers, the messages that the
-/// sides have taken since, and what dates have made due. Each is told once. Without a day no news are told, and the
-/// result is `None`.
+/// sides have taken since, and what dates have made due. Each is printed once. Without a day no news are printed, and
+/// the result is `None`.
 pub fn news_since(
     alloc: Global,
     sides: &Sides,
@@ -160,8 +160,8 @@ pub fn news_since(
                 since,
                 last: None,
             };
-            let told = told_since(alloc, sides, &came, annex.came.as_apdus())?;
-            Ok(Some(KeyedCame::of(alloc, told)?))
+            let printed = printed_since(alloc, sides, &came, annex.came.as_apdus())?;
+            Ok(Some(KeyedCame::of(alloc, printed)?))
         }
     }
 }
@@ -182,7 +182,7 @@ fn push_new(news: &mut Vec<Apdu>, sides: &Sides, apdu: &Apdu) -> Result<(), OutO
     ensures { OnOk result (news.new.items ≡ with_news sides.now.sides news.old.items apdu.now) }
 {
     let alloc = *news.allocator();
-    if heard_at(sides, apdu) && !is_told(news, apdu) {
+    if heard_at(sides, apdu) && !is_printed(news, apdu) {
         news.push(apdu.copy(alloc)?)?;
     }
     Ok(())
@@ -257,10 +257,10 @@ fn objects_text(
     shown: &[Apdu],
 ) -> Result<Vec<u8>, OutOfMemory>
     ensures { IfOk result (λ text. text.items
-        ≡ news_objects (file_told listed.now.is_headed listed.now.path.now) sides.now.sides shown.now) }
+        ≡ news_objects (file_printed listed.now.is_headed listed.now.path.now) sides.now.sides shown.now) }
 {
     let mut text = Vec::new(alloc);
-    push_objects(&mut text, listed.told(), sides, shown)?;
+    push_objects(&mut text, listed.printed(), sides, shown)?;
     Ok(text)
 }
 
@@ -326,7 +326,7 @@ fn words_by(alloc: Global, side: Option<&Side>, body: &Body) -> Result<Vec<u8>, 
     ensures { IfOk result (λ words. words.items ≡ words_by (option_copied side.entry) body.now) }
 {
     match side {
-        Some(side) => told_words(alloc, side, body),
+        Some(side) => printed_words(alloc, side, body),
         None => news_words(alloc, None, body),
     }
 }
@@ -454,19 +454,19 @@ fn push_fields(text: &mut Vec<u8>, sides: &Sides, apdu: &Apdu) -> Result<(), Out
         ++ joined member [] (news_fields sides.now.sides apdu.now)) }
 {
     let words = words_at(*text.allocator(), sides, apdu)?;
-    push_told(text, apdu, &words, sides.get(&apdu.txn))
+    push_printed(text, apdu, &words, sides.get(&apdu.txn))
 }
 
 /// Appends the fields of `apdu`, with its words `words` and the item of the loan of `side`.
 #[tactic(auto, unfolding(ill_text::specs::Json::joined))]
-fn push_told<'a>(
+fn push_printed<'a>(
     text: &mut Vec<u8>,
     apdu: &'a Apdu,
     words: &'a [u8],
     side: Option<&'a Side>,
 ) -> Result<(), OutOfMemory>
     ensures { OnOk result (text.new.items ≡ text.old.items
-        ++ joined member [] (told_fields (option_copied side.entry) words.now apdu.now)) }
+        ++ joined member [] (printed_fields (option_copied side.entry) words.now apdu.now)) }
 {
     push_members(
         text,

@@ -3,7 +3,7 @@
 ghost use Rattle.std.specs.Prelude.{◌≡◌, ◌++◌, ◌∷◌, [], filter, map, option_copied, IfOk, OnOk};
 ghost use Rattle.ill_news.specs.OpenAnswers.{asks_staff, begins_with_done, goes_on, is_asking, is_left, is_open, left_open, says_done};
 
-use crate::told::is_told;
+use crate::printed::is_printed;
 use ill_beside::notes::Notes;
 use ill_values::{AnswerResult, Apdu, Body, OutOfMemory};
 use std::alloc::Global;
@@ -47,7 +47,7 @@ fn push_if_left<'a>(
 fn is_left(notes: &Notes, news: &[Apdu], apdu: &Apdu) -> Result<bool, OutOfMemory>
     ensures { IfOk result (λ is. is ≡ is_left notes.now news.now apdu.now) }
 {
-    Ok(is_open(notes, apdu)? && !is_told(news, apdu))
+    Ok(is_open(notes, apdu)? && !is_printed(news, apdu))
 }
 
 /// Returns true if `apdu` is an answer that asks staff for something, and the note of its loan does not say `done`.
@@ -67,7 +67,8 @@ fn is_asking(body: &Body) -> bool
     }
 }
 
-/// Returns true if an answer with this result ends a loan and asks staff for something: to ask again, or to read a letter.
+/// Returns true if an answer with this result ends a loan and asks staff for something: to ask again, or to read a
+/// letter.
 fn asks_staff(answer: AnswerResult) -> bool
     ensures { result ≡ asks_staff answer }
 {

@@ -1,3 +1,3 @@
 pub mod CopyLemmas
-pub mod MailsLemmas
+pub mod MessageFilesLemmas
 pub mod OutboxLemmas

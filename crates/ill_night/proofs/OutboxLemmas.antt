@@ -1,4 +1,4 @@
--- Proves what a folder or a stream has after the command `outbox`, and which mails ask for an answer.
+-- Proves what a folder or a stream has after the command `outbox`, and which message files ask for an answer.
 use Rattle.std.proofs.Common.{◌≡◌, ℕ, zero, suc, ◌++◌, List, [], ◌∷◌, map, take, drop, Option, Some, None, Result, Ok, Err, refl}
 use Rattle.std.proofs.Common.{ap, sym, subst, ◌∙◌, append_assoc}
 use Rattle.std.specs.Prelude.{slice_get}
@@ -9,7 +9,7 @@ use Rattle.ill_saved.specs.Holdings.{DeskEntry}
 use Rattle.ill_saved.specs.ManySides.{DeskContents}
 use Rattle.ill_record.proofs.Finding.{some_is}
 use Rattle.ill_text.specs.declared.fault.ToolFault.{ToolFault}
-use Rattle.ill_night.specs.declared.verdict.Mail.{Mail}
+use Rattle.ill_night.specs.declared.verdict.MessageFile.{MessageFile}
 use Rattle.ill_night.specs.declared.verdict.Verdict.{Verdict}
 use Rattle.ill_text.specs.Output.{WritesPrefix}
 use Rattle.ill_night.specs.declared.outbox.Leaving.{Leaving}
@@ -17,35 +17,36 @@ use Rattle.ill_night.specs.Outbox.{Letter, PutsAll, RunsOutbox, StreamsOutbox, a
 use Rattle.ill_night.specs.Outbox.{issue_of}
 use Rattle.ill_night.specs.Outbox.{letter_of, letters_of, stream_of}
 
--- Putting the mails of `leaving` into an outlet equals putting the mail of each message in turn.
+-- Putting the message files of `leaving` into an outlet equals putting the message file of each message in turn.
 pub each_put : {M : Type 0} (after : M → Letter → M) (leaving : List Leaving) (there : Option M)
     → after_all after (map letter_of (map issue_of leaving)) there
     ≡ fold (λ there message. after_one after there (letter_of (issue_of message))) there leaving
 each_put after [] there = refl
 each_put after (message ∷ leaving) there = each_put after leaving (after_one after there (letter_of (issue_of message)))
 
--- The first `size` mails are the mails of the first `size` messages.
-pub first_mails : (size : ℕ) (leaving : List Leaving)
+-- The first `size` message files are the message files of the first `size` messages.
+pub first_message_files : (size : ℕ) (leaving : List Leaving)
     → take size (map letter_of (map issue_of leaving)) ≡ map letter_of (map issue_of (take size leaving))
-first_mails size leaving = take-map letter_of size (map issue_of leaving) ∙ ap (map letter_of) (take-map issue_of size leaving)
+first_message_files size leaving =
+    take-map letter_of size (map issue_of leaving) ∙ ap (map letter_of) (take-map issue_of size leaving)
 
 -- ---- a stream
 
--- A stream that began with `start` has `start`, and then the bytes of the mails.
+-- A stream that began with `start` has `start`, and then the bytes of the message files.
 streamed : (start : List ℕ) (letters : List Letter)
     → after_all (λ there letter. there ++ letter.bytes) letters (Some start) ≡ Some (start ++ stream_of letters)
 streamed start [] = ap Some (sym (append-nil start))
 streamed start (letter ∷ letters) =
     streamed (start ++ letter.bytes) letters ∙ ap Some (append_assoc start letter.bytes (stream_of letters))
 
--- If a stream was empty, its bytes are the bytes of the mails that were put on the stream.
+-- If a stream was empty, its bytes are the bytes of the message files that were put on the stream.
 stream_has : (letters : List Letter) (start bytes : List ℕ) → start ≡ []
     → Some bytes ≡ after_all (λ there letter. there ++ letter.bytes) letters (Some start) → bytes ≡ stream_of letters
 stream_has letters start bytes empty put =
     some_is _ _ (put ∙ ap (λ start. after_all (λ there letter. there ++ letter.bytes) letters (Some start)) empty
     ∙ streamed [] letters)
 
--- If mails are put on an empty stream (`start`), and its bytes (`gathered`) are written, `StreamsOutbox` holds.
+-- If message files are put on an empty stream (`start`), and its bytes (`gathered`) are written, `StreamsOutbox` holds.
 pub stream_written : (asking : List ℕ) (held : List DeskEntry) (start bytes gathered : List ℕ) (count : ℕ)
     (before after : Option (List ℕ)) (result : Result (Unit {0}) ToolFault)
     → start ≡ [] → gathered ≡ bytes
@@ -73,22 +74,25 @@ zip_nothing : {A B : Type 0} (items : List A) → zip {X = B} items [] ≡ []
 zip_nothing [] = refl
 zip_nothing (item ∷ items) = refl
 
--- A mail without a verdict does not ask, so it adds no bytes.
-mail_without_verdict_is_silent : (live : DeskContents) (mail : Option Mail) (rest : List ℕ)
-    → asking_bytes_at live mail None ++ rest ≡ rest
-mail_without_verdict_is_silent live None rest = refl
-mail_without_verdict_is_silent live (Some mail) rest = refl
+-- A message file without a verdict does not ask, so it adds no bytes.
+message_file_without_verdict_is_silent : (live : DeskContents) (message_file : Option MessageFile) (rest : List ℕ)
+    → asking_bytes_at live message_file None ++ rest ≡ rest
+message_file_without_verdict_is_silent live None rest = refl
+message_file_without_verdict_is_silent live (Some message_file) rest = refl
 
--- The bytes that ask from `place` on are those of the mail at `place`, and then those of the later mails.
-pub asking_split_at : (live : DeskContents) (mails : List Mail) (verdicts : List Verdict) (place : ℕ)
-    → asking_bytes_at live (slice_get mails place) (slice_get verdicts place)
-    ++ asked_by live (zip (drop (suc place) mails) (drop (suc place) verdicts))
-    ≡ asked_by live (zip (drop place mails) (drop place verdicts))
+-- The bytes that ask from `place` on are those of the message file at `place`, and then those of the later message
+-- files.
+pub asking_split_at : (live : DeskContents) (message_files : List MessageFile) (verdicts : List Verdict) (place : ℕ)
+    → asking_bytes_at live (slice_get message_files place) (slice_get verdicts place)
+    ++ asked_by live (zip (drop (suc place) message_files) (drop (suc place) verdicts))
+    ≡ asked_by live (zip (drop place message_files) (drop place verdicts))
 asking_split_at live [] verdicts zero = refl
 asking_split_at live [] verdicts (suc place) = refl
-asking_split_at live (mail ∷ mails) [] zero = ap (asked_by live) (zip_nothing mails)
-asking_split_at live (mail ∷ mails) [] (suc place) =
-    mail_without_verdict_is_silent live (slice_get mails place) (asked_by live (zip (drop (suc place) mails) []))
-    ∙ ap (asked_by live) (zip_nothing (drop (suc place) mails) ∙ sym (zip_nothing (drop place mails)))
-asking_split_at live (mail ∷ mails) (verdict ∷ verdicts) zero = refl
-asking_split_at live (mail ∷ mails) (verdict ∷ verdicts) (suc place) = asking_split_at live mails verdicts place
+asking_split_at live (message_file ∷ message_files) [] zero = ap (asked_by live) (zip_nothing message_files)
+asking_split_at live (message_file ∷ message_files) [] (suc place) =
+    message_file_without_verdict_is_silent live (slice_get message_files place)
+    (asked_by live (zip (drop (suc place) message_files) []))
+    ∙ ap (asked_by live) (zip_nothing (drop (suc place) message_files) ∙ sym (zip_nothing (drop place message_files)))
+asking_split_at live (message_file ∷ message_files) (verdict ∷ verdicts) zero = refl
+asking_split_at live (message_file ∷ message_files) (verdict ∷ verdicts) (suc place) =
+    asking_split_at live message_files verdicts place

@@ -1,5 +1,5 @@
--- A copy of a desk over another copy. A desk replaces only a copy that it extends, so no message of a copy is lost (this
--- profile's own).
+-- A copy of a desk over another copy. A desk replaces only a copy that it extends, so no message of a copy is lost
+-- (this profile's own).
 use Rattle.std.specs.Prelude.{◌≡◌, ℕ, All, List, Option, None, Some, Result, Ok, Err}
 use Rattle.ill_record.specs.declared.fault.RecordFault.{RecordFault}
 use Rattle.ill_record.specs.declared.side.Side.{Side}

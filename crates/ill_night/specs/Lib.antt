@@ -1,7 +1,7 @@
 pub mod Copy
 pub mod CopyOver
 pub mod Lines
-pub mod Mails
+pub mod MessageFiles
 pub mod Outbox
 pub mod Person
 pub mod Retire

@@ -1,4 +1,4 @@
--- The command `outbox`: the messages that leave a desk in a night, and the names of their mails. A message
+-- The command `outbox`: the messages that leave a desk in a night, and the names of their message files. A message
 -- asks if it came for a loan that is over at this desk. A responder then sends its messages of the loan
 -- again.
 use Rattle.std.specs.Prelude.{◌≡◌, ◌⊎◌, ℕ, ◌+◌, ◌/◌, ◌%◌, Bool, false, if◌then◌else◌, List, [], ◌∷◌, ◌++◌, length, take, fold}
@@ -21,12 +21,12 @@ use Rattle.ill_saved.specs.ManySides.{DeskContents, sides_held}
 use Rattle.ill_text.specs.declared.fault.ToolFault.{ToolFault}
 use Rattle.ill_text.specs.declared.fault.ToolFault.TheVariants.{OutOfMemory}
 use Rattle.ill_text.specs.Fault.{IsFileFault}
-use Rattle.ill_night.specs.declared.verdict.Mail.{Mail}
+use Rattle.ill_night.specs.declared.verdict.MessageFile.{MessageFile}
 use Rattle.ill_night.specs.declared.verdict.Verdict.{Verdict}
 use Rattle.ill_night.specs.declared.verdict.Verdict.TheVariants.{Done}
 use Rattle.ill_night.specs.declared.outbox.Leaving.{Leaving}
 use Rattle.ill_night.specs.declared.verdict.Unfit.{Unfit}
-use Rattle.ill_night.specs.Mails.{message_in}
+use Rattle.ill_night.specs.MessageFiles.{message_in}
 use Rattle.ill_text.specs.Input.{AreIn}
 use Rattle.ill_text.specs.Output.{WritesText}
 use Rattle.ill_record.specs.Roles.{role_name}
@@ -63,9 +63,9 @@ leaving_side asking held =
 abbrev pub leaving_desk : List Apdu → List DeskEntry → List Issue
 leaving_desk asking held = flat_map (leaving_side asking) held
 
--- ---- the mails
+-- ---- the message files
 
--- A mail that leaves: its name and its bytes.
+-- A message file that leaves: its name and its bytes.
 pub record Letter : Type 0 where
   pub name : List ℕ
   pub bytes : List ℕ
@@ -86,19 +86,19 @@ loan_stem role txn = take 32 (encode_lower (sha256 (loan_text role txn)))
 abbrev pub three_digits : ℕ → List ℕ
 three_digits n = (48 + n / 100) ∷ (48 + n / 10 % 10) ∷ (48 + n % 10) ∷ []
 
--- Returns the name of the mail of the message `number` in a loan. It does not change from run to run. Sorted by
--- name, the mails of a loan are next to each other, in the order of their numbers.
-abbrev pub mail_name : Role → Qualifiers → ℕ → List ℕ
-mail_name role txn number = loan_stem role txn ++ (codes "-" ++ three_digits number)
+-- Returns the name of the message file of the message `number` in a loan. It does not change from run to run. Sorted by
+-- name, the message files of a loan are next to each other, in the order of their numbers.
+abbrev pub message_file_name : Role → Qualifiers → ℕ → List ℕ
+message_file_name role txn number = loan_stem role txn ++ (codes "-" ++ three_digits number)
 
--- Returns the mail of a message.
+-- Returns the message file of a message.
 abbrev pub letter_of : Issue → Letter
 letter_of issue = record {
-  name = mail_name (role_of issue.side) (txn_of issue.side) issue.apdu.number;
+  name = message_file_name (role_of issue.side) (txn_of issue.side) issue.apdu.number;
   bytes = encoding issue.apdu;
 }
 
--- Returns the mails that leave a desk, given the messages that ask.
+-- Returns the message files that leave a desk, given the messages that ask.
 abbrev pub letters_of : List Apdu → List DeskEntry → List Letter
 letters_of asking held = map letter_of (leaving_desk asking held)
 
@@ -110,11 +110,11 @@ issue_of leaving = record { side = leaving.side.now; apdu = leaving.apdu.now }
 
 -- ---- the outlets
 
--- Returns the content of an outlet after one more mail, if the content is known.
+-- Returns the content of an outlet after one more message file, if the content is known.
 abbrev pub after_one : {M : Type 0} → (M → Letter → M) → Option M → Letter → Option M
 after_one after there letter = option_map (λ there. after there letter) there
 
--- The mail was put into the outlet. Or that failed, and the outlet is unchanged.
+-- The message file was put into the outlet. Or that failed, and the outlet is unchanged.
 abbrev pub PutsOne : {M : Type 0} → (M → Letter → M) → Letter → Option M → Option M → Result (Unit {0}) ToolFault →
     Type 0
 PutsOne after letter old new (Ok done) = new ≡ after_one after old letter
@@ -124,18 +124,18 @@ PutsOne after letter old new (Err fault) = IsFileFault fault × (new ≡ old)
 abbrev pub after_all : {M : Type 0} → (M → Letter → M) → List Letter → Option M → Option M
 after_all after letters there = fold (after_one after) there letters
 
--- The messages in `letters` were put into the outlet in mails of the form `form`, and the answer is the number of
--- messages. Or a prefix of these mails was put, and putting the next mail failed.
+-- The messages in `letters` were put into the outlet in message files of the form `form`, and the answer is the number
+-- of messages. Or a prefix of these message files was put, and putting the next message file failed.
 abbrev pub PutsAs : {M : Type 0} → (M → Letter → M) → (form : List Letter → List Letter) → List Letter → Option M → Option M →
     Result ℕ ToolFault → Type 0
 PutsAs after form letters old new (Ok count) = (count ≡ length letters) × (new ≡ after_all after (form letters) old)
 PutsAs after form letters old new (Err fault) =
     IsFileFault fault × ((size : ℕ) × (new ≡ after_all after (take size (form letters)) old))
 
--- Each message was put into the outlet in a mail of its own, and the answer is the number of messages. Or a prefix of
--- these mails was put, and putting the next mail failed.
+-- Each message was put into the outlet in a message file of its own, and the answer is the number of messages. Or a
+-- prefix of these message files was put, and putting the next message file failed.
 abbrev pub PutsAll : {M : Type 0} → (M → Letter → M) → List Letter → Option M → Option M → Result ℕ ToolFault → Type 0
-PutsAll after letters old new result = PutsAs after (λ mails. mails) letters old new result
+PutsAll after letters old new result = PutsAs after (λ message_files. message_files) letters old new result
 
 -- ---- the command
 
@@ -143,8 +143,8 @@ PutsAll after letters old new result = PutsAs after (λ mails. mails) letters ol
 abbrev pub Putting : Type 0 → Type 1
 Putting M = List Letter → Option M → Option M → Result ℕ ToolFault → Type 0
 
--- The command: the messages of `held` that want sending were put into the outlet, as `Puts` says. `bytes` has the messages
--- that ask. If memory ran out before the first mail, the outlet is unchanged.
+-- The command: the messages of `held` that want sending were put into the outlet, as `Puts` says. `bytes` has the
+-- messages that ask. If memory ran out before the first message file, the outlet is unchanged.
 abbrev pub RunsOutbox : {M : Type 0} → (Puts : Putting M) → List ℕ → List DeskEntry → Option M → Option M → Result ℕ ToolFault
     → Type 0
 RunsOutbox Puts bytes held old new (Ok count) =
@@ -153,7 +153,7 @@ RunsOutbox Puts bytes held old new (Err fault) =
     ((fault ≡ OutOfMemory) × (new ≡ old))
     ⊎ ((asking : List Apdu) × AreIn bytes asking × Puts (letters_of asking held) old new (Err fault))
 
--- Returns the bytes of mails, one after another.
+-- Returns the bytes of message files, one after another.
 abbrev pub stream_of : List Letter → List ℕ
 stream_of letters = flat_map (λ letter. letter.bytes) letters
 
@@ -172,28 +172,30 @@ abbrev pub is_held_over : Option Side → Bool
 is_held_over None = false
 is_held_over (Some side) = is_over side
 
--- Returns the bytes of a mail if its message asks: its loan is held at this desk and is over. Else it returns
+-- Returns the bytes of a message file if its message asks: its loan is held at this desk and is over. Else it returns
 -- nothing.
 abbrev pub asking_bytes : DeskContents → List ℕ → Result Apdu Unfit → List ℕ
 asking_bytes live bytes (Ok a) = if is_held_over (side_with a.txn (sides_held live).sides) then bytes else []
 asking_bytes live bytes (Err unfit) = []
 
--- Returns the bytes of a mail that could be read, if its message asks.
+-- Returns the bytes of a message file that could be read, if its message asks.
 abbrev pub asking_bytes_if_read : DeskContents → Option (List ℕ) → List ℕ
 asking_bytes_if_read live None = []
 asking_bytes_if_read live (Some bytes) = asking_bytes live bytes (message_in bytes)
 
--- Returns the bytes of a mail with this verdict, if its message asks. A mail that is put aside or waits does
--- not ask.
-abbrev pub asking_bytes_of_mail : DeskContents → Mail → Verdict → List ℕ
-asking_bytes_of_mail live mail (Done outcome) = asking_bytes_if_read live (option_map (λ bytes. bytes.items) mail.bytes)
-asking_bytes_of_mail live mail verdict = []
+-- Returns the bytes of a message file with this verdict, if its message asks. A message file that is quarantined or
+-- waits does not ask.
+abbrev pub asking_bytes_of_message_file : DeskContents → MessageFile → Verdict → List ℕ
+asking_bytes_of_message_file live message_file (Done outcome) =
+    asking_bytes_if_read live (option_map (λ bytes. bytes.items) message_file.bytes)
+asking_bytes_of_message_file live message_file verdict = []
 
--- Returns the bytes of a mail, if there are a mail and a verdict, and its message asks.
-abbrev pub asking_bytes_at : DeskContents → Option Mail → Option Verdict → List ℕ
-asking_bytes_at live (Some mail) (Some verdict) = asking_bytes_of_mail live mail verdict
-asking_bytes_at live mail verdict = []
+-- Returns the bytes of a message file, if there are a message file and a verdict, and its message asks.
+abbrev pub asking_bytes_at : DeskContents → Option MessageFile → Option Verdict → List ℕ
+asking_bytes_at live (Some message_file) (Some verdict) = asking_bytes_of_message_file live message_file verdict
+asking_bytes_at live message_file verdict = []
 
--- Returns the bytes of all messages that ask, by the verdicts of their mails.
-abbrev pub asked_by : DeskContents → List (Mail × Verdict) → List ℕ
-asked_by live mails = flat_map (λ mail. asking_bytes_of_mail live mail.0 mail.1) mails
+-- Returns the bytes of all messages that ask, by the verdicts of their message files.
+abbrev pub asked_by : DeskContents → List (MessageFile × Verdict) → List ℕ
+asked_by live message_files = flat_map (λ message_file. asking_bytes_of_message_file live message_file.0 message_file.1)
+    message_files

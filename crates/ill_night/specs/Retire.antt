@@ -15,8 +15,8 @@ use Rattle.ill_night.specs.Copy.{Copies}
 abbrev pub are_all_over : List Side → Bool
 are_all_over sides = list_all is_over sides
 
--- Returns the last message of a responder's side. In a loan that is over it says how the loan ended, which is enough for
--- the requester. A requester's side needs none.
+-- Returns the last message of a responder's side. In a loan that is over it says how the loan ended, which is enough
+-- for the requester. A requester's side needs none.
 abbrev pub last_word : Side → Option Apdu
 last_word (sides.Requester x) = None
 last_word (sides.Responder y) = message y.issued (length y.issued)

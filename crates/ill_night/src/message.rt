@@ -1,13 +1,13 @@
-//! The message of a mail.
+//! The message of a message file.
 
 ghost use Rattle.std.specs.Prelude.{◌≡◌};
 ghost use Rattle.ill_der.specs.ShortForm.{apdu_at};
-ghost use Rattle.ill_night.specs.Mails.{message_in, one_message};
+ghost use Rattle.ill_night.specs.MessageFiles.{message_in, one_message};
 
 use crate::verdict::Unfit;
 use ill_der::{APDU_LIMIT, ApduView, view};
 
-/// Returns the message of a mail, or the reason why no desk will ever take it.
+/// Returns the message of a message file, or the reason why no desk will ever take it.
 pub fn message_in(bytes: &[u8]) -> Result<ApduView<'_>, Unfit>
     ensures { result ≡ message_in bytes.now }
 {

@@ -16,9 +16,9 @@ pub struct Dates {
 /// The arguments of a run of `ill exchange`.
 #[derive(Clone, Copy)]
 pub struct Night<'a> {
-    /// The folder of the mails that have come.
+    /// The folder of the message files that have come.
     pub incoming: &'a str,
-    /// The folder of the mails to send.
+    /// The folder of the message files to send.
     pub outgoing: &'a str,
     /// The day of the run, and the deeds that it makes a responder do.
     pub dates: Option<(Day, Dates)>,
@@ -28,9 +28,9 @@ pub struct Night<'a> {
     /// desk.
     pub copy: Option<&'a str>,
     /// The path of the file that is written anew at the end, as a sign of life.
-    pub beat: Option<&'a str>,
-    /// The form in which the night is told.
+    pub heartbeat: Option<&'a str>,
+    /// The form in which the night is printed.
     pub form: Form,
-    /// Set if the desk is on a shelf, which has sorted the mails.
+    /// Set if the desk is on a shelf, which has sorted the message files.
     pub is_on_shelf: bool,
 }

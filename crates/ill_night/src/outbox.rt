@@ -1,7 +1,7 @@
 //! The command `outbox`: it sends all messages that the other side may still need.
 
 ghost use Rattle.std.specs.Prelude.{◌≡◌, ◌++◌, map, IfOk, OnOk};
-ghost use Rattle.ill_night.specs.Outbox.{PutsAll, RunsOutbox, StreamsOutbox, is_asked, issue_of, issues_of, leaving_desk, leaving_side, letter_of, line_of, loan_stem, loan_text, mail_name, PutsOne, released_of, three_digits};
+ghost use Rattle.ill_night.specs.Outbox.{PutsAll, RunsOutbox, StreamsOutbox, is_asked, issue_of, issues_of, leaving_desk, leaving_side, letter_of, line_of, loan_stem, loan_text, message_file_name, PutsOne, released_of, three_digits};
 ghost use Rattle.ill_words.specs.Sides.{held_of};
 
 use crate::outgoing::{Outgoing, Stream};
@@ -28,7 +28,7 @@ pub fn run_desk_outbox<S: Store, O: Outgoing>(
     asking: &[u8],
     out: &mut O,
 ) -> Result<usize, ToolFault>
-    ensures { RunsOutbox (PutsAll O.after) asking.now desk.now.live.held (O.mails out.old) (O.mails out.new) result }
+    ensures { RunsOutbox (PutsAll O.after) asking.now desk.now.live.held (O.message_files out.old) (O.message_files out.new) result }
 {
     let asking = apdus_in(alloc, asking)?;
     let leaving = leaving_desk(alloc, desk, &asking)?;
@@ -148,7 +148,7 @@ fn put_all<O: Outgoing>(
     leaving: &[Leaving<'_>],
     out: &mut O,
 ) -> Result<usize, ToolFault>
-    ensures { PutsAll O.after (map letter_of (map issue_of leaving.now)) (O.mails out.old) (O.mails out.new) result }
+    ensures { PutsAll O.after (map letter_of (map issue_of leaving.now)) (O.message_files out.old) (O.message_files out.new) result }
 {
     for message in leaving {
         if let Err(fault) = put(alloc, *message, out) {
@@ -160,22 +160,22 @@ fn put_all<O: Outgoing>(
 
 /// Puts the message `leaving` into `out`.
 fn put<O: Outgoing>(alloc: Global, leaving: Leaving<'_>, out: &mut O) -> Result<(), ToolFault>
-    ensures { PutsOne O.after (letter_of (issue_of leaving.entry)) (O.mails out.old) (O.mails out.new) result }
+    ensures { PutsOne O.after (letter_of (issue_of leaving.entry)) (O.message_files out.old) (O.message_files out.new) result }
 {
     let side = leaving.side;
-    let name = mail_name(alloc, side.role(), side.txn(), leaving.apdu.number)?;
+    let name = message_file_name(alloc, side.role(), side.txn(), leaving.apdu.number)?;
     let bytes = encode(alloc, leaving.apdu)?;
     out.put(&name, &bytes)
 }
 
-/// Returns the name of the mail of the message `number` in the loan `txn`, from a desk of the role `role`.
-pub fn mail_name(
+/// Returns the name of the message file of the message `number` in the loan `txn`, from a desk of the role `role`.
+pub fn message_file_name(
     alloc: Global,
     role: Role,
     txn: &TxnId,
     number: Number,
 ) -> Result<Vec<u8>, OutOfMemory>
-    ensures { IfOk result (λ name. name.items ≡ mail_name role txn.now number) }
+    ensures { IfOk result (λ name. name.items ≡ message_file_name role txn.now number) }
 {
     let mut name = loan_stem(alloc, role, txn)?;
     name.push(b'-')?;
@@ -183,7 +183,7 @@ pub fn mail_name(
     Ok(name)
 }
 
-/// Returns the text with which the names of all mails of a loan begin.
+/// Returns the text with which the names of all message files of a loan begin.
 fn loan_stem(alloc: Global, role: Role, txn: &TxnId) -> Result<Vec<u8>, OutOfMemory>
     ensures { IfOk result (λ stem. stem.items ≡ loan_stem role txn.now) }
 {
@@ -194,7 +194,7 @@ fn loan_stem(alloc: Global, role: Role, txn: &TxnId) -> Result<Vec<u8>, OutOfMem
     Ok(stem)
 }
 
-/// The number of hexadecimal digits of the digest of a loan's text that begin the names of its mails.
+/// The number of hexadecimal digits of the digest of a loan's text that begin the names of its message files.
 const STEM: usize = 32;
 
 /// Returns a text of the loan `txn` at a desk of the role `role`. It differs from the text of any other loan or role.

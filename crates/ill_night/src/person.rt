@@ -1,13 +1,13 @@
-//! The mails of a night that want a person, and the lines about them.
+//! The message files of a night that want a person, and the lines about them.
 
 ghost use Rattle.std.specs.Prelude.{◌≡◌, option_map};
 ghost use Rattle.std.specs.List.{zip};
 ghost use Rattle.ill_values.specs.Body.{body_in};
-ghost use Rattle.ill_night.specs.Mails.{message_in};
+ghost use Rattle.ill_night.specs.MessageFiles.{message_in};
 ghost use Rattle.ill_night.specs.Person.{conflict_in, conflict_of, delay_matter, is_never_in_conflict, matter_of, wants_person};
 
 use crate::message::message_in;
-use crate::verdict::{Delay, Mail, Unfit, Verdict, push_unfit};
+use crate::verdict::{Delay, MessageFile, Unfit, Verdict, push_unfit};
 use ill_core::Taking;
 use ill_der::BodyView;
 use ill_saved::Role;
@@ -18,39 +18,39 @@ use ill_words::{DeskOutcome, Outcome};
 use std::alloc::Global;
 use std::io::Write;
 
-/// The reason why a mail wants a person.
+/// The reason why a message file wants a person.
 #[derive(Clone, Copy, Debug, PartialEq, Eq, Hash)]
 pub(crate) enum Matter {
-    /// The mail was put aside.
-    Aside,
-    /// The mail cannot be read.
+    /// The message file was quarantined.
+    Quarantined,
+    /// The message file cannot be read.
     NotRead,
-    /// The mail is the record of a desk.
+    /// The message file is the record of a desk.
     Record,
     /// A requester's desk has no such loan.
     NoSuchTransaction,
-    /// The desk has no room for the loan of the mail.
+    /// The desk has no room for the loan of the message file.
     DeskFull,
-    /// The message of the mail is in conflict, which no loss, delay or repeat of mail explains.
+    /// The message of the message file is in conflict, which no loss, delay or repeat of message files explains.
     Conflict,
 }
 
 impl Matter {
-    /// Returns the matter of `mail`, by its verdict at the role `role`, if it wants a person.
-    fn of(role: Role, mail: &Mail, verdict: Verdict) -> Option<Matter>
-        ensures { result ≡ matter_of role mail.now verdict }
+    /// Returns the matter of `message_file`, by its verdict at the role `role`, if it wants a person.
+    fn of(role: Role, message_file: &MessageFile, verdict: Verdict) -> Option<Matter>
+        ensures { result ≡ matter_of role message_file.now verdict }
     {
         match verdict {
-            Verdict::Aside(_) => Some(Matter::Aside),
-            Verdict::Left(delay) => Some(Matter::of_delay(delay)),
+            Verdict::Quarantined(_) => Some(Matter::Quarantined),
+            Verdict::Deferred(delay) => Some(Matter::of_delay(delay)),
             Verdict::Done(DeskOutcome::Plain(Outcome::Answered(Taking::Conflict(_)))) => {
-                Matter::of_conflict(role, mail)
+                Matter::of_conflict(role, message_file)
             }
             Verdict::Done(_) => None,
         }
     }
 
-    /// Returns the matter of a mail that waits.
+    /// Returns the matter of a message file that waits.
     fn of_delay(delay: Delay) -> Matter
         ensures { result ≡ delay_matter delay }
     {
@@ -62,11 +62,11 @@ impl Matter {
         }
     }
 
-    /// Returns the matter of a mail whose message was in conflict, if it should never be in conflict.
-    fn of_conflict(role: Role, mail: &Mail) -> Option<Matter>
-        ensures { result ≡ conflict_in role (option_map (λ bytes. bytes.items) mail.now.bytes) }
+    /// Returns the matter of a message file whose message was in conflict, if it should never be in conflict.
+    fn of_conflict(role: Role, message_file: &MessageFile) -> Option<Matter>
+        ensures { result ≡ conflict_in role (option_map (λ bytes. bytes.items) message_file.now.bytes) }
     {
-        match &mail.bytes {
+        match &message_file.bytes {
             Some(bytes) => Matter::of_conflicting(role, bytes),
             None => None,
         }
@@ -85,7 +85,7 @@ impl Matter {
     /// Returns the text for a person.
     fn text(self) -> &'static str {
         match self {
-            Matter::Aside => "put aside",
+            Matter::Quarantined => "put aside",
             Matter::NotRead => "stays: not read; look at its name, its permissions and its disk",
             Matter::Record => "stays: it is the record of a desk; look if IN is the right folder",
             Matter::NoSuchTransaction => {
@@ -114,53 +114,57 @@ fn is_never_in_conflict(role: Role, body: &BodyView<'_>) -> bool
     }
 }
 
-/// Returns true if one of `mails` wants a person, by its verdict at the role `role`.
-pub fn wants_person(role: Role, mails: &[Mail], verdicts: &[Verdict]) -> bool
-    ensures { result ≡ wants_person role (zip mails.now verdicts.now) }
+/// Returns true if one of `message_files` wants a person, by its verdict at the role `role`.
+pub fn wants_person(role: Role, message_files: &[MessageFile], verdicts: &[Verdict]) -> bool
+    ensures { result ≡ wants_person role (zip message_files.now verdicts.now) }
 {
-    mails.iter().zip(verdicts).any(|(mail, verdict)| Matter::of(role, mail, *verdict).is_some())
+    message_files.iter().zip(verdicts).any(|(message_file, verdict)| Matter::of(
+        role,
+        message_file,
+        *verdict,
+    ).is_some())
 }
 
-/// Writes a line to `errors` for each of `mails` that wants a person. It has the mail, the matter, and what the
-/// person may do. A line that cannot be written is left out.
-pub fn tell_person<E: Write>(
+/// Writes a line to `errors` for each of `message_files` that wants a person. It has the message file, the matter, and
+/// what the person may do. A line that cannot be written is left out.
+pub fn print_for_person<E: Write>(
     alloc: Global,
     role: Role,
-    mails: &[Mail],
+    message_files: &[MessageFile],
     verdicts: &[Verdict],
     errors: &mut E,
 ) {
-    for (mail, verdict) in mails.iter().zip(verdicts) {
-        if let Some(matter) = Matter::of(role, mail, *verdict) {
+    for (message_file, verdict) in message_files.iter().zip(verdicts) {
+        if let Some(matter) = Matter::of(role, message_file, *verdict) {
             let mut line = Vec::new(alloc);
-            if push_matter(&mut line, mail, *verdict, matter).is_ok() {
+            if push_matter(&mut line, message_file, *verdict, matter).is_ok() {
                 let _ = errors.write_all(&line);
             }
         }
     }
 }
 
-/// Appends the line of a mail that wants a person.
+/// Appends the line of a message file that wants a person.
 fn push_matter(
     line: &mut Vec<u8>,
-    mail: &Mail,
+    message_file: &MessageFile,
     verdict: Verdict,
     matter: Matter,
 ) -> Result<(), OutOfMemory> {
-    push_name(line, &mail.name)?;
+    push_name(line, &message_file.name)?;
     line.extend_from_slice(b": ")?;
-    push_what(line, mail)?;
+    push_what(line, message_file)?;
     line.extend_from_slice(matter.text().as_bytes())?;
-    if let Verdict::Aside(unfit) = verdict {
-        push_place(line, mail, unfit)?;
+    if let Verdict::Quarantined(unfit) = verdict {
+        push_place(line, message_file, unfit)?;
     }
     line.push(b'\n')?;
     Ok(())
 }
 
-/// Appends the heading of the message of a mail, if it has a message.
-fn push_what(line: &mut Vec<u8>, mail: &Mail) -> Result<(), OutOfMemory> {
-    let Some(bytes) = &mail.bytes else {
+/// Appends the heading of the message of a message file, if it has a message.
+fn push_what(line: &mut Vec<u8>, message_file: &MessageFile) -> Result<(), OutOfMemory> {
+    let Some(bytes) = &message_file.bytes else {
         return Ok(());
     };
     match message_in(bytes) {
@@ -169,9 +173,13 @@ fn push_what(line: &mut Vec<u8>, mail: &Mail) -> Result<(), OutOfMemory> {
     }
 }
 
-/// Appends the digest that names a mail that was put aside, and the reason.
-fn push_place(line: &mut Vec<u8>, mail: &Mail, unfit: Unfit) -> Result<(), OutOfMemory> {
-    let digest = mail.digest(*line.allocator())?;
+/// Appends the digest that names a message file that was quarantined, and the reason.
+fn push_place(
+    line: &mut Vec<u8>,
+    message_file: &MessageFile,
+    unfit: Unfit,
+) -> Result<(), OutOfMemory> {
+    let digest = message_file.digest(*line.allocator())?;
     line.extend_from_slice(b" as ")?;
     line.extend_from_slice(digest.as_bytes())?;
     line.extend_from_slice(b": ")?;

@@ -1,8 +1,8 @@
-//! The verdict of a mail, and its line.
+//! The verdict of a message file, and its line.
 
 ghost use Rattle.std.specs.Prelude.{◌≡◌, ◌++◌, codes, OnOk};
 ghost use Rattle.ill_night.specs.declared.verdict.Unfit.TheVariants as unfits;
-ghost use Rattle.ill_night.specs.Mails.{begins_as_record, verdict_of, verdict_unread, verdict_without_message};
+ghost use Rattle.ill_night.specs.MessageFiles.{begins_as_record, verdict_of, verdict_unread, verdict_without_message};
 ghost use Rattle.ill_night.specs.Lines.{delay_text, der_word, place_text, stays_line, unfit_text, verdict_line};
 
 use ill_core::Refusal;
@@ -16,10 +16,10 @@ use itoa::Buffer;
 use sha2::{Digest, Sha256};
 use std::alloc::Global;
 
-/// A mail: a file in a folder, which should have one message. If a run takes sealed letters, each message in a letter is a
-/// mail of its own.
+/// A message file: a file in a folder, which should have one message. If a run takes sealed letters, each message in a
+/// letter is a message file of its own.
 #[derive(Drop)]
-pub struct Mail {
+pub struct MessageFile {
     /// The name of the file.
     pub name: Vec<u8>,
     /// Its bytes, or the first ones if it has more than a message. None if it cannot be read, or is no sealed letter.
@@ -28,10 +28,10 @@ pub struct Mail {
     pub letter: Option<InLetter>,
 }
 
-/// The letter that a mail is in.
+/// The letter that a message file is in.
 #[derive(Clone, Copy, Debug, PartialEq, Eq)]
 pub struct InLetter {
-    /// The number of the letter in the run. All mails of a letter have it, and no others.
+    /// The number of the letter in the run. All message files of a letter have it, and no others.
     pub number: usize,
     /// The SHA-256 digest of the bytes that were read of the letter.
     pub digest: [u8; 32],
@@ -39,18 +39,18 @@ pub struct InLetter {
     pub is_sealed: bool,
 }
 
-/// The mails of a run.
+/// The message files of a run.
 #[derive(Clone, Copy)]
 pub struct Batch<'a> {
-    /// The mails that the run takes, in this order.
-    pub mails: &'a [Mail],
-    /// The number of further mails, which wait for the next run.
+    /// The message files that the run takes, in this order.
+    pub message_files: &'a [MessageFile],
+    /// The number of further message files, which wait for the next run.
     pub waiting: usize,
-    /// The form in which the run is told.
+    /// The form in which the run is printed.
     pub form: Form,
 }
 
-impl Mail {
+impl MessageFile {
     /// Returns the digest of the bytes that were read of its file, in hexadecimal.
     pub fn digest(&self, alloc: Global) -> Result<String, OutOfMemory> {
         if let Some(letter) = &self.letter {
@@ -64,80 +64,80 @@ impl Mail {
     }
 }
 
-/// The reason why no desk will ever take a mail.
+/// The reason why no desk will ever take a message file.
 #[derive(Clone, Copy, Debug, PartialEq, Eq, Hash)]
 pub enum Unfit {
-    /// The bytes of the mail are no message.
+    /// The bytes of the message file are no message.
     NoMessage(DerFault),
-    /// The mail has more bytes than a message.
+    /// The message file has more bytes than a message.
     TooLong,
-    /// The mail has further bytes after its message.
+    /// The message file has further bytes after its message.
     Trailing,
-    /// The mail is no letter that the other library has sealed with the key of the run.
+    /// The message file is no letter that the other library has sealed with the key of the run.
     NotSealed,
-    /// The desk refuses the message of the mail for good.
+    /// The desk refuses the message of the message file for good.
     Refused(Refusal),
 }
 
-/// The reason why a mail waits for the next run.
+/// The reason why a message file waits for the next run.
 #[derive(Clone, Copy, Debug, PartialEq, Eq, Hash)]
 pub enum Delay {
-    /// The mail cannot be read.
+    /// The message file cannot be read.
     NotRead,
-    /// The mail begins as the record of a desk does, and came into the folder by mistake.
+    /// The message file begins as the record of a desk does, and came into the folder by mistake.
     Record,
-    /// The desk has not begun the loan of the mail's message.
+    /// The desk has not begun the loan of the message file's message.
     NoSuchTransaction,
-    /// The desk has no room for the loan of the mail's message.
+    /// The desk has no room for the loan of the message file's message.
     DeskFull,
 }
 
-/// The verdict of a mail.
+/// The verdict of a message file.
 #[derive(Clone, Copy, Debug, PartialEq, Eq, Hash)]
 pub enum Verdict {
-    /// The desk will do nothing more with the mail. Its file may be removed.
+    /// The desk will do nothing more with the message file. Its file may be removed.
     Done(DeskOutcome),
-    /// The mail is put aside, for a person.
-    Aside(Unfit),
-    /// The mail waits in its folder for the next run.
-    Left(Delay),
+    /// The message file is quarantined, for a person.
+    Quarantined(Unfit),
+    /// The message file waits in its folder for the next run.
+    Deferred(Delay),
 }
 
 impl Verdict {
-    /// Returns the verdict of a mail, by the role of the desk and the outcome of its message.
+    /// Returns the verdict of a message file, by the role of the desk and the outcome of its message.
     pub fn of(role: Role, outcome: DeskOutcome) -> Verdict
         ensures { result ≡ verdict_of role outcome }
     {
         match outcome {
             DeskOutcome::Plain(Outcome::Refused(refusal)) => {
-                Verdict::Aside(Unfit::Refused(refusal))
+                Verdict::Quarantined(Unfit::Refused(refusal))
             }
             DeskOutcome::NoSuchTransaction if role == Role::Requester => {
-                Verdict::Left(Delay::NoSuchTransaction)
+                Verdict::Deferred(Delay::NoSuchTransaction)
             }
-            DeskOutcome::DeskFull => Verdict::Left(Delay::DeskFull),
+            DeskOutcome::DeskFull => Verdict::Deferred(Delay::DeskFull),
             outcome => Verdict::Done(outcome),
         }
     }
 
-    /// Returns the verdict of a mail without bytes, by the letter that it is in.
+    /// Returns the verdict of a message file without bytes, by the letter that it is in.
     pub fn unread(letter: Option<InLetter>) -> Verdict
         ensures { result ≡ verdict_unread letter }
     {
         match letter {
-            Some(letter) if !letter.is_sealed => Verdict::Aside(Unfit::NotSealed),
-            _ => Verdict::Left(Delay::NotRead),
+            Some(letter) if !letter.is_sealed => Verdict::Quarantined(Unfit::NotSealed),
+            _ => Verdict::Deferred(Delay::NotRead),
         }
     }
 
-    /// Returns the verdict of a mail whose `bytes` have no message, for the reason `unfit`.
+    /// Returns the verdict of a message file whose `bytes` have no message, for the reason `unfit`.
     pub fn without_message(bytes: &[u8], unfit: Unfit) -> Verdict
         ensures { result ≡ verdict_without_message bytes.now unfit }
     {
         if is_record(bytes) {
-            Verdict::Left(Delay::Record)
+            Verdict::Deferred(Delay::Record)
         } else {
-            Verdict::Aside(unfit)
+            Verdict::Quarantined(unfit)
         }
     }
 }
@@ -149,19 +149,19 @@ pub fn is_record(bytes: &[u8]) -> bool
     bytes.starts_with(b"ILL1") || bytes.starts_with(b"ILL2")
 }
 
-/// Appends the line of the mail `name`. A mail that is done has none.
+/// Appends the line of the message file `name`. A message file that is done has none.
 pub fn push_verdict(lines: &mut Vec<u8>, name: &[u8], verdict: Verdict) -> Result<(), OutOfMemory>
     ensures { OnOk result (lines.new.items ≡ lines.old.items ++ verdict_line name.now verdict) }
 {
     match verdict {
         Verdict::Done(_) => Ok(()),
-        Verdict::Aside(unfit) => push_aside(lines, name, unfit),
-        Verdict::Left(delay) => push_left(lines, name, delay),
+        Verdict::Quarantined(unfit) => push_quarantined(lines, name, unfit),
+        Verdict::Deferred(delay) => push_left(lines, name, delay),
     }
 }
 
-/// Appends the line of the mail `name`, which is put aside.
-fn push_aside(lines: &mut Vec<u8>, name: &[u8], unfit: Unfit) -> Result<(), OutOfMemory>
+/// Appends the line of the message file `name`, which is quarantined.
+fn push_quarantined(lines: &mut Vec<u8>, name: &[u8], unfit: Unfit) -> Result<(), OutOfMemory>
     ensures { OnOk result (lines.new.items ≡ lines.old.items
         ++ stays_line name.now (codes " aside ") (unfit_text unfit)) }
 {
@@ -172,7 +172,7 @@ fn push_aside(lines: &mut Vec<u8>, name: &[u8], unfit: Unfit) -> Result<(), OutO
     Ok(())
 }
 
-/// Appends the line of the mail `name`, which waits in its folder.
+/// Appends the line of the message file `name`, which waits in its folder.
 fn push_left(lines: &mut Vec<u8>, name: &[u8], delay: Delay) -> Result<(), OutOfMemory>
     ensures { OnOk result (lines.new.items ≡ lines.old.items
         ++ stays_line name.now (codes " left ") (delay_text delay)) }
@@ -184,7 +184,7 @@ fn push_left(lines: &mut Vec<u8>, name: &[u8], delay: Delay) -> Result<(), OutOf
     Ok(())
 }
 
-/// Returns the word of the reason why a mail waits.
+/// Returns the word of the reason why a message file waits.
 pub fn delay_word(delay: Delay) -> &'static str
     ensures { result.now ≡ delay_text delay }
 {
@@ -196,7 +196,7 @@ pub fn delay_word(delay: Delay) -> &'static str
     }
 }
 
-/// Appends the reason why no desk will ever take a mail.
+/// Appends the reason why no desk will ever take a message file.
 pub fn push_unfit(text: &mut Vec<u8>, unfit: Unfit) -> Result<(), OutOfMemory>
     ensures { OnOk result (text.new.items ≡ text.old.items ++ unfit_text unfit) }
 {
@@ -219,7 +219,7 @@ fn push_word(text: &mut Vec<u8>, word: &str) -> Result<(), OutOfMemory>
     Ok(())
 }
 
-/// Appends the word of a fault in the bytes of a mail, and its place.
+/// Appends the word of a fault in the bytes of a message file, and its place.
 fn push_der_fault(text: &mut Vec<u8>, fault: DerFault) -> Result<(), OutOfMemory>
     ensures { OnOk result (text.new.items ≡ text.old.items ++ unfit_text (unfits.NoMessage fault)) }
 {
@@ -227,7 +227,7 @@ fn push_der_fault(text: &mut Vec<u8>, fault: DerFault) -> Result<(), OutOfMemory
     push_place(text, fault.at())
 }
 
-/// Returns the word of a fault in the bytes of a mail.
+/// Returns the word of a fault in the bytes of a message file.
 fn der_word(fault: DerFault) -> &'static str
     ensures { result.now ≡ der_word fault }
 {

@@ -1,4 +1,4 @@
--- Proves which loans ask in a night: those that are over, and of which a mail came.
+-- Proves which loans ask in a night: those that are over, and of which a message file came.
 use Rattle.std.proofs.Common.{◌≡◌, ℕ, Bool, true, false, not, ◌||◌, cond, if◌then◌else◌, List, [], ◌∷◌, ◌++◌, length, nat_lt}
 use Rattle.std.proofs.Common.{Option}
 use Rattle.std.proofs.Common.{Some, None, option_map, Result, Ok, Err, refl, sym, ap, ◌∙◌, subst, true≢false, append_assoc}
@@ -26,18 +26,19 @@ use Rattle.ill_record.proofs.Finding.{apart_back, same_is, same_self}
 use Rattle.ill_saved.proofs.Contents.{side_of_held}
 use Rattle.ill_text.specs.Input.{AreIn}
 use Rattle.ill_words.specs.Sending.{is_over}
-use Rattle.ill_night.specs.declared.verdict.Mail.{Mail}
+use Rattle.ill_night.specs.declared.verdict.MessageFile.{MessageFile}
 use Rattle.ill_night.specs.declared.verdict.Unfit.{Unfit}
 use Rattle.ill_night.specs.declared.verdict.Unfit.TheVariants as unfits
 use Rattle.ill_night.specs.declared.verdict.Verdict.{Verdict}
-use Rattle.ill_night.specs.declared.verdict.Verdict.TheVariants.{Aside, Done, Left}
-use Rattle.ill_night.specs.Mails.{message_in, one_message}
-use Rattle.ill_night.specs.Outbox.{asked_by, asking_bytes, asking_bytes_if_read, asking_bytes_of_mail, is_asked, is_held_over}
-use Rattle.ill_runs.specs.Mail.{message_if, message_if_read, message_of}
+use Rattle.ill_night.specs.declared.verdict.Verdict.TheVariants.{Quarantined, Done, Deferred}
+use Rattle.ill_night.specs.MessageFiles.{message_in, one_message}
+use Rattle.ill_night.specs.Outbox.{asked_by, asking_bytes, asking_bytes_if_read, asking_bytes_of_message_file, is_asked}
+use Rattle.ill_night.specs.Outbox.{is_held_over}
+use Rattle.ill_runs.specs.MessageFile.{message_if, message_if_read, message_of}
 use Rattle.ill_nights.specs.Messages.{messages_for}
 use Rattle.ill_nights.specs.Nights.{AreBytes, AreDone, IsBytesOf, IsDone, messages_of}
 
--- ---- the message of a mail
+-- ---- the message of a message file
 
 -- This law is assumed: bytes begin with the one message that `apdu_at` finds, or with none.
 abbrev pub PrefixOrFault : Type 0
@@ -53,17 +54,17 @@ one_found a (Ok (b, [])) is = let same : b ≡ a = cc in ap (λ (c : Apdu). Ok (
 one_found a (Ok (b, byte ∷ rest)) is = absurd cc
 one_found a (Err fault) is = absurd cc
 
--- If a mail is just one message, its bytes are read as it, with nothing after it.
-mail_found : (a : Apdu) (is_long : Bool) (result : Result (Apdu × List ℕ) DerFault)
+-- If a message file is just one message, its bytes are read as it, with nothing after it.
+message_file_found : (a : Apdu) (is_long : Bool) (result : Result (Apdu × List ℕ) DerFault)
     → (if is_long then Err unfits.TooLong else one_message result) ≡ Ok a → result ≡ Ok (a, [])
-mail_found a true result is = absurd cc
-mail_found a false result is = one_found a result is
+message_file_found a true result is = absurd cc
+message_file_found a false result is = one_found a result is
 
--- The bytes of a mail that is just one message are the encoding of the message.
-mail_encodes : PrefixOrFault → (bytes : List ℕ) (a : Apdu) → IsBytes bytes → message_in bytes ≡ Ok a
+-- The bytes of a message file that is just one message are the encoding of the message.
+message_file_encodes : PrefixOrFault → (bytes : List ℕ) (a : Apdu) → IsBytes bytes → message_in bytes ≡ Ok a
     → IsApdu a × (bytes ≡ encoding a ++ [])
-mail_encodes prefix bytes a are is =
-    (subst (BeginsWithOne bytes) (mail_found a (nat_lt 359 (length bytes)) (apdu_at bytes) is) (prefix bytes are)).0
+message_file_encodes prefix bytes a are is =
+    (subst (BeginsWithOne bytes) (message_file_found a (nat_lt 359 (length bytes)) (apdu_at bytes) is) (prefix bytes are)).0
 
 -- ---- one reading
 
@@ -102,28 +103,28 @@ one_reading again (a ∷ apdus) (b ∷ asking) rest new all encoded parts leaves
     ap (λ (c : Apdu). c ∷ asking) (sym same)
     ∙ ap (λ apdus. a ∷ apdus) (one_reading again apdus asking rest new all.1 encoded.1 more leaves)
 
--- ---- the mails that ask
+-- ---- the message files that ask
 
 module _ (live : DeskContents) where
   -- Returns true if the loan of a message is held at the desk and is over.
   abbrev of_over : Apdu → Bool
   of_over a = is_held_over (side_with a.txn (sides_held live).sides)
 
-  -- Returns the messages of a mail that ask. If the desk has not done with the mail, none does.
-  abbrev asks_of : Mail → Verdict → List Apdu
-  asks_of mail (Done outcome) = filter of_over (message_of mail)
-  asks_of mail verdict = []
+  -- Returns the messages of a message file that ask. If the desk has not done with the message file, none does.
+  abbrev asks_of : MessageFile → Verdict → List Apdu
+  asks_of message_file (Done outcome) = filter of_over (message_of message_file)
+  asks_of message_file verdict = []
 
-  -- Returns the messages of all mails that ask.
-  abbrev asks_all : List Mail → List Verdict → List Apdu
-  asks_all mails verdicts = flat_map (λ mail. asks_of mail.0 mail.1) (zip mails verdicts)
+  -- Returns the messages of all message files that ask.
+  abbrev asks_all : List MessageFile → List Verdict → List Apdu
+  asks_all message_files verdicts = flat_map (λ message_file. asks_of message_file.0 message_file.1) (zip message_files verdicts)
 
   -- `bytes` are the encodings of `apdus`, which are in range.
   abbrev Encode : List ℕ → List Apdu → Type 0
   Encode bytes apdus = (bytes ≡ flat_map encoding apdus) × AllByRecursion IsApdu apdus
 
   module _ (prefix : PrefixOrFault) where
-    -- The bytes of a mail that ask are the encoding of its message, if the message asks. If not, they are none.
+    -- The bytes of a message file that ask are the encoding of its message, if the message asks. If not, they are none.
     found_encodes : (bytes : List ℕ) (found : Result Apdu Unfit) → IsBytes bytes → message_in bytes ≡ found
         → Encode (asking_bytes live bytes found) (filter of_over (message_if found))
     found_encodes bytes (Err unfit) are is = (refl, tt)
@@ -131,36 +132,38 @@ module _ (live : DeskContents) where
       where
         -- If the loan of the message is over, its bytes ask; if not, none do.
         go : (over : Bool) → Encode (if over then bytes else []) (cond over (a ∷ []) [])
-        go true = let encodes = mail_encodes prefix bytes a are is in (encodes.1, (encodes.0, tt))
+        go true = let encodes = message_file_encodes prefix bytes a are is in (encodes.1, (encodes.0, tt))
         go false = (refl, tt)
 
-    -- If a mail could be read, its bytes that ask are the encoding of its message, if the message asks. If it could not
-    -- be read, no bytes ask.
+    -- If a message file could be read, its bytes that ask are the encoding of its message, if the message asks. If it
+    -- could not be read, no bytes ask.
     read_encodes : (bytes : Option (List ℕ)) → IsBytesOf bytes
         → Encode (asking_bytes_if_read live bytes) (filter of_over (message_if_read bytes))
     read_encodes None are = (refl, tt)
     read_encodes (Some bytes) are = found_encodes bytes (message_in bytes) are refl
 
-    -- The bytes of a mail that ask, by its verdict, are the encoding of its message, if the message asks.
-    mail_encodes_asks : (mail : Mail) (verdict : Verdict) → IsBytesOf (option_map (λ bytes. bytes.items) mail.bytes)
-        → Encode (asking_bytes_of_mail live mail verdict) (asks_of mail verdict)
-    mail_encodes_asks mail (Done outcome) are = read_encodes (option_map (λ bytes. bytes.items) mail.bytes) are
-    mail_encodes_asks mail (Aside unfit) are = (refl, tt)
-    mail_encodes_asks mail (Left delay) are = (refl, tt)
+    -- The bytes of a message file that ask, by its verdict, are the encoding of its message, if the message asks.
+    message_file_encodes_asks : (message_file : MessageFile) (verdict : Verdict)
+        → IsBytesOf (option_map (λ bytes. bytes.items) message_file.bytes)
+        → Encode (asking_bytes_of_message_file live message_file verdict) (asks_of message_file verdict)
+    message_file_encodes_asks message_file (Done outcome) are =
+        read_encodes (option_map (λ bytes. bytes.items) message_file.bytes) are
+    message_file_encodes_asks message_file (Quarantined unfit) are = (refl, tt)
+    message_file_encodes_asks message_file (Deferred delay) are = (refl, tt)
 
-    -- The bytes of all mails that ask are the encodings of the messages that ask.
-    all_encode : (mails : List Mail) (verdicts : List Verdict) → AreBytes mails
-        → Encode (asked_by live (zip mails verdicts)) (asks_all mails verdicts)
+    -- The bytes of all message files that ask are the encodings of the messages that ask.
+    all_encode : (message_files : List MessageFile) (verdicts : List Verdict) → AreBytes message_files
+        → Encode (asked_by live (zip message_files verdicts)) (asks_all message_files verdicts)
     unfolding Each
     all_encode [] verdicts are = (refl, tt)
-    all_encode (mail ∷ mails) [] are = (refl, tt)
-    all_encode (mail ∷ mails) (verdict ∷ verdicts) are =
-        let first = mail_encodes_asks mail verdict are.0 in
-        let more = all_encode mails verdicts are.1 in (
-          ap (λ bytes. bytes ++ asked_by live (zip mails verdicts)) first.0
-              ∙ ap (λ bytes. flat_map encoding (asks_of mail verdict) ++ bytes) more.0
-              ∙ sym (flat_map-append encoding (asks_of mail verdict) (asks_all mails verdicts)),
-          all_join (asks_of mail verdict) (asks_all mails verdicts) first.1 more.1,
+    all_encode (message_file ∷ message_files) [] are = (refl, tt)
+    all_encode (message_file ∷ message_files) (verdict ∷ verdicts) are =
+        let first = message_file_encodes_asks message_file verdict are.0 in
+        let more = all_encode message_files verdicts are.1 in (
+          ap (λ bytes. bytes ++ asked_by live (zip message_files verdicts)) first.0
+              ∙ ap (λ bytes. flat_map encoding (asks_of message_file verdict) ++ bytes) more.0
+              ∙ sym (flat_map-append encoding (asks_of message_file verdict) (asks_all message_files verdicts)),
+          all_join (asks_of message_file verdict) (asks_all message_files verdicts) first.1 more.1,
         )
 
   -- ---- the transactions that ask
@@ -205,13 +208,14 @@ module _ (live : DeskContents) where
     nothing_in [] none = refl
     nothing_in (a ∷ apdus) none = absurd none.0
 
-    -- A mail has no message of `txn` that asks just if it has no message of `txn`. Premise: the desk has done with the
-    -- mail if it has one.
-    mail_asks : (mail : Mail) (verdict : Verdict) → Each (λ a. IsDone verdict) (messages_for txn (message_of mail))
-        → not (list_any is_its (asks_of mail verdict)) ≡ is_none (messages_for txn (message_of mail))
-    mail_asks mail (Done outcome) done = done_ask (message_of mail)
-    mail_asks mail (Aside unfit) done = nothing_in (messages_for txn (message_of mail)) done
-    mail_asks mail (Left delay) done = nothing_in (messages_for txn (message_of mail)) done
+    -- A message file has no message of `txn` that asks just if it has no message of `txn`. Premise: the desk has done
+    -- with the message file if it has one.
+    message_file_asks : (message_file : MessageFile) (verdict : Verdict)
+        → Each (λ a. IsDone verdict) (messages_for txn (message_of message_file))
+        → not (list_any is_its (asks_of message_file verdict)) ≡ is_none (messages_for txn (message_of message_file))
+    message_file_asks message_file (Done outcome) done = done_ask (message_of message_file)
+    message_file_asks message_file (Quarantined unfit) done = nothing_in (messages_for txn (message_of message_file)) done
+    message_file_asks message_file (Deferred delay) done = nothing_in (messages_for txn (message_of message_file)) done
 
     -- The join of two lists is empty just if both lists are empty.
     both_none : (apdus more : List Apdu) → is_none (apdus ++ more) ≡ not (not (is_none apdus) || not (is_none more))
@@ -225,37 +229,39 @@ module _ (live : DeskContents) where
     twice false = refl
 
     -- Without a verdict no message asks.
-    none_left : (mails : List Mail) → not (list_any is_its (asks_all mails [])) ≡ true
+    none_left : (message_files : List MessageFile) → not (list_any is_its (asks_all message_files [])) ≡ true
     none_left [] = refl
-    none_left (mail ∷ mails) = refl
+    none_left (message_file ∷ message_files) = refl
 
-    -- Mails have no message of `txn` that asks just if they have no message of `txn`. Premise: the desk has done with
-    -- each mail that has one.
-    mails_ask : (mails : List Mail) (verdicts : List Verdict) → AreDone txn mails verdicts
-        → not (list_any is_its (asks_all mails verdicts)) ≡ is_none (messages_for txn (messages_of mails))
-    mails_ask [] verdicts done = refl
-    mails_ask (mail ∷ mails) verdicts done = go (mails_ask mails) verdicts done
+    -- Message files have no message of `txn` that asks just if they have no message of `txn`. Premise: the desk has
+    -- done with each message file that has one.
+    message_files_ask : (message_files : List MessageFile) (verdicts : List Verdict) → AreDone txn message_files verdicts
+        → not (list_any is_its (asks_all message_files verdicts)) ≡ is_none (messages_for txn (messages_of message_files))
+    message_files_ask [] verdicts done = refl
+    message_files_ask (message_file ∷ message_files) verdicts done = go (message_files_ask message_files) verdicts done
       where
-        -- The messages of `txn` in all mails are those of the first, and then those of the others.
-        parts : messages_for txn (messages_of (mail ∷ mails))
-            ≡ messages_for txn (message_of mail) ++ messages_for txn (messages_of mails)
-        parts = filter-append (λ (a : Apdu). is_same_txn txn a.txn) (message_of mail) (messages_of mails)
+        -- The messages of `txn` in all message files are those of the first, and then those of the others.
+        parts : messages_for txn (messages_of (message_file ∷ message_files))
+            ≡ messages_for txn (message_of message_file) ++ messages_for txn (messages_of message_files)
+        parts = filter-append (λ (a : Apdu). is_same_txn txn a.txn) (message_of message_file) (messages_of message_files)
 
-        -- A mail without a verdict has no message of `txn` (`done`).
-        go : ((verdicts : List Verdict) → AreDone txn mails verdicts
-            → not (list_any is_its (asks_all mails verdicts)) ≡ is_none (messages_for txn (messages_of mails)))
-            → (verdicts : List Verdict) → AreDone txn (mail ∷ mails) verdicts
-            → not (list_any is_its (asks_all (mail ∷ mails) verdicts)) ≡ is_none (messages_for txn (messages_of (mail ∷ mails)))
+        -- A message file without a verdict has no message of `txn` (`done`).
+        go : ((verdicts : List Verdict) → AreDone txn message_files verdicts
+            → not (list_any is_its (asks_all message_files verdicts)) ≡ is_none (messages_for txn (messages_of message_files)))
+            → (verdicts : List Verdict) → AreDone txn (message_file ∷ message_files) verdicts
+            → not (list_any is_its (asks_all (message_file ∷ message_files) verdicts))
+            ≡ is_none (messages_for txn (messages_of (message_file ∷ message_files)))
         go further [] done =
-            sym (none_left mails) ∙ further [] done.1
-            ∙ ap (λ apdus. is_none (apdus ++ messages_for txn (messages_of mails))) (sym done.0) ∙ ap is_none (sym parts)
+            sym (none_left message_files) ∙ further [] done.1
+            ∙ ap (λ apdus. is_none (apdus ++ messages_for txn (messages_of message_files))) (sym done.0) ∙ ap is_none (sym parts)
         go further (verdict ∷ verdicts) done =
-            ap not (list_any-append is_its (asks_of mail verdict) (asks_all mails verdicts)
-            ∙ ap (λ b. b || list_any is_its (asks_all mails verdicts))
-            (sym (twice (list_any is_its (asks_of mail verdict))) ∙ ap not (mail_asks mail verdict done.0))
-            ∙ ap (λ b. not (is_none (messages_for txn (message_of mail))) || b)
-            (sym (twice (list_any is_its (asks_all mails verdicts))) ∙ ap not (further verdicts done.1)))
-            ∙ sym (both_none (messages_for txn (message_of mail)) (messages_for txn (messages_of mails)))
+            ap not (list_any-append is_its (asks_of message_file verdict) (asks_all message_files verdicts)
+            ∙ ap (λ b. b || list_any is_its (asks_all message_files verdicts))
+            (sym (twice (list_any is_its (asks_of message_file verdict)))
+            ∙ ap not (message_file_asks message_file verdict done.0))
+            ∙ ap (λ b. not (is_none (messages_for txn (message_of message_file))) || b)
+            (sym (twice (list_any is_its (asks_all message_files verdicts))) ∙ ap not (further verdicts done.1)))
+            ∙ sym (both_none (messages_for txn (message_of message_file)) (messages_for txn (messages_of message_files)))
             ∙ ap is_none (sym parts)
 
 -- If the loan of `txn` is over at a responder's desk, each message of `txn` is of a loan that is held there and over.
@@ -275,15 +281,17 @@ held_over live role txn over a same =
     go (Some side) is = shown (Some side) is
     go None is = absurd (true≢false (sym (ap (λ r. is_over (idle_side r txn)) (sym role) ∙ shown None is)))
 
--- At a responder's desk a message of `txn` asks just if the mails have one. Premises: the loan of `txn` is over there,
--- and each mail with a message of `txn` is done with. `asking` are the messages that ask.
+-- At a responder's desk a message of `txn` asks just if the message files have one. Premises: the loan of `txn` is over
+-- there, and each message file with a message of `txn` is done with. `asking` are the messages that ask.
 pub asks_right : PrefixOrFault → ReadsAgain → (live : DeskContents) → live.role ≡ who.Responder → (txn : Qualifiers)
-    (mails : List Mail) (verdicts : List Verdict) (asking : List Apdu) → AreBytes mails → AreDone txn mails verdicts
-    → AreIn (asked_by live (zip mails verdicts)) asking → is_over (held_for txn live).side ≡ true
-    → not (is_asked asking txn) ≡ is_none (messages_for txn (messages_of mails))
-asks_right prefix again live role txn mails verdicts asking are done came over =
-    let encodes = all_encode live prefix mails verdicts are in
-    let same : asking ≡ asks_all live mails verdicts =
-    one_reading again (asks_all live mails verdicts) asking came.1.0 came.0 encodes.1 came.1.1.encoded
+    (message_files : List MessageFile) (verdicts : List Verdict) (asking : List Apdu) → AreBytes message_files
+    → AreDone txn message_files verdicts
+    → AreIn (asked_by live (zip message_files verdicts)) asking → is_over (held_for txn live).side ≡ true
+    → not (is_asked asking txn) ≡ is_none (messages_for txn (messages_of message_files))
+asks_right prefix again live role txn message_files verdicts asking are done came over =
+    let encodes = all_encode live prefix message_files verdicts are in
+    let same : asking ≡ asks_all live message_files verdicts =
+    one_reading again (asks_all live message_files verdicts) asking came.1.0 came.0 encodes.1 came.1.1.encoded
     (sym encodes.0 ∙ came.1.1.parts) came.1.2 in
-    ap (λ apdus. not (is_asked apdus txn)) same ∙ mails_ask live txn (held_over live role txn over) mails verdicts done
+    ap (λ apdus. not (is_asked apdus txn)) same
+    ∙ message_files_ask live txn (held_over live role txn over) message_files verdicts done

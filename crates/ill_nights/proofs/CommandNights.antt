@@ -1,4 +1,4 @@
--- Proves that a good night of commands leads both sides of a transaction in step or to rest, in the files.
+-- Proves that a good night of commands brings both sides of a transaction to convergence or to rest, in the files.
 use Rattle.std.proofs.Common.{◌≡◌, inl, inr, Bool, true, false, not, ◌&&◌, if◌then◌else◌, List, [], ◌∷◌, Option, Some, Result}
 use Rattle.std.proofs.Common.{Ok, Err, length, map, refl, sym, ap, ◌∙◌, subst}
 use Rattle.std.specs.List.{list_all, zip}
@@ -22,12 +22,12 @@ use Rattle.ill_text.specs.declared.fault.ToolFault.{ToolFault}
 use Rattle.ill_text.specs.Input.{AreIn}
 use Rattle.ill_words.specs.Sending.{is_over, wants_sending}
 use Rattle.ill_words.proofs.SendingLemmas.{open_wants}
-use Rattle.ill_desk.specs.Performing.{CommandState, HeldAndLanded}
+use Rattle.ill_desk.specs.Performing.{CommandState, HeldAndCommitted}
 use Rattle.ill_text.specs.declared.form.Form.{Form}
-use Rattle.ill_night.specs.declared.verdict.Mail.{Mail}
+use Rattle.ill_night.specs.declared.verdict.MessageFile.{MessageFile}
 use Rattle.ill_night.specs.declared.verdict.Verdict.{Verdict}
 use Rattle.ill_night.specs.Outbox.{Issue, asked_by, is_asked, leaving_desk}
-use Rattle.ill_mail.specs.Nights.{AskedNight, Night, ExchangesAt, PerformsDueDeeds, SettlesRun, TakesMails, night_asks}
+use Rattle.ill_exchange.specs.Nights.{AskedNight, Night, ExchangesAt, PerformsDueDeeds, SettlesRun, TakesMessageFiles, night_asks}
 use Rattle.ill_world.specs.declared.event.Event.{Event}
 use Rattle.ill_world.specs.declared.event.Event.TheVariants as events
 use Rattle.ill_world.specs.declared.event.DeskEvent.{DeskEvent}
@@ -36,7 +36,7 @@ use Rattle.ill_world.specs.World.{Party, Parties, party, happens, run_of}
 use Rattle.ill_world.specs.Desks.{DeskParty, DeskParties, desks_happen, desks_run, project}
 use Rattle.ill_world.specs.DeskSafety.{DesksInvariant}
 use Rattle.ill_world.specs.Invariant.{Invariant, RequesterSideInvariant}
-use Rattle.ill_world.specs.Night.{asks, AreInStepOrAtRest}
+use Rattle.ill_world.specs.Night.{asks, AreConvergedOrAtRest}
 use Rattle.ill_world.specs.Round.{CanAnswer}
 use Rattle.ill_world.proofs.Desks.{EachProjects, EachStands, desks_stand_on}
 use Rattle.ill_world.proofs.DeskArrivals.{EachReaches}
@@ -47,18 +47,18 @@ use Rattle.ill_world.proofs.Rounds.{takes_all}
 use Rattle.ill_progress.specs.NightWithPeople.{is_by_responder, asked_and_worked, worked_night_of}
 use Rattle.ill_runs.specs.Events.{IsReadAs}
 use Rattle.ill_runs.specs.Libraries.{AreAt, Commands, IsAt, IsHistory, LeadsTo, Libraries, Library, libraries_after}
-use Rattle.ill_runs.specs.Mail.{Bring, IsOneOf, WasSent, mails_of, mails_taken}
+use Rattle.ill_runs.specs.MessageFile.{Bring, IsOneOf, WasSent, message_files_of, message_files_taken}
 use Rattle.ill_runs.proofs.BadLibraries.{read_once}
 use Rattle.ill_runs.proofs.LibraryLemmas.{brought, events_there}
-use Rattle.ill_nights.specs.Messages.{InStepOrAtRest, after_deeds_of, messages_for, sent_by}
-use Rattle.ill_nights.specs.Nights.{AreBytes, AreDone, AreInStepIn, CanAnswerIn, IsGoodNight, IsNight}
+use Rattle.ill_nights.specs.Messages.{ConvergedOrAtRest, after_deeds_of, messages_for, sent_by}
+use Rattle.ill_nights.specs.Nights.{AreBytes, AreDone, AreConvergedIn, CanAnswerIn, IsGoodNight, IsNight}
 use Rattle.ill_nights.specs.Nights.{IsWhole, LeftOf, TakesAll, TookOf, by_inbox, by_night, messages_came, messages_of}
 use Rattle.ill_nights.specs.Nights.{messages_of_all}
 use Rattle.ill_nights.specs.Nights.{verdicts_of}
 use Rattle.ill_nights.proofs.Askings.{PrefixOrFault, ReadsAgain, asks_right}
 use Rattle.ill_nights.proofs.Leavings.{outbox_leaves}
-use Rattle.ill_nights.proofs.SideNights.{sides_in_step, takes_messages}
-use Rattle.ill_nights.proofs.Stages.{Reached, ReachedByDeeds, deeds_reach, mails_reach, starts_from}
+use Rattle.ill_nights.proofs.SideNights.{sides_converged, takes_messages}
+use Rattle.ill_nights.proofs.Stages.{Reached, ReachedByDeeds, deeds_reach, message_files_reach, starts_from}
 use Rattle.ill_nights.proofs.Takings.{EachChanges}
 
 -- ---- a requester's side
@@ -115,17 +115,18 @@ asked_alike x y was_asked right = go (is_over y) refl
 
 -- ---- one command of a night
 
--- The mails of a night are those that were taken.
-night_mails : (form : Form) (old met : CommandState DeskContents) (night : Night) (taken : TakesMails form old (Ok night) met)
-    → night.mails ≡ mails_taken taken
-night_mails form old met night (inl failed) = absurd failed.0.0
-night_mails form old met night (inr took) = go took.2 took.4
+-- The message files of a night are those that were taken.
+night_message_files : (form : Form) (old met : CommandState DeskContents) (night : Night)
+    (taken : TakesMessageFiles form old (Ok night) met)
+    → night.message_files ≡ message_files_taken taken
+night_message_files form old met night (inl failed) = absurd failed.0.0
+night_message_files form old met night (inr took) = go took.2 took.4
   where
     -- Only an inbox that succeeded settles to a night.
-    go : (answer : Result (List Verdict) ToolFault) → SettlesRun took.0 took.1 answer (Ok night) → night.mails ≡ took.0
+    go : (answer : Result (List Verdict) ToolFault) → SettlesRun took.0 took.1 answer (Ok night) → night.message_files ≡ took.0
     go (Ok verdicts) settles = elim settles [
-      | inl is ↦ (let same : night ≡ record { verdicts = verdicts; mails = took.0; waiting = took.1 } = cc in
-          ap (λ (n : Night). n.mails) same)
+      | inl is ↦ (let same : night ≡ record { verdicts = verdicts; message_files = took.0; waiting = took.1 } = cc in
+          ap (λ (n : Night). n.message_files) same)
       | inr failed ↦ absurd failed
     ]
     go (Err fault) settles = absurd cc
@@ -139,71 +140,74 @@ responders_role who.Requester w stands is = absurd cc
 module _ (projects : EachProjects) (reaches : EachReaches) (stand : EachStands) (changes : EachChanges)
     (prefix : PrefixOrFault) (again : ReadsAgain) (txn : Qualifiers) where
   -- A command at `p` took the messages `came`. The file of the library `after` can then be read. Its side of `txn` is
-  -- the landed side of `p`, after the messages of `txn` among `came` and after `deeds`.
+  -- the committed side of `p`, after the messages of `txn` among `came` and after `deeds`.
   pub record Took (p : DeskParty) (after : Library) (came : List Apdu) : Type 0 where
     held : SidesOf
     file : records_at after.file ≡ Ok held
     deeds : List (Deed × Date)
-    side : side_for txn held ≡ after_deeds_of (takes_all (side_for txn p.landed) (messages_for txn came)) deeds
+    side : side_for txn held ≡ after_deeds_of (takes_all (side_for txn p.committed) (messages_for txn came)) deeds
 
-  -- If a command reached `desk`, whose landed record is its file, the file can be read. Its side of `txn` has taken
+  -- If a command reached `desk`, whose committed record is its file, the file can be read. Its side of `txn` has taken
   -- `came`, and then done the deeds.
   reached_took : (role : Role) (w : DeskParties) (after : Library) (came : List Apdu) (side : Side)
-      (desk : HeldAndLanded DeskContents)
+      (desk : HeldAndCommitted DeskContents)
       → (reached : ReachedByDeeds projects reaches stand changes txn role w desk side)
-      → side ≡ takes_all (side_for txn (party w role).landed) (messages_for txn came)
-      → desk.landed ≡ Some (Some after.file) → Took (party w role) after came
+      → side ≡ takes_all (side_for txn (party w role).committed) (messages_for txn came)
+      → desk.committed ≡ Some (Some after.file) → Took (party w role) after came
   reached_took role w after came side desk by_deeds is content =
       let reached = by_deeds.reached in
-      let held : SidesOf = (party reached.now role).landed in
+      let held : SidesOf = (party reached.now role).committed in
       record {
         held = held;
-        file = subst (λ c. IsReadAs c held) content reached.at.landed;
+        file = subst (λ c. IsReadAs c held) content reached.at.committed;
         deeds = by_deeds.deeds;
-        side = ap (λ (p : Party). p.landed) (sym (shown txn reached.now role)) ∙ reached.landed
+        side = ap (λ (p : Party). p.committed) (sym (shown txn reached.now role)) ∙ reached.committed
             ∙ ap (λ s. after_deeds_of s by_deeds.deeds) is;
       }
 
-  -- A night took `mails`. The messages of `txn` among `left` are all that its side sends. A message of `txn` asks just
-  -- if `mails` have one (`right`). Premises: the loan is over for a responder, and each mail of `txn` was done with.
-  pub record Sent (role : Role) (p : DeskParty) (after : Library) (mails : List Mail) (verdicts : List Verdict)
+  -- A night took `message_files`. The messages of `txn` among `left` are all that its side sends. A message of `txn`
+  -- asks just if `message_files` have one (`right`). Premises: the loan is over for a responder, and each message file
+  -- of `txn` was done with.
+  pub record Sent (role : Role) (p : DeskParty) (after : Library) (message_files : List MessageFile) (verdicts : List Verdict)
       (left asking : List Apdu) : Type 0 where
-    took : Took p after (messages_of mails)
+    took : Took p after (messages_of message_files)
     left_all : messages_for txn left ≡ sent_by (is_asked asking txn) (side_for txn took.held)
-    right : role ≡ who.Responder → AreBytes mails → AreDone txn mails verdicts → is_over (side_for txn took.held) ≡ true
-        → not (is_asked asking txn) ≡ is_none (messages_for txn (messages_of mails))
+    right : role ≡ who.Responder → AreBytes message_files → AreDone txn message_files verdicts
+        → is_over (side_for txn took.held) ≡ true
+        → not (is_asked asking txn) ≡ is_none (messages_for txn (messages_of message_files))
 
   module _ (role : Role) (w : DeskParties) (stands : DesksInvariant w) (others : List Apdu)
       (were : Each (WasSent (party w (other role)).sent) others) (before after : Library) (at : IsAt before (party w role)) where
-    -- The landed side of `txn` at the desk of `role`.
-    abbrev landed : Side
-    landed = side_for txn (party w role).landed
+    -- The committed side of `txn` at the desk of `role`.
+    abbrev committed : Side
+    committed = side_for txn (party w role).committed
 
-    -- If an inbox succeeds (`night`), its file has the landed side of `txn` after the messages of its mails.
+    -- If an inbox succeeds (`night`), its file has the committed side of `txn` after the messages of its message files.
     inbox_took : (form : Form) (old new : CommandState DeskContents) (result : Result Night ToolFault) (night : Night)
         → result ≡ Ok night
-        → Reached projects reaches stand changes txn role w old.desk landed → (taken : TakesMails form old result new)
-        → Bring (IsOneOf others) (mails_taken taken) → new.desk.landed ≡ Some (Some after.file)
-        → Took (party w role) after (messages_of (mails_taken taken))
+        → Reached projects reaches stand changes txn role w old.desk committed → (taken : TakesMessageFiles form old result new)
+        → Bring (IsOneOf others) (message_files_taken taken) → new.desk.committed ≡ Some (Some after.file)
+        → Took (party w role) after (messages_of (message_files_taken taken))
     unfolding after_deeds_of
     inbox_took form old new (Ok some) night is start taken bring content =
-        let came : List Apdu = messages_of (mails_taken taken) in
-        let side : Side = takes_all landed (messages_for txn came) in
+        let came : List Apdu = messages_of (message_files_taken taken) in
+        let side : Side = takes_all committed (messages_for txn came) in
         reached_took role w after came side new.desk (record {
           deeds = [];
-          reached = mails_reach projects reaches stand changes txn role w form old new some landed start taken
-              (brought (party w (other role)).sent others were (mails_taken taken) bring);
+          reached = message_files_reach projects reaches stand changes txn role w form old new some committed start taken
+              (brought (party w (other role)).sent others were (message_files_taken taken) bring);
         }) refl content
     inbox_took form old new (Err fault) night is start taken bring content = absurd cc
 
     -- A night reached `desk`, with the side of its file. If `left` is all that leaves `desk`, `Sent` holds of it.
-    outbox_sent : (mails : List Mail) (night : Night) (asking left : List Apdu) → night.mails ≡ mails
-        → (took : Took (party w role) after (messages_of mails)) (desk : HeldAndLanded DeskContents) (side : Side)
+    outbox_sent : (message_files : List MessageFile) (night : Night) (asking left : List Apdu)
+        → night.message_files ≡ message_files
+        → (took : Took (party w role) after (messages_of message_files)) (desk : HeldAndCommitted DeskContents) (side : Side)
         (reached : Reached projects reaches stand changes txn role w desk side) → side ≡ side_for txn took.held
         → AreIn (night_asks desk.live night) asking
         → left ≡ map (λ (issue : Issue). issue.apdu) (leaving_desk asking desk.live.held)
-        → Sent role (party w role) after mails night.verdicts left asking
-    outbox_sent mails night asking left are took desk side reached is asks leave =
+        → Sent role (party w role) after message_files night.verdicts left asking
+    outbox_sent message_files night asking left are took desk side reached is asks leave =
         let now : DeskParties = reached.now in
         let p : DeskParty = party now role in
         let held_is : (held_for txn p.live).side ≡ side =
@@ -211,8 +215,8 @@ module _ (projects : EachProjects) (reaches : EachReaches) (stand : EachStands) 
         let all : (held_for txn p.live).released ≡ length (issued_of (held_for txn p.live).side) =
         ap (λ (q : Party). q.released) (sym (shown txn now role)) ∙ reached.released
         ∙ ap (λ s. length (issued_of s)) (sym held_is) in
-        let came : AreIn (asked_by p.live (zip mails night.verdicts)) asking =
-        subst (λ l. AreIn (asked_by l (zip mails night.verdicts)) asking) reached.at.live
+        let came : AreIn (asked_by p.live (zip message_files night.verdicts)) asking =
+        subst (λ l. AreIn (asked_by l (zip message_files night.verdicts)) asking) reached.at.live
         (subst (λ m. AreIn (asked_by desk.live (zip m night.verdicts)) asking) are asks) in
         record {
           took = took;
@@ -222,34 +226,36 @@ module _ (projects : EachProjects) (reaches : EachReaches) (stand : EachStands) 
               ∙ outbox_leaves now role reached.stands txn asking all
               ∙ ap (λ s. sent_by (is_asked asking txn) s) (held_is ∙ is);
           right = λ responder bytes done over.
-              asks_right prefix again p.live (responders_role role now reached.stands responder) txn mails night.verdicts asking
+              asks_right prefix again p.live (responders_role role now reached.stands responder) txn message_files night.verdicts
+              asking
               bytes done came (ap is_over (held_is ∙ is) ∙ over);
         }
 
-    -- The mails led to `met`, and the due deeds then to `rested`. If `left` is all that leaves there, `Sent` holds of
-    -- it.
-    rest_sent : (mails : List Mail) (asking left : List Apdu) (asked : AskedNight) (night : Night)
-        → night.mails ≡ mails → (met rested : CommandState DeskContents) (done : Unit {0})
-        → Reached projects reaches stand changes txn role w met.desk (takes_all landed (messages_for txn (messages_of mails)))
+    -- The message files led to `met`, and the due deeds then to `rested`. If `left` is all that leaves there, `Sent`
+    -- holds of it.
+    rest_sent : (message_files : List MessageFile) (asking left : List Apdu) (asked : AskedNight) (night : Night)
+        → night.message_files ≡ message_files → (met rested : CommandState DeskContents) (done : Unit {0})
+        → Reached projects reaches stand changes txn role w met.desk
+        (takes_all committed (messages_for txn (messages_of message_files)))
         → PerformsDueDeeds asked.form asked.dates met (Ok done) rested → AreIn (night_asks rested.desk.live night) asking
         → left ≡ map (λ (issue : Issue). issue.apdu) (leaving_desk asking rested.desk.live.held)
-        → rested.desk.landed ≡ Some (Some after.file) → Sent role (party w role) after mails night.verdicts left asking
+        → rested.desk.committed ≡ Some (Some after.file) → Sent role (party w role) after message_files night.verdicts left asking
     unfolding reached_took
-    rest_sent mails asking left asked night are met rested done start deeds asks leave content =
-        let side : Side = takes_all landed (messages_for txn (messages_of mails)) in
+    rest_sent message_files asking left asked night are met rested done start deeds asks leave content =
+        let side : Side = takes_all committed (messages_for txn (messages_of message_files)) in
         let by_deeds = deeds_reach projects reaches stand changes txn role w asked.form asked.dates met rested done side start
         deeds in
-        let took = reached_took role w after (messages_of mails) side rested.desk by_deeds refl content in
-        outbox_sent mails night asking left are took rested.desk (after_deeds_of side by_deeds.deeds) by_deeds.reached
+        let took = reached_took role w after (messages_of message_files) side rested.desk by_deeds refl content in
+        outbox_sent message_files night asking left are took rested.desk (after_deeds_of side by_deeds.deeds) by_deeds.reached
         (sym took.side) asks leave
 
-    -- If a night is whole, and its file is what landed, `Sent` holds of its mails, verdicts and messages. Each case but
-    -- the last is of a night that is not whole.
+    -- If a night is whole, and its file is what is committed, `Sent` holds of its message files, verdicts and messages.
+    -- Each case but the last is of a night that is not whole.
     exchange_sent : (asking left : List Apdu) (asked : AskedNight) (old new : CommandState DeskContents)
-        (result : Result Bool ToolFault) → Reached projects reaches stand changes txn role w old.desk landed
-        → (exchange : ExchangesAt asked old result new) → Bring (IsOneOf others) (mails_of asked exchange)
-        → IsWhole asked exchange asking left → new.desk.landed ≡ Some (Some after.file)
-        → Sent role (party w role) after (mails_of asked exchange) (verdicts_of asked exchange) left asking
+        (result : Result Bool ToolFault) → Reached projects reaches stand changes txn role w old.desk committed
+        → (exchange : ExchangesAt asked old result new) → Bring (IsOneOf others) (message_files_of asked exchange)
+        → IsWhole asked exchange asking left → new.desk.committed ≡ Some (Some after.file)
+        → Sent role (party w role) after (message_files_of asked exchange) (verdicts_of asked exchange) left asking
     exchange_sent asking left asked old new result start (met, Err fault, taken, ends) bring whole content = absurd whole
     exchange_sent asking left asked old new result start (met, Ok night, taken, (rested, Err fault, deeds, sends, same)) bring
         whole content = absurd whole
@@ -258,31 +264,32 @@ module _ (projects : EachProjects) (reaches : EachReaches) (stand : EachStands) 
     exchange_sent asking left asked old new result start
         (met, Ok night, taken, (rested, Ok done, deeds, inr (sent, inl failed, ends), same)) bring whole content = absurd whole
     exchange_sent asking left asked old new result start
-        (met, Ok night, taken, (rested, Ok done, deeds, inr (sent, inr (said, are, told), ends), same)) bring whole content =
-        rest_sent (mails_taken taken) asking left asked night (night_mails asked.form old met night taken) met rested done
-        (mails_reach projects reaches stand changes txn role w asked.form old met night landed start taken
-        (brought (party w (other role)).sent others were (mails_taken taken) bring))
+        (met, Ok night, taken, (rested, Ok done, deeds, inr (sent, inr (said, are, printed), ends), same)) bring whole content =
+        rest_sent (message_files_taken taken) asking left asked night (night_message_files asked.form old met night taken) met
+        rested done
+        (message_files_reach projects reaches stand changes txn role w asked.form old met night committed start taken
+        (brought (party w (other role)).sent others were (message_files_taken taken) bring))
         deeds (subst (AreIn (night_asks rested.desk.live night)) whole.0 are) whole.1
-        (ap (λ (d : HeldAndLanded DeskContents). d.landed) (sym same) ∙ content)
+        (ap (λ (d : HeldAndCommitted DeskContents). d.committed) (sym same) ∙ content)
 
     -- A whole night from `before` to `after` takes what came, and sends all of the side of `txn`, or none.
     pub night_sent : (night : IsNight others before after)
-        → Sent role (party w role) after (mails_of night.command.runs.0 night.command.runs.2)
+        → Sent role (party w role) after (message_files_of night.command.runs.0 night.command.runs.2)
         (verdicts_of night.command.runs.0 night.command.runs.2) night.command.leaving night.asking
     night_sent night =
         let command = night.command in
         exchange_sent night.asking command.leaving command.runs.0 command.old command.new command.runs.1
         (starts_from projects reaches stand changes txn role w stands before command.old.desk at command.starts)
-        command.runs.2 command.runs.3 night.whole command.landed
+        command.runs.2 command.runs.3 night.whole command.committed
 
-    -- A library that takes all its mail, by `inbox` or in a whole night, takes what came.
+    -- A library that takes all its message files, by `inbox` or in a whole night, takes what came.
     pub all_took : (takes : TakesAll others before after) → Took (party w role) after (messages_of_all takes)
     all_took (by_night night) = (night_sent night).took
     all_took (by_inbox inbox) =
         let command = inbox.command in
         inbox_took command.runs.0 command.old command.new command.runs.1 inbox.night inbox.taken
         (starts_from projects reaches stand changes txn role w stands before command.old.desk at command.starts)
-        command.runs.2 command.runs.3 command.landed
+        command.runs.2 command.runs.3 command.committed
 
   -- ---- what a night does to a loan
 
@@ -300,7 +307,7 @@ module _ (projects : EachProjects) (reaches : EachReaches) (stand : EachStands) 
       → (takes : TakesAll others before after) → TookOf txn before after (messages_of_all takes)
   took_of role w stands others were before after at takes =
       let took = all_took role w stands others were before after at takes in
-      let old : SidesOf = (party w role).landed in (
+      let old : SidesOf = (party w role).committed in (
         old,
         took.held,
         took.deeds,
@@ -317,18 +324,18 @@ module _ (projects : EachProjects) (reaches : EachReaches) (stand : EachStands) 
   module _ (after_event : (w : Parties) (event : Event) → Invariant txn w → Invariant txn (happens w event).1)
       (enough : (w : Parties) (people : List Event) → Invariant txn w → list_all is_by_responder people ≡ true
       → CanAnswer (run_of w (asked_and_worked people w)).responder.live
-      → AreInStepOrAtRest (run_of w (worked_night_of people w)))
+      → AreConvergedOrAtRest (run_of w (worked_night_of people w)))
       (leads : (role : Role) (w : DeskParties) → DesksInvariant w → (others : List Apdu) (before after : Library)
       → Each (WasSent (party w (other role)).sent) others → IsAt before (party w role) → Commands others before after
       → LeadsTo role w after)
       (follows : (w : DeskParties) (now : Libraries) (later : List Libraries) → DesksInvariant w → AreAt now w
       → IsHistory now later → (events : List DeskEvent) × AreAt (libraries_after now later) (desks_run w events)) where
-    -- If both desks restart, a night from their landed sides ends in step or at rest. `answers` is the responder's side
-    -- after the requester's messages and `deeds`.
+    -- If both desks restart, a night from their committed sides ends converged or at rest. `answers` is the responder's
+    -- side after the requester's messages and `deeds`.
     restarted_step : (w : DeskParties) → DesksInvariant w → (deeds : List (Deed × Date))
-        → let x = side_for txn w.requester.landed in
-        let answers = after_deeds_of (takes_all (side_for txn w.responder.landed) (sent_by false x)) deeds in
-        CanAnswer answers → InStepOrAtRest (takes_all x (sent_by (asks x) answers)) answers
+        → let x = side_for txn w.requester.committed in
+        let answers = after_deeds_of (takes_all (side_for txn w.responder.committed) (sent_by false x)) deeds in
+        CanAnswer answers → ConvergedOrAtRest (takes_all x (sent_by (asks x) answers)) answers
     restarted_step w stands deeds =
         let one : DeskParties = (desks_happen w (Restart who.Requester)).1 in
         let both : DeskParties = (desks_happen one (Restart who.Responder)).1 in
@@ -340,19 +347,19 @@ module _ (projects : EachProjects) (reaches : EachReaches) (stand : EachStands) 
         second ∙ ap (λ (v : Parties). (happens v (events.Restart who.Responder)).1) first in
         let stands_both = (stand one (Restart who.Responder) stands_one).each txn in
         subst (λ (v : Parties). Ends v.requester.live v.responder.live) shows
-        (sides_in_step txn after_event (project txn both) stands_both deeds
+        (sides_converged txn after_event (project txn both) stands_both deeds
         (λ people. enough (project txn both) people stands_both))
       where
         -- States the conclusion for the requester's side `x` and the responder's side `y`.
         Ends : Side → Side → Type 0
         Ends x y =
             let answers = after_deeds_of (takes_all y (sent_by false x)) deeds in
-            CanAnswer answers → InStepOrAtRest (takes_all x (sent_by (asks x) answers)) answers
+            CanAnswer answers → ConvergedOrAtRest (takes_all x (sent_by (asks x) answers)) answers
 
-    -- After a good night the sides of `txn` in both files are in step or at rest. The world is `one` after the
+    -- After a good night the sides of `txn` in both files are converged or at rest. The world is `one` after the
     -- requester's night, and `two` after the work of people.
     pub good_night : (w : DeskParties) → DesksInvariant w → (before after : Libraries) → AreAt before w
-        → (good : IsGoodNight txn before after) → CanAnswerIn txn after.responder → AreInStepIn txn after
+        → (good : IsGoodNight txn before after) → CanAnswerIn txn after.responder → AreConvergedIn txn after
     good_night w stands before after at good can =
         let asked : Library = good.asked in
         let leads_one = leads who.Requester w stands before.responder.left before.requester asked at.responder.left
@@ -371,9 +378,9 @@ module _ (projects : EachProjects) (reaches : EachReaches) (stand : EachStands) 
       where
         -- The responder's night leads from `two` to `three`. The requester then takes the answers.
         answered : (two : DeskParties) → DesksInvariant two → AreAt good.met two
-            → Sent who.Requester w.requester good.asked (mails_of good.asks.command.runs.0 good.asks.command.runs.2)
+            → Sent who.Requester w.requester good.asked (message_files_of good.asks.command.runs.0 good.asks.command.runs.2)
             (verdicts_of good.asks.command.runs.0 good.asks.command.runs.2) good.asks.command.leaving good.asks.asking
-            → AreInStepIn txn after
+            → AreConvergedIn txn after
         answered two stands_two met_at first =
             let met : Libraries = good.met in
             let leads_three = leads who.Responder two stands_two met.requester.left met.responder after.responder
@@ -389,27 +396,27 @@ module _ (projects : EachProjects) (reaches : EachReaches) (stand : EachStands) 
             ends two stands_two three still first second third
             (ap (λ (library : Library). records_at library.file) (sym good.people.requester) ∙ met_at.requester.file)
           where
-            -- The sides `x` and `y` are in step or at rest.
+            -- The sides `x` and `y` are converged or at rest.
             Ends : Side → Side → Type 0
-            Ends x y = InStepOrAtRest x y
+            Ends x y = ConvergedOrAtRest x y
 
             -- By what the three commands took and sent, the files have the sides of `restarted_step`.
             ends : (one : DeskParties) → DesksInvariant one → (two : DeskParties) → two.requester ≡ one.requester
-                → Sent who.Requester w.requester good.asked (mails_of good.asks.command.runs.0 good.asks.command.runs.2)
+                → Sent who.Requester w.requester good.asked (message_files_of good.asks.command.runs.0 good.asks.command.runs.2)
                 (verdicts_of good.asks.command.runs.0 good.asks.command.runs.2) good.asks.command.leaving good.asks.asking
                 → Sent who.Responder one.responder after.responder
-                (mails_of good.answers.command.runs.0 good.answers.command.runs.2)
+                (message_files_of good.answers.command.runs.0 good.answers.command.runs.2)
                 (verdicts_of good.answers.command.runs.0 good.answers.command.runs.2) good.answers.command.leaving
                 good.answers.asking
                 → Took two.requester after.requester (messages_of_all good.takes)
-                → records_at good.asked.file ≡ Ok one.requester.landed → AreInStepIn txn after
+                → records_at good.asked.file ≡ Ok one.requester.committed → AreConvergedIn txn after
             ends one stands_one two still first second third file =
-                let x : Side = side_for txn one.requester.landed in
-                let y : Side = side_for txn one.responder.landed in
+                let x : Side = side_for txn one.requester.committed in
+                let y : Side = side_for txn one.responder.committed in
                 let is_requester : RequesterSideInvariant txn x (project txn one).responder.sent =
-                (stands_one.each txn).requester.landed in
+                (stands_one.each txn).requester.committed in
                 let first_held : side_for txn first.took.held ≡ x =
-                ap (side_for txn) (read_once (records_at good.asked.file) first.took.held one.requester.landed first.took.file
+                ap (side_for txn) (read_once (records_at good.asked.file) first.took.held one.requester.committed first.took.file
                 file) in
                 let there : messages_for txn (messages_came good.answers) ≡ sent_by false x =
                 good.there ∙ first.left_all ∙ ap (sent_by (is_asked good.asks.asking txn)) first_held
@@ -424,12 +431,12 @@ module _ (projects : EachProjects) (reaches : EachReaches) (stand : EachStands) 
                 ∙ asked_alike x answers (is_asked good.answers.asking txn) right in
                 let taken : side_for txn third.held ≡ takes_all x (sent_by (asks x) answers) =
                 third.side
-                ∙ ap (λ (p : DeskParty). after_deeds_of (takes_all (side_for txn p.landed)
+                ∙ ap (λ (p : DeskParty). after_deeds_of (takes_all (side_for txn p.committed)
                 (messages_for txn (messages_of_all good.takes))) third.deeds) still
                 ∙ taken_undone txn x (project txn one).responder.sent (messages_for txn (messages_of_all good.takes)) third.deeds
                 is_requester
                 ∙ ap (takes_all x) back in
-                let step : InStepOrAtRest (takes_all x (sent_by (asks x) answers)) answers =
+                let step : ConvergedOrAtRest (takes_all x (sent_by (asks x) answers)) answers =
                 restarted_step one stands_one second.took.deeds
                 (subst CanAnswer answers_is (can second.took.held second.took.file)) in (
                   third.held,

@@ -1,4 +1,4 @@
--- Proves which two sides a night in which people act leads to, and that these are in step or at rest.
+-- Proves which two sides a night in which people act leads to, and that these are converged or at rest.
 use Rattle.std.proofs.Common.{◌≡◌, Bool, true, false, List, [], ◌∷◌, ◌++◌, map, Result, Ok, Err}
 use Rattle.std.proofs.Common.{if◌then◌else◌, refl, sym, ap, ◌∙◌, subst}
 use Rattle.std.specs.List.{list_all}
@@ -17,12 +17,12 @@ use Rattle.ill_world.specs.declared.event.Event.TheVariants as events
 use Rattle.ill_world.specs.World.{Party, Parties, decides, happens, run_by, run_of}
 use Rattle.ill_world.specs.Invariant.{Invariant}
 use Rattle.ill_world.specs.Round.{CanAnswer}
-use Rattle.ill_world.specs.Night.{asks, half_if, AreInStepOrAtRest}
+use Rattle.ill_world.specs.Night.{asks, half_if, AreConvergedOrAtRest}
 use Rattle.ill_world.proofs.Rounds.{takes_all, half_passes}
 use Rattle.ill_world.proofs.Runs.{run_both, run_one, run_stands}
 use Rattle.ill_progress.specs.NightWithPeople.{is_by_responder, asked_and_worked, answering_half, worked_night_of}
 use Rattle.ill_progress.proofs.EndsNumbers.{requester_few, responder_few}
-use Rattle.ill_nights.specs.Messages.{InStepOrAtRest, after_deeds_of, after_messages, decided, sent_by}
+use Rattle.ill_nights.specs.Messages.{ConvergedOrAtRest, after_deeds_of, after_messages, decided, sent_by}
 
 -- ---- deeds, one after another
 
@@ -150,13 +150,13 @@ module _ (txn : Qualifiers) (after : (w : Parties) (event : Event) → Invariant
           ap (λ (v : Parties). v.responder.live) whole ∙ second.0 ∙ now_is.1,
         )
 
-    -- If a night with any deeds of people is enough (first premise), this one is. So the sides of `morning_is` are in
-    -- step or at rest.
-    pub sides_in_step : ((people : List Event) → list_all is_by_responder people ≡ true
+    -- If a night with any deeds of people is enough (first premise), this one is. So the sides of `morning_is` are
+    -- converged or at rest.
+    pub sides_converged : ((people : List Event) → list_all is_by_responder people ≡ true
         → CanAnswer (run_of w (asked_and_worked people w)).responder.live
-        → AreInStepOrAtRest (run_of w (worked_night_of people w))) → CanAnswer answers
-        → InStepOrAtRest (takes_all w.requester.live (sent_by (asks w.requester.live) answers)) answers
-    sides_in_step night can =
-        subst (λ (s : Side). InStepOrAtRest s answers) morning_is.0
-        (subst (λ (s : Side). InStepOrAtRest morning.requester.live s) morning_is.1
+        → AreConvergedOrAtRest (run_of w (worked_night_of people w))) → CanAnswer answers
+        → ConvergedOrAtRest (takes_all w.requester.live (sent_by (asks w.requester.live) answers)) answers
+    sides_converged night can =
+        subst (λ (s : Side). ConvergedOrAtRest s answers) morning_is.0
+        (subst (λ (s : Side). ConvergedOrAtRest morning.requester.live s) morning_is.1
         (night people (deeds_are_by deeds) (subst CanAnswer (sym now_is.1) can)))

@@ -1,4 +1,5 @@
--- Proves to which side of a transaction the parts of a night lead: the start, the mails, and the deeds of the day.
+-- Proves to which side of a transaction the parts of a night lead: the start, the message files, and the deeds of the
+-- day.
 use Rattle.std.proofs.Common.{rules, ◌≡◌, inl, inr, Bool, true, false, if◌then◌else◌, List, [], ◌∷◌, ◌++◌, length, fold, Option}
 use Rattle.std.proofs.Common.{Some}
 use Rattle.std.proofs.Common.{None, Result, Ok, Err, refl, sym, ap, ◌∙◌, subst}
@@ -17,14 +18,14 @@ use Rattle.ill_record.specs.Sides.{is_same_role}
 use Rattle.ill_saved.specs.Holdings.{IsReadAgain}
 use Rattle.ill_saved.specs.ManySides.{DeskContents, desk_acts, many_sides, side_for, sides_held}
 use Rattle.ill_text.specs.declared.fault.ToolFault.{ToolFault}
-use Rattle.ill_desk.specs.Performing.{CommandState, HeldAndLanded, has_any, saved, with_sides}
+use Rattle.ill_desk.specs.Performing.{CommandState, HeldAndCommitted, has_any, saved, with_sides}
 use Rattle.ill_text.specs.declared.form.Form.{Form}
 use Rattle.ill_night.specs.declared.night.Dates.{Dates}
-use Rattle.ill_night.specs.declared.verdict.Mail.{Mail}
+use Rattle.ill_night.specs.declared.verdict.MessageFile.{MessageFile}
 use Rattle.ill_night.specs.declared.verdict.Verdict.{Verdict}
 use Rattle.ill_inbox.specs.Dates.{Doing, after_act, after_deed, after_deeds, all_due, doing}
-use Rattle.ill_inbox.specs.Inbox.{RunsInbox, after_mails, unsorted}
-use Rattle.ill_mail.specs.Nights.{Night, PerformsDueDeeds, SettlesRun, TakesMails, arrived_in}
+use Rattle.ill_inbox.specs.Inbox.{RunsInbox, after_message_files, unsorted}
+use Rattle.ill_exchange.specs.Nights.{Night, PerformsDueDeeds, SettlesRun, TakesMessageFiles, arrived_in}
 use Rattle.ill_world.specs.declared.event.Event.TheVariants as events
 use Rattle.ill_world.specs.declared.event.DeskEvent.{DeskEvent}
 use Rattle.ill_world.specs.declared.event.DeskEvent.TheVariants as desk_events
@@ -39,30 +40,30 @@ use Rattle.ill_world.proofs.DeskRounds.{shown}
 use Rattle.ill_world.proofs.Rounds.{takes_all}
 use Rattle.ill_runs.specs.Events.{IsDesk}
 use Rattle.ill_runs.specs.Libraries.{IsAt, Library, StartsFrom}
-use Rattle.ill_runs.specs.Mail.{Bring, WasSent, mails_taken}
-use Rattle.ill_runs.proofs.EventLemmas.{landed_again}
+use Rattle.ill_runs.specs.MessageFile.{Bring, WasSent, message_files_taken}
+use Rattle.ill_runs.proofs.EventLemmas.{committed_again}
 use Rattle.ill_runs.proofs.LibraryLemmas.{started}
 use Rattle.ill_nights.specs.Messages.{after_deeds_of, messages_for}
 use Rattle.ill_nights.specs.Nights.{messages_of}
 use Rattle.ill_nights.proofs.Deliveries.{desk_led, other_stays}
 use Rattle.ill_nights.proofs.SideNights.{decides_so, deeds_join}
-use Rattle.ill_nights.proofs.Takings.{EachChanges, Led, mails_led}
+use Rattle.ill_nights.proofs.Takings.{EachChanges, Led, message_files_led}
 
 -- ---- one party after an event of its whole desk
 
--- After a save the live side of a party has landed, and all its messages are released.
-save_lands : (role : Role) (v : Parties) → let new = party (happens v (events.Save role)).1 role in
-    (new.live ≡ (party v role).live) × (new.landed ≡ (party v role).live)
+-- After a save the live side of a party is committed, and all its messages are released.
+save_commits : (role : Role) (v : Parties) → let new = party (happens v (events.Save role)).1 role in
+    (new.live ≡ (party v role).live) × (new.committed ≡ (party v role).live)
     × (new.released ≡ length (issued_of (party v role).live))
-save_lands who.Requester v = (refl, refl, refl)
-save_lands who.Responder v = (refl, refl, refl)
+save_commits who.Requester v = (refl, refl, refl)
+save_commits who.Responder v = (refl, refl, refl)
 
--- After a restart the live side of a party is the one that has landed, and all its messages are released.
-restart_lands : (role : Role) (v : Parties) → let new = party (happens v (events.Restart role)).1 role in
-    (new.live ≡ (party v role).landed) × (new.landed ≡ (party v role).landed)
-    × (new.released ≡ length (issued_of (party v role).landed))
-restart_lands who.Requester v = (refl, refl, refl)
-restart_lands who.Responder v = (refl, refl, refl)
+-- After a restart the live side of a party is the one that is committed, and all its messages are released.
+restart_commits : (role : Role) (v : Parties) → let new = party (happens v (events.Restart role)).1 role in
+    (new.live ≡ (party v role).committed) × (new.committed ≡ (party v role).committed)
+    × (new.released ≡ length (issued_of (party v role).committed))
+restart_commits who.Requester v = (refl, refl, refl)
+restart_commits who.Responder v = (refl, refl, refl)
 
 -- A requester's desk refuses each deed.
 requester_refuses : (live new : DeskContents) (txn : Qualifiers) (deed : Deed) (today : Date) → live.role ≡ who.Requester
@@ -79,45 +80,46 @@ requester_refuses live new txn deed today is done =
 module _ (projects : EachProjects) (reaches : EachReaches) (stand : EachStands) (changes : EachChanges) (txn : Qualifiers)
     (role : Role) where
   -- Events at the desk of `role` lead from `w` to the world `now`, in which this desk is `desk`. The other desk is as
-  -- before. The side of `txn` at `desk` is `side`. It has landed, and all its messages are released.
-  pub record Reached (w : DeskParties) (desk : HeldAndLanded DeskContents) (side : Side) : Type 0 where
+  -- before. The side of `txn` at `desk` is `side`. It is committed, and all its messages are released.
+  pub record Reached (w : DeskParties) (desk : HeldAndCommitted DeskContents) (side : Side) : Type 0 where
     pub now : DeskParties
     pub stands : DesksInvariant now
     pub at : IsDesk desk (party now role)
     pub there : party now (other role) ≡ party w (other role)
     pub live : (party (project txn now) role).live ≡ side
-    pub landed : (party (project txn now) role).landed ≡ side
+    pub committed : (party (project txn now) role).committed ≡ side
     pub released : (party (project txn now) role).released ≡ length (issued_of side)
 
   -- ---- the start
 
   -- If a command at `library` starts from `desk`, a restart of the desk of `role` reaches it. Its side of `txn` is the
-  -- landed one.
-  pub starts_from : (w : DeskParties) → DesksInvariant w → (library : Library) (desk : HeldAndLanded DeskContents)
-      → IsAt library (party w role) → StartsFrom library.file desk → Reached w desk (side_for txn (party w role).landed)
+  -- committed one.
+  pub starts_from : (w : DeskParties) → DesksInvariant w → (library : Library) (desk : HeldAndCommitted DeskContents)
+      → IsAt library (party w role) → StartsFrom library.file desk → Reached w desk (side_for txn (party w role).committed)
   starts_from w stands library desk at starts =
       let p : DeskParty = party w role in
       let next : DeskParties = (desks_happen w (desk_events.Restart role)).1 in
       let here : party next role ≡ desk_restarts p = desk_led role w (desk_restarts p) in
       let seen : project txn next ≡ (happens (project txn w) (events.Restart role)).1 =
       (projects txn w (desk_events.Restart role) stands).1 in
-      let lands = restart_lands role (project txn w) in
-      let side : (party (project txn w) role).landed ≡ side_for txn p.landed = ap (λ (q : Party). q.landed) (shown txn w role) in
+      let commits = restart_commits role (project txn w) in
+      let side : (party (project txn w) role).committed ≡ side_for txn p.committed =
+      ap (λ (q : Party). q.committed) (shown txn w role) in
       record {
         now = next;
         stands = stand w (desk_events.Restart role) stands;
         at = subst (IsDesk desk) (sym here) (started library p desk at starts);
         there = other_stays role w (desk_restarts p);
-        live = ap (λ (v : Parties). (party v role).live) seen ∙ lands.0 ∙ side;
-        landed = ap (λ (v : Parties). (party v role).landed) seen ∙ lands.1 ∙ side;
-        released = ap (λ (v : Parties). (party v role).released) seen ∙ lands.2 ∙ ap (λ s. length (issued_of s)) side;
+        live = ap (λ (v : Parties). (party v role).live) seen ∙ commits.0 ∙ side;
+        committed = ap (λ (v : Parties). (party v role).committed) seen ∙ commits.1 ∙ side;
+        released = ap (λ (v : Parties). (party v role).released) seen ∙ commits.2 ∙ ap (λ s. length (issued_of s)) side;
       }
 
   -- ---- the save after many changes
 
   -- Changes lead from `start` to the world `mid`, with the live side `next`. If `has_changed`, they are saved; if not,
-  -- `txn` is as before. Either way `new` is reached, and `next` has landed.
-  saved_reaches : (w : DeskParties) (old new : HeldAndLanded DeskContents) (side next : Side) (live : DeskContents)
+  -- `txn` is as before. Either way `new` is reached, and `next` is committed.
+  saved_reaches : (w : DeskParties) (old new : HeldAndCommitted DeskContents) (side next : Side) (live : DeskContents)
       (start : Reached w old side) (mid : DeskParties) → DesksInvariant mid
       → party mid role ≡ record (party start.now role) { live = live } → party mid (other role) ≡ party start.now (other role)
       → (party (project txn mid) role).live ≡ next → (has_changed : Bool)
@@ -130,20 +132,20 @@ module _ (projects : EachProjects) (reaches : EachReaches) (stand : EachStands) 
       let at : party end role ≡ desk_saves p = desk_led role mid (desk_saves (party mid role)) ∙ ap desk_saves here in
       let seen : project txn end ≡ (happens (project txn mid) (events.Save role)).1 =
       (projects txn mid (desk_events.Save role) stands).1 in
-      let lands = save_lands role (project txn mid) in
+      let commits = save_commits role (project txn mid) in
       record {
         now = end;
         stands = stand mid (desk_events.Save role) stands;
         at = subst (λ desk. IsDesk desk (party end role)) (sym same) (subst (IsDesk (saved many_sides (with_sides old live)))
             (sym at) (record {
               live = refl;
-              landed = landed_again old.landed (party start.now role).landed live
-                  start.at.landed (again refl);
+              committed = committed_again old.committed (party start.now role).committed live
+                  start.at.committed (again refl);
             }));
         there = other_stays role mid (desk_saves (party mid role)) ∙ there ∙ start.there;
-        live = ap (λ (v : Parties). (party v role).live) seen ∙ lands.0 ∙ leads;
-        landed = ap (λ (v : Parties). (party v role).landed) seen ∙ lands.1 ∙ leads;
-        released = ap (λ (v : Parties). (party v role).released) seen ∙ lands.2 ∙ ap (λ s. length (issued_of s)) leads;
+        live = ap (λ (v : Parties). (party v role).live) seen ∙ commits.0 ∙ leads;
+        committed = ap (λ (v : Parties). (party v role).committed) seen ∙ commits.1 ∙ leads;
+        released = ap (λ (v : Parties). (party v role).released) seen ∙ commits.2 ∙ ap (λ s. length (issued_of s)) leads;
       }
   saved_reaches w old new side next live start mid stands here there leads false quiet same again =
       let kept : project txn mid ≡ project txn start.now = quiet refl in
@@ -153,51 +155,55 @@ module _ (projects : EachProjects) (reaches : EachReaches) (stand : EachStands) 
         now = mid;
         stands = stands;
         at = subst (λ desk. IsDesk desk (party mid role)) (sym same) (subst (IsDesk (with_sides old live)) (sym here)
-            (record { live = refl; landed = start.at.landed }));
+            (record { live = refl; committed = start.at.committed }));
         there = there ∙ start.there;
         live = leads;
-        landed = ap (λ (v : Parties). (party v role).landed) kept ∙ start.landed ∙ one;
+        committed = ap (λ (v : Parties). (party v role).committed) kept ∙ start.committed ∙ one;
         released = ap (λ (v : Parties). (party v role).released) kept ∙ start.released ∙ ap (λ s. length (issued_of s)) one;
       }
 
-  -- ---- the mails
+  -- ---- the message files
 
-  -- If a command took its mails (`taken`), and the other desk sent each of their messages, `met.desk` is reached. Its
-  -- side is `side` after their messages of `txn`, in order.
-  pub mails_reach : (w : DeskParties) (form : Form) (old met : CommandState DeskContents) (night : Night) (side : Side)
-      → Reached w old.desk side → (taken : TakesMails form old (Ok night) met)
-      → Bring (WasSent (party w (other role)).sent) (mails_taken taken)
-      → Reached w met.desk (takes_all side (messages_for txn (messages_of (mails_taken taken))))
-  mails_reach w form old met night side start (inl failed) were = absurd failed.0.0
-  mails_reach w form old met night side start (inr took) were = go took.2 took.3 took.4
+  -- If a command took its message files (`taken`), and the other desk sent each of their messages, `met.desk` is
+  -- reached. Its side is `side` after their messages of `txn`, in order.
+  pub message_files_reach : (w : DeskParties) (form : Form) (old met : CommandState DeskContents) (night : Night) (side : Side)
+      → Reached w old.desk side → (taken : TakesMessageFiles form old (Ok night) met)
+      → Bring (WasSent (party w (other role)).sent) (message_files_taken taken)
+      → Reached w met.desk (takes_all side (messages_for txn (messages_of (message_files_taken taken))))
+  message_files_reach w form old met night side start (inl failed) were = absurd failed.0.0
+  message_files_reach w form old met night side start (inr took) were = go took.2 took.3 took.4
     where
-      -- The mails that were taken.
-      mails : List Mail
-      mails = took.0
+      -- The message files that were taken.
+      message_files : List MessageFile
+      message_files = took.0
 
-      -- The mails lead from the start to the world `led.now`, by their messages of `txn`.
-      led : Led projects reaches stand changes txn role start.now (after_mails many_sides form old.desk.live mails).live
-          (messages_for txn (messages_of mails)) [] (after_mails many_sides form old.desk.live mails).kept
-      led = mails_led projects reaches stand changes txn role start.now start.stands (unsorted form old.desk.live)
-          (sym start.at.live) mails (subst (λ (p : DeskParty). Bring (WasSent p.sent) mails) (sym start.there) were)
+      -- The message files lead from the start to the world `led.now`, by their messages of `txn`.
+      led : Led projects reaches stand changes txn role start.now
+          (after_message_files many_sides form old.desk.live message_files).live
+          (messages_for txn (messages_of message_files)) [] (after_message_files many_sides form old.desk.live message_files).kept
+      led = message_files_led projects reaches stand changes txn role start.now start.stands (unsorted form old.desk.live)
+          (sym start.at.live) message_files
+          (subst (λ (p : DeskParty). Bring (WasSent p.sent) message_files) (sym start.there) were)
 
-      -- The mails led to the world `led.now`; the save then lands its side. An inbox that failed gives no `night`.
-      go : (answer : Result (List Verdict) ToolFault) → RunsInbox many_sides (arrived_in form mails took.1) old answer met
-          → SettlesRun mails took.1 answer (Ok night)
-          → Reached w met.desk (takes_all side (messages_for txn (messages_of mails)))
+      -- The message files led to the world `led.now`; the save then commits its side. An inbox that failed gives
+      -- no `night`.
+      go : (answer : Result (List Verdict) ToolFault) → RunsInbox many_sides (arrived_in form message_files took.1) old answer met
+          → SettlesRun message_files took.1 answer (Ok night)
+          → Reached w met.desk (takes_all side (messages_for txn (messages_of message_files)))
       go (Ok verdicts) runs settles =
-          saved_reaches w old.desk met.desk side (takes_all side (messages_for txn (messages_of mails)))
-          (after_mails many_sides form old.desk.live mails).live start led.now led.stands led.here led.there
-          (led.side ∙ ap (λ s. takes_all s (messages_for txn (messages_of mails))) start.live)
-          (has_any (after_mails many_sides form old.desk.live mails).kept) (λ none. (led.quiet none).0) runs.1.2.0 runs.1.2.1
+          saved_reaches w old.desk met.desk side (takes_all side (messages_for txn (messages_of message_files)))
+          (after_message_files many_sides form old.desk.live message_files).live start led.now led.stands led.here led.there
+          (led.side ∙ ap (λ s. takes_all s (messages_for txn (messages_of message_files))) start.live)
+          (has_any (after_message_files many_sides form old.desk.live message_files).kept) (λ none. (led.quiet none).0) runs.1.2.0
+          runs.1.2.1
       go (Err fault) runs settles = absurd cc
 
 -- ---- the deeds of the day
 
 module _ (projects : EachProjects) (reaches : EachReaches) (stand : EachStands) (changes : EachChanges) (txn : Qualifiers) where
-  -- Deeds lead from the world `w` to the world `now`. The desk of `role` then has the sides of `end`, and the other desk
-  -- is as before. `deeds` lead the side of `txn` on. If `end` lists no deed that was done, `old` lists none, and the
-  -- parties of `txn` are unchanged.
+  -- Deeds lead from the world `w` to the world `now`. The desk of `role` then has the sides of `end`, and the other
+  -- desk is as before. `deeds` lead the side of `txn` on. If `end` lists no deed that was done, `old` lists none, and
+  -- the parties of `txn` are unchanged.
   record Did (role : Role) (w : DeskParties) (old end : Doing DeskContents) : Type 0 where
     now : DeskParties
     stands : DesksInvariant now
@@ -296,7 +302,7 @@ module _ (projects : EachProjects) (reaches : EachReaches) (stand : EachStands) 
       (all_did role first.now first.stands next (ap (λ (p : DeskParty). p.live) first.here) today dues)
 
   -- The state `desk` is reached, and its side of `txn` is `side` after some deeds.
-  pub record ReachedByDeeds (role : Role) (w : DeskParties) (desk : HeldAndLanded DeskContents) (side : Side) : Type 0 where
+  pub record ReachedByDeeds (role : Role) (w : DeskParties) (desk : HeldAndCommitted DeskContents) (side : Side) : Type 0 where
     pub deeds : List (Deed × Date)
     pub reached : Reached projects reaches stand changes txn role w desk (after_deeds_of side deeds)
 

@@ -1,4 +1,5 @@
--- Proves that a desk which takes mails leads the side of each transaction on by its messages in these mails.
+-- Proves that a desk which takes message files leads the side of each transaction on by its messages in these message
+-- files.
 use Rattle.std.proofs.Common.{rules, ◌≡◌, ℕ, true, false, List, [], ◌∷◌, ◌++◌, fold, Option, Some, None, option_map, Result, Ok}
 use Rattle.std.proofs.Common.{Err}
 use Rattle.std.proofs.Common.{refl, sym, ap, ◌∙◌, subst, true≢false}
@@ -19,12 +20,12 @@ use Rattle.ill_saved.specs.ManySides.{DeskContents, desk_takes, many_sides}
 use Rattle.ill_desk.specs.Performing.{answered, has_any}
 use Rattle.ill_words.specs.declared.outcome.Outcome.TheVariants.{Answered}
 use Rattle.ill_words.specs.declared.outcome.DeskOutcome.TheVariants.{Plain}
-use Rattle.ill_night.specs.declared.verdict.Mail.{Mail}
+use Rattle.ill_night.specs.declared.verdict.MessageFile.{MessageFile}
 use Rattle.ill_night.specs.declared.verdict.Unfit.{Unfit}
 use Rattle.ill_night.specs.declared.verdict.Verdict.{Verdict}
-use Rattle.ill_inbox.specs.Inbox.{Sorting, after_mail, after_bytes, after_handing, after_message, kept_bytes}
-use Rattle.ill_night.specs.Mails.{message_in}
-use Rattle.ill_night.specs.Mails.{verdict_unread}
+use Rattle.ill_inbox.specs.Inbox.{Sorting, after_message_file, after_bytes, after_handing, after_message, kept_bytes}
+use Rattle.ill_night.specs.MessageFiles.{message_in}
+use Rattle.ill_night.specs.MessageFiles.{verdict_unread}
 use Rattle.ill_world.specs.declared.event.DeskEvent.{DeskEvent}
 use Rattle.ill_world.specs.declared.event.DeskEvent.TheVariants.{Deliver}
 use Rattle.ill_world.specs.World.{Parties, party}
@@ -34,7 +35,7 @@ use Rattle.ill_world.specs.DeskSafety.{DesksInvariant}
 use Rattle.ill_world.proofs.Desks.{EachProjects, EachStands}
 use Rattle.ill_world.proofs.DeskArrivals.{EachReaches}
 use Rattle.ill_world.proofs.Rounds.{takes_all}
-use Rattle.ill_runs.specs.Mail.{Bring, WasSent, message_if, message_if_read, message_of}
+use Rattle.ill_runs.specs.MessageFile.{Bring, WasSent, message_if, message_if_read, message_of}
 use Rattle.ill_nights.specs.Messages.{messages_for}
 use Rattle.ill_nights.specs.Nights.{messages_of}
 use Rattle.ill_nights.proofs.Deliveries.{side_at, desk_took, other_took, outcome_seen, side_took, fault_stays}
@@ -72,12 +73,12 @@ nothing_taken Repeat old new kept bytes some may none = (may, first_empty kept [
 nothing_taken Stale old new kept bytes some may none = (may, first_empty kept [] none)
 nothing_taken (Conflict state) old new kept bytes some may none = (may, first_empty kept [] none)
 
--- ---- one mail after another
+-- ---- one message file after another
 
 module _ (projects : EachProjects) (reaches : EachReaches) (stand : EachStands) (changes : EachChanges) (txn : Qualifiers) where
-  -- Mails lead from the world `w` to the world `now`. The desk of `role` then has the sides `live`, and the other desk
-  -- is as before. The side of `txn` has taken `apdus`. The bytes kept were `before` ahead of the mails, and are `kept`
-  -- after them. If `kept` is empty, `before` was empty, and the parties of `txn` are unchanged.
+  -- Message files lead from the world `w` to the world `now`. The desk of `role` then has the sides `live`, and the
+  -- other desk is as before. The side of `txn` has taken `apdus`. The bytes kept were `before` ahead of the message
+  -- files, and are `kept` after them. If `kept` is empty, `before` was empty, and the parties of `txn` are unchanged.
   pub record Led (role : Role) (w : DeskParties) (live : DeskContents) (apdus : List Apdu) (before kept : List ℕ) : Type 0 where
     pub now : DeskParties
     pub stands : DesksInvariant now
@@ -91,7 +92,7 @@ module _ (projects : EachProjects) (reaches : EachReaches) (stand : EachStands) 
     abbrev side : DeskParties → Side
     side w = side_at projects reaches stand txn role w
 
-    -- A mail that no desk takes changes nothing: the world stays `w`, and `kept` the bytes kept.
+    -- A message file that no desk takes changes nothing: the world stays `w`, and `kept` the bytes kept.
     stays_led : (w : DeskParties) → DesksInvariant w → (live : DeskContents) → (party w role).live ≡ live → (kept : List ℕ)
         → Led role w live [] kept kept
     unfolding takes_all
@@ -104,7 +105,8 @@ module _ (projects : EachProjects) (reaches : EachReaches) (stand : EachStands) 
       quiet = λ none. (refl, none);
     }
 
-    -- If mails lead on by `apdus`, and further mails then by `more`, all mails together lead on by both.
+    -- If message files lead on by `apdus`, and further message files then by `more`, all message files together lead on
+    -- by both.
     then_led : (w : DeskParties) (first_live live : DeskContents) (apdus more : List Apdu) (before between kept : List ℕ)
         → (first : Led role w first_live apdus before between) → Led role first.now live more between kept
         → Led role w live (apdus ++ more) before kept
@@ -118,7 +120,7 @@ module _ (projects : EachProjects) (reaches : EachReaches) (stand : EachStands) 
     }
 
     -- A delivery leads from `w` to `next`: the other desk is as before, and the side of `txn` takes `apdus`. The
-    -- message is `a`, in a mail `name` with `bytes`.
+    -- message is `a`, in a message file `name` with `bytes`.
     module _ (w next : DeskParties) (stands : DesksInvariant next) (there : party next (other role) ≡ party w (other role))
         (name bytes : List ℕ) (some : has_any bytes ≡ true) (a : Apdu) (apdus : List Apdu)
         (taken : side next ≡ takes_all (side w) apdus) (old : Sorting DeskContents) where
@@ -126,7 +128,7 @@ module _ (projects : EachProjects) (reaches : EachReaches) (stand : EachStands) 
       abbrev after : Result Taking DeskFault → DeskContents → Sorting DeskContents
       after result new = after_handing many_sides name bytes a (answered result, new) old
 
-      -- If a delivery leads to the world `next`, so does the mail that holds its message.
+      -- If a delivery leads to the world `next`, so does the message file that holds its message.
       handed_led : (result : Result Taking DeskFault) (new : DeskContents)
           → party next role ≡ record (party w role) { live = new }
           → DeskMayChange (taking_seen result) (project txn w) (project txn next)
@@ -175,7 +177,8 @@ module _ (projects : EachProjects) (reaches : EachReaches) (stand : EachStands) 
 
     module _ (w : DeskParties) (stands : DesksInvariant w) (old : Sorting DeskContents) (is : (party w role).live ≡ old.live)
       where
-        -- A mail with a message that the other desk has sent leads the side of `txn` on by it, if it is of `txn`.
+        -- A message file with a message that the other desk has sent leads the side of `txn` on by it, if it is of
+        -- `txn`.
         sent_led : (name bytes : List ℕ) (a : Apdu) → message_in bytes ≡ Ok a → WasSent (party w (other role)).sent a
             → Led role w (after_message many_sides name bytes (Ok a) old).live (messages_for txn (a ∷ [])) old.kept
             (after_message many_sides name bytes (Ok a) old).kept
@@ -194,7 +197,7 @@ module _ (projects : EachProjects) (reaches : EachReaches) (stand : EachStands) 
             (subst (λ outcome. DeskMayChange outcome (project txn w) (project txn next)) seen (changes txn w event stands))
             (λ fault failed. fault_stays old.live a fault failed)
 
-        -- A mail that holds just one message of `txn` leads the side of `txn` on by it.
+        -- A message file that holds just one message of `txn` leads the side of `txn` on by it.
         found_led : (name bytes : List ℕ) (found : Result Apdu Unfit) → message_in bytes ≡ found
             → Each (WasSent (party w (other role)).sent) (message_if found)
             → Led role w (after_message many_sides name bytes found old).live (messages_for txn (message_if found)) old.kept
@@ -203,7 +206,8 @@ module _ (projects : EachProjects) (reaches : EachReaches) (stand : EachStands) 
         found_led name bytes (Ok a) is_found were = sent_led name bytes a is_found were.0
         found_led name bytes (Err unfit) is_found were = stays_led w stands old.live is old.kept
 
-        -- A mail that could be read leads on by its message in the same way. A mail that could not be read does not.
+        -- A message file that could be read leads on by its message in the same way. A message file that could not be
+        -- read does not.
         read_led : (unread : Verdict) (name : List ℕ) (bytes : Option (List ℕ))
             → Each (WasSent (party w (other role)).sent) (message_if_read bytes)
             → Led role w (after_bytes many_sides unread name bytes old).live (messages_for txn (message_if_read bytes)) old.kept
@@ -211,22 +215,24 @@ module _ (projects : EachProjects) (reaches : EachReaches) (stand : EachStands) 
         read_led unread name None were = stays_led w stands old.live is old.kept
         read_led unread name (Some bytes) were = found_led name bytes (message_in bytes) refl were
 
-    -- The messages of `txn` in `mails` lead its side on, in their order. Premise: the other desk has sent each message
-    -- of `mails`.
-    pub mails_led : (w : DeskParties) → DesksInvariant w → (old : Sorting DeskContents) → (party w role).live ≡ old.live
-        → (mails : List Mail) → Bring (WasSent (party w (other role)).sent) mails
-        → Led role w (fold (after_mail many_sides) old mails).live (messages_for txn (messages_of mails)) old.kept
-        (fold (after_mail many_sides) old mails).kept
+    -- The messages of `txn` in `message_files` lead its side on, in their order. Premise: the other desk has sent each
+    -- message of `message_files`.
+    pub message_files_led : (w : DeskParties) → DesksInvariant w → (old : Sorting DeskContents) → (party w role).live ≡ old.live
+        → (message_files : List MessageFile) → Bring (WasSent (party w (other role)).sent) message_files
+        → Led role w (fold (after_message_file many_sides) old message_files).live (messages_for txn (messages_of message_files))
+        old.kept
+        (fold (after_message_file many_sides) old message_files).kept
     unfolding Each
-    mails_led w stands old is [] were = stays_led w stands old.live is old.kept
-    mails_led w stands old is (mail ∷ mails) were =
-        let next : Sorting DeskContents = after_mail many_sides old mail in
-        let end : Sorting DeskContents = fold (after_mail many_sides) next mails in
-        let first = read_led w stands old is (verdict_unread mail.letter) mail.name.items
-        (option_map (λ bytes. bytes.items) mail.bytes) were.0 in
-        let further = mails_led first.now first.stands next (ap (λ (p : DeskParty). p.live) first.here) mails
-        (subst (λ (p : DeskParty). Bring (WasSent p.sent) mails) (sym first.there) were.1) in
+    message_files_led w stands old is [] were = stays_led w stands old.live is old.kept
+    message_files_led w stands old is (message_file ∷ message_files) were =
+        let next : Sorting DeskContents = after_message_file many_sides old message_file in
+        let end : Sorting DeskContents = fold (after_message_file many_sides) next message_files in
+        let first = read_led w stands old is (verdict_unread message_file.letter) message_file.name.items
+        (option_map (λ bytes. bytes.items) message_file.bytes) were.0 in
+        let further = message_files_led first.now first.stands next (ap (λ (p : DeskParty). p.live) first.here) message_files
+        (subst (λ (p : DeskParty). Bring (WasSent p.sent) message_files) (sym first.there) were.1) in
         subst (λ apdus. Led role w end.live apdus old.kept end.kept)
-        (sym (filter-append (λ (a : Apdu). is_same_txn txn a.txn) (message_of mail) (messages_of mails)))
-        (then_led w next.live end.live (messages_for txn (message_of mail)) (messages_for txn (messages_of mails)) old.kept
+        (sym (filter-append (λ (a : Apdu). is_same_txn txn a.txn) (message_of message_file) (messages_of message_files)))
+        (then_led w next.live end.live (messages_for txn (message_of message_file)) (messages_for txn (messages_of message_files))
+        old.kept
         next.kept end.kept first further)

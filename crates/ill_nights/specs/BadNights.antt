@@ -1,5 +1,5 @@
--- Messages that were held back, mail that was not carried or not done with, and files that are not in step. By the laws
--- no good night has them.
+-- Messages that were held back, message files that were not carried or not done with, and files that are not converged.
+-- By the laws no good night has them.
 use Rattle.std.specs.Prelude.{◌≡◌, ℕ, true, false, List, Some, Ok, Err}
 use Rattle.std.specs.List.{slice_get}
 use Rattle.ill_values.specs.TxnId.{Qualifiers}
@@ -15,17 +15,17 @@ use Rattle.ill_record.specs.Sides.{SidesOf}
 use Rattle.ill_record.specs.RecordsV2.{records_at}
 use Rattle.ill_saved.specs.ManySides.{side_for}
 use Rattle.ill_words.specs.Sending.{wants_sending}
-use Rattle.ill_night.specs.declared.verdict.Mail.{Mail}
+use Rattle.ill_night.specs.declared.verdict.MessageFile.{MessageFile}
 use Rattle.ill_night.specs.declared.verdict.Verdict.{Verdict}
 use Rattle.ill_night.specs.Outbox.{is_asked}
 use Rattle.ill_world.specs.World.{party}
 use Rattle.ill_world.specs.Round.{faced_in}
 use Rattle.ill_runs.specs.Libraries.{Libraries, Library}
-use Rattle.ill_runs.specs.Mail.{IsOneOf, message_of}
+use Rattle.ill_runs.specs.MessageFile.{IsOneOf, message_of}
 use Rattle.ill_nights.specs.Messages.{messages_for}
 use Rattle.ill_nights.specs.Nights.{IsDone}
 
--- The mail of the transaction was not carried. Each case gives one reason. `left` have left, and `came` came.
+-- The message file of the transaction was not carried. Each case gives one reason. `left` have left, and `came` came.
 pub data IsLost (txn : Qualifiers) (left came : List Apdu) : Type 0 where
   -- A message has left, and did not come.
   missing : (a : Apdu) → IsOneOf (messages_for txn left) a → (IsOneOf (messages_for txn came) a → ⊥) → IsLost txn left came
@@ -45,11 +45,11 @@ pub data HoldsBack (txn : Qualifiers) (after : Library) (asking left : List Apdu
       → wants_sending (is_asked asking txn) (side_for txn held) ≡ false → IsOneOf (messages_for txn left) a
       → HoldsBack txn after asking left
 
--- A mail with a message of the transaction has a verdict, and the desk has not done with it.
-pub data IsLeftUndone (txn : Qualifiers) (mails : List Mail) (verdicts : List Verdict) : Type 0 where
-  undone : (n : ℕ) (mail : Mail) (verdict : Verdict) (a : Apdu) → slice_get mails n ≡ Some mail
-      → slice_get verdicts n ≡ Some verdict → IsOneOf (messages_for txn (message_of mail)) a → (IsDone verdict → ⊥)
-      → IsLeftUndone txn mails verdicts
+-- A message file with a message of the transaction has a verdict, and the desk has not done with it.
+pub data IsLeftUndone (txn : Qualifiers) (message_files : List MessageFile) (verdicts : List Verdict) : Type 0 where
+  undone : (n : ℕ) (message_file : MessageFile) (verdict : Verdict) (a : Apdu) → slice_get message_files n ≡ Some message_file
+      → slice_get verdicts n ≡ Some verdict → IsOneOf (messages_for txn (message_of message_file)) a → (IsDone verdict → ⊥)
+      → IsLeftUndone txn message_files verdicts
 
 -- The files do not agree on the transaction. Each case gives one reason.
 pub data AreApartIn (txn : Qualifiers) (libraries : Libraries) : Type 0 where

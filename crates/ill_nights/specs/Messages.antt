@@ -12,14 +12,14 @@ use Rattle.ill_record.specs.Side.{issued_of, acts, takes}
 use Rattle.ill_words.specs.Sending.{wants_sending}
 use Rattle.ill_world.specs.Agreement.{Facing}
 use Rattle.ill_world.specs.Night.{AtRest}
-use Rattle.ill_world.specs.Round.{InStep}
+use Rattle.ill_world.specs.Round.{HaveConverged}
 
 -- Returns the messages of `apdus` that are of the transaction `txn`, in their order.
 abbrev pub messages_for : Qualifiers → List Apdu → List Apdu
 messages_for txn apdus = filter (λ a. is_same_txn txn a.txn) apdus
 
--- Returns the messages that `side` sends in a night: all that it has issued, or none. `was_asked` says that a message of
--- the loan came in this night.
+-- Returns the messages that `side` sends in a night: all that it has issued, or none. `was_asked` says that a message
+-- of the loan came in this night.
 abbrev pub sent_by : Bool → Side → List Apdu
 sent_by was_asked side = if wants_sending was_asked side then issued_of side else []
 
@@ -37,6 +37,6 @@ unfoldable pub after_deeds_of : Side → List (Deed × Date) → Side
 after_deeds_of side [] = side
 after_deeds_of side (deed ∷ deeds) = after_deeds_of (decided side (acts side (actions.Deed deed.0 deed.1))) deeds
 
--- Two sides are in step or at rest.
-abbrev pub InStepOrAtRest : Side → Side → Type 0
-InStepOrAtRest requester responder = Facing InStep requester responder ⊎ Facing AtRest requester responder
+-- Two sides are converged or at rest.
+abbrev pub ConvergedOrAtRest : Side → Side → Type 0
+ConvergedOrAtRest requester responder = Facing HaveConverged requester responder ⊎ Facing AtRest requester responder

@@ -12,27 +12,28 @@ use Rattle.ill_record.specs.RecordsV2.{records_at}
 use Rattle.ill_saved.specs.ManySides.{DeskContents, side_for}
 use Rattle.ill_text.specs.declared.fault.ToolFault.{ToolFault}
 use Rattle.ill_desk.specs.Performing.{CommandState}
-use Rattle.ill_night.specs.declared.verdict.Mail.{Mail}
+use Rattle.ill_night.specs.declared.verdict.MessageFile.{MessageFile}
 use Rattle.ill_night.specs.declared.verdict.Verdict.{Verdict}
 use Rattle.ill_night.specs.declared.verdict.Verdict.TheVariants.{Done}
 use Rattle.ill_night.specs.Outbox.{Issue, is_asked, leaving_desk}
-use Rattle.ill_mail.specs.Nights.{AskedNight, Night, ExchangesAt}
+use Rattle.ill_exchange.specs.Nights.{AskedNight, Night, ExchangesAt}
 use Rattle.ill_world.specs.Round.{CanAnswer}
-use Rattle.ill_runs.specs.Mail.{mails_of, mails_taken, message_of}
-use Rattle.ill_runs.specs.Libraries.{Exchanges, IsCommand, IsHistory, Libraries, Library, TakesMail, libraries_after}
-use Rattle.ill_nights.specs.Messages.{InStepOrAtRest, after_deeds_of, after_messages, messages_for, sent_by}
+use Rattle.ill_runs.specs.MessageFile.{message_files_of, message_files_taken, message_of}
+use Rattle.ill_runs.specs.Libraries.{Exchanges, IsCommand, IsHistory, Libraries, Library, TakesMessageFile, libraries_after}
+use Rattle.ill_nights.specs.Messages.{ConvergedOrAtRest, after_deeds_of, after_messages, messages_for, sent_by}
 
 -- ---- what leaves in a night
 
--- A night was whole. Its mails were taken, its deeds were done, its desk was copied, and `left` are all messages of its
--- outbox. `asking` are the messages that ask: their mails are done with, and their loans are over at the desk.
+-- A night was whole. Its message files were taken, its deeds were done, its desk was copied, and `left` are all
+-- messages of its outbox. `asking` are the messages that ask: their message files are done with, and their loans are
+-- over at the desk.
 abbrev pub IsWhole : (asked : AskedNight) → {old new : CommandState DeskContents} →
     {result : Result Bool ToolFault} → ExchangesAt asked old result new → (asking left : List Apdu) → Type 0
 IsWhole asked (met, Err fault, taken, ends) asking left = ⊥
 IsWhole asked (met, Ok night, taken, (rested, Err fault, deeds, sends, same)) asking left = ⊥
 IsWhole asked (met, Ok night, taken, (rested, Ok done, deeds, inl failed, same)) asking left = ⊥
 IsWhole asked (met, Ok night, taken, (rested, Ok done, deeds, inr (sent, inl failed, ends), same)) asking left = ⊥
-IsWhole asked (met, Ok night, taken, (rested, Ok done, deeds, inr (sent, inr (said, are, told), ends), same)) asking left =
+IsWhole asked (met, Ok night, taken, (rested, Ok done, deeds, inr (sent, inr (said, are, printed), ends), same)) asking left =
     (said ≡ asking) × (left ≡ map (λ (issue : Issue). issue.apdu) (leaving_desk asking rested.desk.live.held))
 
 -- A whole night leads from the library `before` to `after`, by the command `exchange`. `others` are the messages that
@@ -44,51 +45,52 @@ pub record IsNight (others : List Apdu) (before after : Library) : Type 0 where
 
 -- ---- what arrives
 
--- Returns the messages of `mails`, in their order. A mail that holds not just one message has none.
-abbrev pub messages_of : List Mail → List Apdu
-messages_of mails = flat_map message_of mails
+-- Returns the messages of `message_files`, in their order. A message file that holds not just one message has none.
+abbrev pub messages_of : List MessageFile → List Apdu
+messages_of message_files = flat_map message_of message_files
 
--- Returns the messages of the mails that a night took, in their order.
+-- Returns the messages of the message files that a night took, in their order.
 abbrev pub messages_came : {others : List Apdu} → {before after : Library} → IsNight others before after → List Apdu
-messages_came night = messages_of (mails_of night.command.runs.0 night.command.runs.2)
+messages_came night = messages_of (message_files_of night.command.runs.0 night.command.runs.2)
 
--- All mail of the transaction was carried, whole and once, and it lay in the order in which it left. `left` have left the
--- other library, and `came` came.
+-- All message files of the transaction were carried, whole and once, and they lay in the order in which they left.
+-- `left` have left the other library, and `came` came.
 abbrev pub IsCarried : Qualifiers → List Apdu → List Apdu → Type 0
 IsCarried txn left came = messages_for txn came ≡ messages_for txn left
 
--- The desk has done with a mail: it is neither put aside nor left for the next run.
+-- The desk has done with a message file: it is neither quarantined nor left for the next run.
 abbrev pub IsDone : Verdict → Type 0
 IsDone (Done outcome) = Unit {0}
 IsDone verdict = ⊥
 
--- Each mail with a message of the transaction has a verdict, and the desk has done with it.
-abbrev pub AreDone : Qualifiers → List Mail → List Verdict → Type 0
+-- Each message file with a message of the transaction has a verdict, and the desk has done with it.
+abbrev pub AreDone : Qualifiers → List MessageFile → List Verdict → Type 0
 AreDone txn [] verdicts = Unit {0}
-AreDone txn (mail ∷ mails) [] = (messages_for txn (message_of mail) ≡ []) × AreDone txn mails []
-AreDone txn (mail ∷ mails) (verdict ∷ verdicts) =
-    Each (λ a. IsDone verdict) (messages_for txn (message_of mail)) × AreDone txn mails verdicts
+AreDone txn (message_file ∷ message_files) [] = (messages_for txn (message_of message_file) ≡ []) × AreDone txn message_files []
+AreDone txn (message_file ∷ message_files) (verdict ∷ verdicts) =
+    Each (λ a. IsDone verdict) (messages_for txn (message_of message_file)) × AreDone txn message_files verdicts
 
--- If a mail could be read, it is bytes.
+-- If a message file could be read, it is bytes.
 abbrev pub IsBytesOf : Option (List ℕ) → Type 0
 IsBytesOf None = Unit {0}
 IsBytesOf (Some bytes) = IsBytes bytes
 
--- Each mail that could be read is bytes.
-abbrev pub AreBytes : List Mail → Type 0
-AreBytes mails = Each (λ (mail : Mail). IsBytesOf (option_map (λ bytes. bytes.items) mail.bytes)) mails
+-- Each message file that could be read is bytes.
+abbrev pub AreBytes : List MessageFile → Type 0
+AreBytes message_files = Each (λ (message_file : MessageFile). IsBytesOf (option_map (λ bytes. bytes.items) message_file.bytes))
+    message_files
 
--- Returns the verdicts of the mails that a desk took in a night. If the taking failed, they are none.
+-- Returns the verdicts of the message files that a desk took in a night. If the taking failed, they are none.
 abbrev pub verdicts_of : (asked : AskedNight) → {old new : CommandState DeskContents} →
     {result : Result Bool ToolFault} → ExchangesAt asked old result new → List Verdict
 verdicts_of asked (met, Err fault, taken, ends) = []
 verdicts_of asked (met, Ok night, taken, ends) = night.verdicts
 
--- In a night the mails were bytes, and each mail of the transaction was done with.
+-- In a night the message files were bytes, and each message file of the transaction was done with.
 abbrev pub HasDone : Qualifiers → {others : List Apdu} → {before after : Library} → IsNight others before after → Type 0
 HasDone txn night =
-    AreBytes (mails_of night.command.runs.0 night.command.runs.2)
-    × AreDone txn (mails_of night.command.runs.0 night.command.runs.2)
+    AreBytes (message_files_of night.command.runs.0 night.command.runs.2)
+    × AreDone txn (message_files_of night.command.runs.0 night.command.runs.2)
     (verdicts_of night.command.runs.0 night.command.runs.2)
 
 -- ---- what a night does to a loan
@@ -109,25 +111,25 @@ TookOf txn before after came =
 
 -- ---- a good night
 
--- All mail of a folder was taken and saved, by the command `inbox`. It leads from the library `before` to `after`.
--- `others` are the messages that have left the other library.
+-- All message files of a folder were taken and saved, by the command `inbox`. It leads from the library `before` to
+-- `after`. `others` are the messages that have left the other library.
 pub record IsInbox (others : List Apdu) (before after : Library) : Type 0 where
-  pub command : IsCommand (TakesMail others) before after
+  pub command : IsCommand (TakesMessageFile others) before after
   pub night : Night
   pub taken : command.runs.1 ≡ Ok night
 
--- A library took all its mail, by `inbox` or in a whole night. `others` have left the other library.
+-- A library took all its message files, by `inbox` or in a whole night. `others` have left the other library.
 pub data TakesAll (others : List Apdu) (before after : Library) : Type 0 where
   by_inbox : IsInbox others before after → TakesAll others before after
   by_night : IsNight others before after → TakesAll others before after
 
--- Returns the messages of the mails that a library took, in their order.
+-- Returns the messages of the message files that a library took, in their order.
 abbrev pub messages_of_all : {others : List Apdu} → {before after : Library} → TakesAll others before after → List Apdu
-messages_of_all (by_inbox inbox) = messages_of (mails_taken inbox.command.runs.2)
+messages_of_all (by_inbox inbox) = messages_of (message_files_taken inbox.command.runs.2)
 messages_of_all (by_night night) = messages_came night
 
--- People work at the responder's library: any commands lead from the libraries `asked` to `met`. The requester's library
--- is unchanged then. `people` are the libraries after each command.
+-- People work at the responder's library: any commands lead from the libraries `asked` to `met`. The requester's
+-- library is unchanged then. `people` are the libraries after each command.
 pub record AreAtWork (asked met : Libraries) : Type 0 where
   pub people : List Libraries
   pub work : IsHistory asked people
@@ -135,8 +137,8 @@ pub record AreAtWork (asked met : Libraries) : Type 0 where
   pub requester : met.requester ≡ asked.requester
 
 -- A good night of the transaction `txn` leads from the libraries `before` to `after`. The requester's library sends its
--- messages, and then people may work at the responder's. The responder's takes the messages, is done with each, and sends
--- its own. The requester's takes these. No mail of `txn` is lost.
+-- messages, and then people may work at the responder's. The responder's takes the messages, is done with each, and
+-- sends its own. The requester's takes these. No message file of `txn` is lost.
 pub record IsGoodNight (txn : Qualifiers) (before after : Libraries) : Type 0 where
   pub asked : Library
   pub met : Libraries
@@ -150,12 +152,12 @@ pub record IsGoodNight (txn : Qualifiers) (before after : Libraries) : Type 0 wh
 
 -- ---- what the files hold
 
--- The files of both libraries can be read. Their sides of the transaction are in step or at rest.
-abbrev pub AreInStepIn : Qualifiers → Libraries → Type 0
-AreInStepIn txn libraries =
+-- The files of both libraries can be read. Their sides of the transaction are converged or at rest.
+abbrev pub AreConvergedIn : Qualifiers → Libraries → Type 0
+AreConvergedIn txn libraries =
     (requester responder : SidesOf) × (records_at libraries.requester.file ≡ Ok requester)
     × (records_at libraries.responder.file ≡ Ok responder)
-    × InStepOrAtRest (side_for txn requester) (side_for txn responder)
+    × ConvergedOrAtRest (side_for txn requester) (side_for txn responder)
 
 -- If the file of the library can be read, the side of the transaction there can answer a Conditional-Reply no.
 abbrev pub CanAnswerIn : Qualifiers → Library → Type 0

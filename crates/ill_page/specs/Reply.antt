@@ -29,8 +29,8 @@ size_line size = codes "Content-Length: " ++ (decimal size ++ codes "\r\n\r\n")
 unfoldable pub page_reply : Status → (page : List ℕ) → List ℕ
 page_reply status page = status_line status ++ (HEADERS.now ++ (size_line (length page) ++ page))
 
--- Returns the status that sends a browser elsewhere, and the header with the URL of a loan. The URL has letters, digits and
--- `?&=*-._+%` alone, so it ends no header.
+-- Returns the status that sends a browser elsewhere, and the header with the URL of a loan. The URL has letters, digits
+-- and `?&=*-._+%` alone, so it ends no header.
 unfoldable pub location_lines : PlaceShown → List ℕ
 location_lines place = SEEN.now ++ (place_text place ++ LINE_END.now)
 

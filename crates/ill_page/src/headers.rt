@@ -1,7 +1,7 @@
 //! The headers of each reply.
 
-/// The headers after the status of each reply. No script runs in a page, no other site frames it or gets its forms, and no
-/// cache keeps it.
+/// The headers after the status of each reply. No script runs in a page, no other site frames it or gets its forms, and
+/// no cache keeps it.
 pub(crate) const HEADERS: &str = "\
 Content-Type: text/html; charset=utf-8\r
 Content-Security-Policy: default-src 'none'; style-src 'unsafe-inline'; form-action 'self'; frame-ancestors 'none'; base-uri 'none'\r

@@ -5,8 +5,8 @@ ghost use Rattle.std.specs.List.{list_all};
 ghost use Rattle.ill_report.specs.Link.{PlaceShown, place_text};
 ghost use Rattle.ill_page.specs.Urls.{is_of_url};
 
-/// The URL of a loan ends no header and no attribute. It has letters, digits and `*-._+%?&=` alone: no control character, no
-/// space and no quote.
+/// The URL of a loan ends no header and no attribute. It has letters, digits and `*-._+%?&=` alone: no control
+/// character, no space and no quote.
 #[tactic(auto, using(crate::proofs::UrlLemmas::place_of_url))]
 pub fn no_url_ends_a_header()
     ensures url { (place : PlaceShown) → list_all is_of_url (place_text place) ≡ true }

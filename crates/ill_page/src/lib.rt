@@ -1,5 +1,5 @@
-//! The pages of desks and of a loan in a browser, with a form for each action that may be done now, and the replies that
-//! carry them. All words stand in `words`.
+//! The pages of desks and of a loan in a browser, with a form for each action that may be done now, and the replies
+//! that carry them. All words stand in `words`.
 #![tactic(auto)]
 
 mod desks;

@@ -4,14 +4,14 @@ use Rattle.ill_saved.specs.Desk.{AreAllReleased, DeskOf}
 use Rattle.ill_saved.specs.ManySides.{DeskContents, many_sides}
 use Rattle.ill_place.specs.Place.{PlaceOf}
 
--- The desk was not loaded from the place. Its store is at another path or at none, or an honest store has other sides
+-- The desk was not loaded from the place. Its store is at another path or at none, or a correct store has other sides
 -- or no record, or a message of the desk may not be sent.
 pub data IsElsewhere {S : Type 0} (place : PlaceOf S) (desk : DeskOf DeskContents S) : Type 0 where
   other_path : (path : List ℕ) → (place.state desk.store).path ≡ Some path → (path ≡ place.path → ⊥) → IsElsewhere place desk
   no_path : (place.state desk.store).path ≡ None → IsElsewhere place desk
-  other_sides : (bytes : List ℕ) → (place.state desk.store).is_honest ≡ true → (place.state desk.store).landed ≡ Some bytes →
+  other_sides : (bytes : List ℕ) → (place.state desk.store).is_correct ≡ true → (place.state desk.store).committed ≡ Some bytes →
       (many_sides.read bytes ≡ Ok desk.live → ⊥) → IsElsewhere place desk
-  no_record : (place.state desk.store).is_honest ≡ true → (place.state desk.store).landed ≡ None → IsElsewhere place desk
+  no_record : (place.state desk.store).is_correct ≡ true → (place.state desk.store).committed ≡ None → IsElsewhere place desk
   unsaved : (AreAllReleased many_sides desk.live → ⊥) → IsElsewhere place desk
 
 -- Each desk is elsewhere than the place, so none was loaded from it.

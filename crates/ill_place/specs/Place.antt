@@ -23,13 +23,13 @@ pub record ShelfOf (S : Type 0) : Type 0 where
 abbrev pub shelf_of : {S : Type 0} → (S → StoreState) → List ℕ → ShelfOf S
 shelf_of state folder = record { folder = folder; state = state }
 
--- Returns the state of a store in a file of the host. No contract says what such a file has, so it is not honest.
+-- Returns the state of a store in a file of the host. No contract says what such a file has, so it is not correct.
 abbrev pub file_state : FileStoreState → StoreState
 file_state file = record {
   path = Some file.path;
-  landed = None;
+  committed = None;
   failures = file.failures;
-  is_honest = false;
+  is_correct = false;
   plan = None;
 }
 
@@ -41,24 +41,25 @@ file_at path = place_of file_state path
 abbrev pub IsAt : {S : Type 0} → PlaceOf S → S → Type 0
 IsAt place store = (place.state store).path ≡ Some place.path
 
--- A record has landed, and is read as the contents `live`.
-abbrev pub HasLandedAs : (landed : Option (List ℕ)) → (live : DeskContents) → Type 0
-HasLandedAs landed live = (bytes : List ℕ) × (landed ≡ Some bytes) × (many_sides.read bytes ≡ Ok live)
+-- A record is committed, and is read as the contents `live`.
+abbrev pub IsCommittedAs : (committed : Option (List ℕ)) → (live : DeskContents) → Type 0
+IsCommittedAs committed live = (bytes : List ℕ) × (committed ≡ Some bytes) × (many_sides.read bytes ≡ Ok live)
 
--- The desk was loaded from the place: its store is there, and an honest store has the record of its sides. All their
+-- The desk was loaded from the place: its store is there, and a correct store has the record of its sides. All their
 -- messages may be sent.
 pub record StartsAt {S : Type 0} (place : PlaceOf S) (desk : DeskOf DeskContents S) : Type 0 where
   pub path : IsAt place desk.store
-  pub landed : (place.state desk.store).is_honest ≡ true → HasLandedAs (place.state desk.store).landed desk.live
+  pub committed : (place.state desk.store).is_correct ≡ true → IsCommittedAs (place.state desk.store).committed desk.live
   pub released : AreAllReleased many_sides desk.live
 
--- The desk of `role` was begun at the place: its store is there, and an honest store has no record. It holds no sides.
+-- The desk of `role` was begun at the place: its store is there, and a correct store has no record. It holds no sides.
 pub record BeginsAt {S : Type 0} (place : PlaceOf S) (role : Role) (desk : DeskOf DeskContents S) : Type 0 where
   pub path : IsAt place desk.store
-  pub landed : (place.state desk.store).is_honest ≡ true → (place.state desk.store).landed ≡ None
+  pub committed : (place.state desk.store).is_correct ≡ true → (place.state desk.store).committed ≡ None
   pub empty : desk.live ≡ no_sides role
 
--- The desk was loaded from the place. If there is a `role`, it was loaded from the place, or was begun there with this role.
+-- The desk was loaded from the place. If there is a `role`, it was loaded from the place, or was begun there with this
+-- role.
 abbrev pub OpensAs : {S : Type 0} → (role : Option Role) → PlaceOf S → DeskOf DeskContents S → Type 0
 OpensAs None place desk = StartsAt place desk
 OpensAs (Some role) place desk = StartsAt place desk ⊎ BeginsAt place role desk

@@ -25,7 +25,7 @@ use Rattle.ill_record.proofs.Finding.{found_is, found_mapped, found_put, same_se
 use Rattle.ill_post.specs.declared.answer.Posted.{Posted}
 use Rattle.ill_post.specs.declared.answer.Posted.TheVariants.{Changed, Done, Refused}
 use Rattle.ill_post.specs.Post.{ActsAndSaves, AnswersPost, DeskState, FormShown, Performs, PerformsIf, SavesAfter, is_fresh}
-use Rattle.ill_post.specs.Post.{stamp_for, told}
+use Rattle.ill_post.specs.Post.{stamp_for, printed}
 use Rattle.ill_post.specs.Stamp.{side_stamp, stamp_of}
 use Rattle.ill_post.proofs.StampLemmas.{new_is_no_stamp}
 
@@ -83,8 +83,8 @@ stamp_put txn live entry of_txn =
 
 -- ---- an action that was done
 
--- The desk did `action` on the entry `held`: that of the loan of `txn`, or an idle one. Then it held `between`, in
--- which the side of this entry is `after`.
+-- The desk did `action` on the entry `held`: that of the loan of `txn`, or an idle one. This left the contents
+-- `between`, in which the side of this entry is `after`.
 record Reached (live : DeskContents) (txn : Qualifiers) (action : Action) (between : DeskContents) : Type 0 where
   held : DeskEntry
   after : Side
@@ -163,17 +163,17 @@ stale known live between txn action e same =
 
 -- ---- a form that was sent
 
--- If `told acted` is `Done`, the action was done.
-told_done : (acted : Result (Unit {0}) DeskFault) → ◌≡◌ {A = Result Posted DeskFault} (Ok Done) (told acted)
+-- If `printed acted` is `Done`, the action was done.
+printed_done : (acted : Result (Unit {0}) DeskFault) → ◌≡◌ {A = Result Posted DeskFault} (Ok Done) (printed acted)
     → (done : Unit {0}) × (acted ≡ Ok done)
-told_done (Ok done) e = (done, refl)
-told_done (Err fault) e = told_fault fault (is_refusal fault) e where
+printed_done (Ok done) e = (done, refl)
+printed_done (Err fault) e = printed_fault fault (is_refusal fault) e where
   -- A fault is told as a refusal or stays a fault: it is never `Done`.
-  told_fault : (fault : DeskFault) (refused : Bool)
+  printed_fault : (fault : DeskFault) (refused : Bool)
       → ◌≡◌ {A = Result Posted DeskFault} (Ok Done) (if refused then Ok (Refused fault) else Err fault)
       → (done : Unit {0}) × (◌≡◌ {A = Result (Unit {0}) DeskFault} (Err fault) (Ok done))
-  told_fault fault true e = search rules
-  told_fault fault false e = search rules
+  printed_fault fault true e = search rules
+  printed_fault fault false e = search rules
 
 -- If `SavesAfter` has the result Ok, the action was done, and `new` holds what a save leaves of `between`.
 save_leaves_whole : (acted : Result (Unit {0}) DeskFault) (between new : DeskState) (done : Unit {0})
@@ -206,7 +206,7 @@ performed : ActionFacts → (form : FormShown) (action : Option Action) (old new
     → Performs action form.txn old (Ok Done) new → is_fresh form new.live ≡ false
 performed known form None old new fresh performs = search rules
 performed known form (Some action) old new fresh performs =
-    let was = told_done performs.0 performs.2 in
+    let was = printed_done performs.0 performs.2 in
     after_done known form action old new performs.0 was.0 fresh was.1 performs.1
 
 -- If `PerformsIf` gives the answer `Done`, `form` is no longer fresh. A form that was not fresh is never `Done`.

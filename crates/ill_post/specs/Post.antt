@@ -64,16 +64,16 @@ ActsAndSaves txn action old result new =
     × SavesAfter acted (record old { live = between }) result new
 
 -- Returns the answer to a form whose action had this result. A refusal is an answer. Another fault stays one.
-abbrev pub told : Result (Unit {0}) DeskFault → Result Posted DeskFault
-told (Ok done) = Ok Done
-told (Err fault) = if is_refusal fault then Ok (Refused fault) else Err fault
+abbrev pub printed : Result (Unit {0}) DeskFault → Result Posted DeskFault
+printed (Ok done) = Ok Done
+printed (Err fault) = if is_refusal fault then Ok (Refused fault) else Err fault
 
 -- A form in the loan of `txn` was answered, whose loan is as its page showed it. If the form names no action, nothing
 -- changed. Else exactly this action was performed.
 abbrev pub Performs : Option Action → Qualifiers → DeskState → Result Posted DeskFault → DeskState → Type 0
 Performs None txn old result new = (result ≡ Ok NoAction) × (new ≡ old)
 Performs (Some action) txn old result new =
-    (acted : Result (Unit {0}) DeskFault) × ActsAndSaves txn action old acted new × (result ≡ told acted)
+    (acted : Result (Unit {0}) DeskFault) × ActsAndSaves txn action old acted new × (result ≡ printed acted)
 
 -- The form was answered. The first argument is true if its loan is as its page showed it. If it is false, nothing
 -- changed, in memory or in the store.

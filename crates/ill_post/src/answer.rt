@@ -2,7 +2,7 @@
 
 ghost use Rattle.std.specs.Prelude.{◌≡◌};
 ghost use Rattle.ill_text.specs.Diary.{diary_state};
-ghost use Rattle.ill_post.specs.Post.{ActsAndSaves, AnswersPost, EntersPost, IsFreshness, Performs, form_shown, state_of, told};
+ghost use Rattle.ill_post.specs.Post.{ActsAndSaves, AnswersPost, EntersPost, IsFreshness, Performs, form_shown, state_of, printed};
 
 use crate::stamp::stamp_of;
 use ill_saved::{Action, Desk, DeskFault, Store};
@@ -78,7 +78,7 @@ fn perform<S: Store, D: Write>(
         (diary_state (D.contents entry.new.diary.stream) entry.new.diary.has_failed) }
 {
     match &form.action {
-        Some(action) => told(act_and_save(alloc, desk, form.txn, action, entry)),
+        Some(action) => printed(act_and_save(alloc, desk, form.txn, action, entry)),
         None => Ok(Posted::NoAction),
     }
 }
@@ -93,7 +93,7 @@ fn act_and_save<S: Store, D: Write>(
     entry: &mut Entry<D>,
 ) -> Result<(), DeskFault>
     ensures acts { ActsAndSaves txn.now action.now (state_of S.state desk.old) result (state_of S.state desk.new) }
-    ensures entered { EntersPost (told result) entry.old.line.items
+    ensures entered { EntersPost (printed result) entry.old.line.items
         (diary_state (D.contents entry.old.diary.stream) entry.old.diary.has_failed)
         (diary_state (D.contents entry.new.diary.stream) entry.new.diary.has_failed) }
 {
@@ -107,8 +107,8 @@ fn act_and_save<S: Store, D: Write>(
 }
 
 /// Returns the answer to a form whose action had the result `acted`. A refusal is an answer. Another fault stays one.
-fn told(acted: Result<(), DeskFault>) -> Result<Posted, DeskFault>
-    ensures { result ≡ told acted }
+fn printed(acted: Result<(), DeskFault>) -> Result<Posted, DeskFault>
+    ensures { result ≡ printed acted }
 {
     match acted {
         Ok(()) => Ok(Posted::Done),

@@ -5,8 +5,8 @@ use crate::visit::{Visit, close, open};
 use ill_desk_kit::plan_of;
 use ill_post::stamp_of;
 use ill_saved::{Desk, DeskFault, MemoryStore, NextCall};
-use ill_session_kit::engine::tell_fault;
-use ill_session_kit::telling::{tell_line, tell_value};
+use ill_session_kit::engine::print_fault;
+use ill_session_kit::telling::{print_line, print_value};
 use ill_session_kit::words::Word;
 use ill_session_kit::{Performs, Phrase};
 use ill_test_kit::Page;
@@ -67,12 +67,12 @@ impl Bench {
         };
         let saved = desk.save(self.alloc);
         close(desk, &mut self.store);
-        tell_value(page, &done?);
+        print_value(page, &done?);
         saved.ok()
     }
 
     /// Performs `stamp GROUP TRANSACTION`: prints the stamp of the loan.
-    fn tell_stamp(&mut self, page: &mut Page, words: &[Word]) -> Option<()> {
+    fn print_stamp(&mut self, page: &mut Page, words: &[Word]) -> Option<()> {
         let alloc = self.alloc;
         let (txn, _) = txn_before(alloc, words)?;
         let desk = open(alloc, &mut self.store)?;
@@ -80,7 +80,7 @@ impl Bench {
             stamp_of(alloc, desk.sides().get(&txn))
         });
         close(desk, &mut self.store);
-        tell_line(page, "=", stamp.ok()?.as_str());
+        print_line(page, "=", stamp.ok()?.as_str());
         Some(())
     }
 
@@ -92,7 +92,7 @@ impl Bench {
             let seen = Visit::made(self.alloc, &mut self.store, plan, phrase)?;
             if !seen.call.was_refused {
                 seen.tell(page);
-                tell_faults(page, &tries, &seen);
+                print_faults(page, &tries, &seen);
                 return Some(());
             }
             tries.push(seen).ok()?;
@@ -102,10 +102,10 @@ impl Bench {
 }
 
 /// Prints what refused tries of the visit `whole` have spoiled.
-fn tell_faults(page: &mut Page, tries: &[Visit<'_>], whole: &Visit<'_>) {
+fn print_faults(page: &mut Page, tries: &[Visit<'_>], whole: &Visit<'_>) {
     for seen in tries {
         if let Some(words) = seen.fault(whole) {
-            tell_fault(page, words);
+            print_fault(page, words);
         }
     }
 }
@@ -145,7 +145,7 @@ impl Performs for Bench {
             "next" => self.plan(phrase.words),
             "act" => self.call(page, true, phrase),
             "take" => self.call(page, false, phrase),
-            "stamp" => self.tell_stamp(page, phrase.words),
+            "stamp" => self.print_stamp(page, phrase.words),
             "post" => self.visit(page, phrase),
             _ => None,
         }

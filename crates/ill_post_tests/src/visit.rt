@@ -3,7 +3,7 @@
 use crate::forms::{action, txn_before};
 use ill_post::{Form, Posted, post};
 use ill_saved::{Desk, DeskFault, MemoryStore, NextCall, Side, Store, encode_record2};
-use ill_session_kit::telling::{begin, tell_bytes, tell_line};
+use ill_session_kit::telling::{begin, print_bytes, print_line};
 use ill_session_kit::words::Word;
 use ill_session_kit::{Call, Phrase};
 use ill_test_kit::Page;
@@ -20,7 +20,7 @@ struct View {
     /// The record of the sides in memory.
     live: Vec<u8>,
     /// The record in the store.
-    landed: Vec<u8>,
+    committed: Vec<u8>,
     /// The number of messages of the loan that may leave.
     released: u8,
     /// The number of messages of the loan.
@@ -85,21 +85,21 @@ impl<'a> Visit<'a> {
 
     /// Prints the answer, the diary, and the view after the visit.
     pub fn tell(&self, page: &mut Page) {
-        self.call.tell_answer(page, &self.answer);
+        self.call.print_answer(page, &self.answer);
         if self.has_failed {
-            tell_line(page, "!", "the diary failed");
+            print_line(page, "!", "the diary failed");
         }
         self.after.tell(page, &self.call, &self.before);
     }
 
     /// Returns the words for the part that this refused try spoiled, if it did. `whole` is the visit that was not
-    /// refused. A refused try may land and release nothing. The live record and the diary are both as before, or both
+    /// refused. A refused try may commit and release nothing. The live record and the diary are both as before, or both
     /// as `whole` left them.
     pub fn fault(&self, whole: &Visit<'_>) -> Option<&'static str> {
         let entered = &self.call.output.taken;
         let is_before = self.after.live == self.before.live && entered.is_empty();
         let is_acted = self.after.live == whole.after.live && *entered == whole.call.output.taken;
-        if self.after.landed != self.before.landed {
+        if self.after.committed != self.before.committed {
             Some("what has landed")
         } else if self.after.released != self.before.released {
             Some("what may leave")
@@ -157,24 +157,24 @@ impl View {
         let released = desk.released(txn);
         let issued = desk.sides().get(txn).map_or(0, Side::issued_count);
         close(desk, store);
-        let landed = store.as_mut()?.load(alloc).ok()??;
+        let committed = store.as_mut()?.load(alloc).ok()??;
         Some(View {
             live: live.ok()?,
-            landed,
+            committed,
             released,
             issued,
         })
     }
 
-    /// Prints the record that has landed since `before`, the live one if it differs, and the numbers of messages.
+    /// Prints the record that is committed since `before`, the live one if it differs, and the numbers of messages.
     fn tell(&self, page: &mut Page, call: &Call<'_>, before: &View) {
-        if self.landed == before.landed {
-            tell_line(page, "landed", "nothing");
+        if self.committed == before.committed {
+            print_line(page, "landed", "nothing");
         } else {
-            tell_bytes(page, call.names, "landed", &self.landed);
+            print_bytes(page, call.names, "landed", &self.committed);
         }
-        if self.live != self.landed {
-            tell_bytes(page, call.names, "live", &self.live);
+        if self.live != self.committed {
+            print_bytes(page, call.names, "live", &self.live);
         }
         begin(page, "messages");
         page.show(&self.released);

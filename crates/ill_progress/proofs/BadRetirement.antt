@@ -31,7 +31,7 @@ no_word : (w : DeskParties) (event : DeskEvent) → (IsSend event → ⊥) → i
 no_word w (events.Wish txn wish) silent = refl
 no_word w (events.Deed txn deed today) silent = refl
 no_word w (events.Save role) silent = refl
-no_word w (events.SaveFault role landed) silent = refl
+no_word w (events.SaveFault role committed) silent = refl
 no_word w (events.Send role txn n) silent = absurd (silent tt)
 no_word w (events.Deliver role txn n) silent = refl
 no_word w (events.Noise role bytes) silent = refl
@@ -150,7 +150,7 @@ own_mark : (role : Role) (marks : TwoOf Bool) → party (with_party marks role t
 own_mark who.Requester marks = refl
 own_mark who.Responder marks = refl
 
--- After its restart a desk is the landed one.
+-- After its restart a desk is the committed one.
 own_desk : (role : Role) (desks : DeskParties)
     → party (desks_happen desks (events.Restart role)).1 role ≡ desk_restarts (party desks role)
 own_desk who.Requester desks = refl
@@ -163,14 +163,14 @@ mark_there w role group =
     ap (λ b. party (if b then with_party (w.marks group) role true else w.marks group) role) (self group)
     ∙ own_mark role (w.marks group)
 
--- If a retirement is done, the desk is the landed one.
+-- If a retirement is done, the desk is the committed one.
 desk_there : (w : MarkedShelves) (role : Role) (group : List ℕ)
     → party ((retired_if w role group false true).1.shelves group) role ≡ desk_restarts (party (w.shelves group) role)
 desk_there w role group =
     ap (λ b. party (if b then (desks_happen (w.shelves group) (events.Restart role)).1 else w.shelves group) role) (self group)
     ∙ own_desk role (w.shelves group)
 
--- A retirement does as `retired_if` says of the mark (`marked`) and of the test of the landed loans (`over`).
+-- A retirement does as `retired_if` says of the mark (`marked`) and of the test of the committed loans (`over`).
 retires_as : (w : MarkedShelves) (role : Role) (group : List ℕ) (marked over : Bool) → has_mark w role group ≡ marked
     → are_loans_over (party (w.shelves group) role) ≡ over
     → retiring_happens w (retire role group) ≡ retired_if w role group marked over
@@ -237,7 +237,7 @@ none_mishandled w _ (retires_open role group side unmarked has is wrong) =
       | inr changed ↦ changed (ap (λ (after : RetiringOutcome × MarkedShelves). after.1) stays)
     ]
 none_mishandled w _ (refuses_over role group unmarked over wrong) =
-    let goes = retires_as w role group false true unmarked (each_over (party (w.shelves group) role).landed.sides over) in
+    let goes = retires_as w role group false true unmarked (each_over (party (w.shelves group) role).committed.sides over) in
     elim wrong [
       | inl told ↦ told (ap (λ (after : RetiringOutcome × MarkedShelves). after.0) goes)
       | inr (inl none) ↦ true≢false (sym (mark_there w role group)

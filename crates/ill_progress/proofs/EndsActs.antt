@@ -24,7 +24,7 @@ use Rattle.ill_core.specs.Responder.{ResponderRecord}
 use Rattle.ill_core.specs.ResponderActions as responder
 use Rattle.ill_core.specs.Verbs.{requester_turn, requester_turn_in, reply_turn, returned_turn, responder_turn}
 use Rattle.ill_core.specs.Verbs.{responder_turn_in}
-use Rattle.ill_world.specs.Round.{faced_in, InStep}
+use Rattle.ill_world.specs.Round.{faced_in, HaveConverged}
 use Rattle.ill_progress.specs.Ends.{is_wish_to_end, is_deed_to_end}
 
 -- ---- actions that are done
@@ -170,8 +170,8 @@ recall_refuses y states.Recall deeds.CheckIn today is = refl
 recall_refuses y states.Recall deeds.Expire today is = refl
 recall_refuses y t deed today is = search rules
 
--- If two records are in step and the requester is in RECALL, the responder refuses each deed.
-pub recalled_refuses : (x : RequesterRecord) (y : ResponderRecord) (deed : Deed) (today : Date) → InStep x y
+-- If two records are converged and the requester is in RECALL, the responder refuses each deed.
+pub recalled_refuses : (x : RequesterRecord) (y : ResponderRecord) (deed : Deed) (today : Date) → HaveConverged x y
     → x.state ≡ states.Recall → responder.acts y deed today ≡ Err (NotNow y.state)
 recalled_refuses x y deed today step is =
     recall_refuses y y.state deed today (faces_recall x.state y.state is step.faced)

@@ -31,7 +31,7 @@ use Rattle.ill_record.specs.Side.{issued_of, acts, done_by}
 use Rattle.ill_words.specs.Sending.{is_nobodys, is_over}
 use Rattle.ill_world.specs.Agreement.{Facing}
 use Rattle.ill_world.specs.Invariant.{RequesterSideInvariant, ResponderSideInvariant}
-use Rattle.ill_world.specs.Round.{InStep, CanAnswer, faced_in}
+use Rattle.ill_world.specs.Round.{HaveConverged, CanAnswer, faced_in}
 use Rattle.ill_world.specs.Night.{AtRest}
 use Rattle.ill_world.proofs.Claims.{AreIssued}
 use Rattle.ill_progress.specs.Ends.{is_wish_to_end, is_deed_to_end, acts_to_end, side_acts_to_end}
@@ -42,9 +42,9 @@ use Rattle.ill_progress.proofs.EndsRenewals.{renewal_settles}
 
 -- ---- two sides that have settled
 
--- The two sides are in step, or at rest.
+-- The two sides are converged, or at rest.
 abbrev pub Settled : Side → Side → Type 0
-Settled requester responder = Facing InStep requester responder ⊎ Facing AtRest requester responder
+Settled requester responder = Facing HaveConverged requester responder ⊎ Facing AtRest requester responder
 
 -- A turn that is nobody's says that the loan is over.
 nobodys : (turn : Turn) → is_nobodys turn ≡ true → turn ≡ Over
@@ -146,11 +146,11 @@ wish_records one x new after y answered wish ends done kept waited fits settled 
     }
 
 -- If a deed towards the end leads to `new`, and a night then to `after` and `answered`, `SidesCount` holds. `settles`
--- says: if both are in step then, and the deed answered a Renew, no Renew waits.
+-- says: if both are converged then, and the deed answered a Renew, no Renew waits.
 deed_records : OneEach → (x after : RequesterRecord) (y new answered : ResponderRecord) (deed : Deed) (today : Date)
     → is_deed_to_end deed ≡ true → responder_actions.acts y deed today ≡ Ok new → RequesterKept x after
-    → ResponderKept new answered → InStep x y → RequesterRules x → RequesterRules after
-    → (InStep after answered → HasRenewed y new → is_among renewing after.state ≡ false)
+    → ResponderKept new answered → HaveConverged x y → RequesterRules x → RequesterRules after
+    → (HaveConverged after answered → HasRenewed y new → is_among renewing after.state ≡ false)
     → Settled (sides.Requester after) (sides.Responder answered)
     → SidesCount (sides.Requester x) (sides.Responder y) (sides.Requester after) (sides.Responder answered)
 deed_records one x after y new answered deed today ends done waited kept step fits fits_after settles settled =
@@ -163,7 +163,7 @@ deed_records one x after y new answered deed today ends done waited kept step fi
           fewer;
     }
   where
-    -- If the two are in step, `deed_counts` counts the acts. If they are at rest, none is left.
+    -- If the two are converged, `deed_counts` counts the acts. If they are at rest, none is left.
     go : DeedEnds y new → Settled (sides.Requester after) (sides.Responder answered) → acts_to_end after < acts_to_end x
     go it_ends (inl step_after) =
         deed_counts x after y new answered it_ends kept step step_after fits waited fits_after (settles step_after)
@@ -199,7 +199,7 @@ pub deed_sides : OneEach → (txn : Qualifiers) (requester after responder acted
     → SideKept requester after → SideKept acted answered → RequesterSideInvariant txn requester a
     → ResponderSideInvariant txn responder b → RequesterSideInvariant txn after c → ResponderSideInvariant txn answered d
     → AreIssued a (issued_of responder) → AreIssued b (issued_of requester) → AreIssued c (issued_of answered)
-    → AreIssued d (issued_of after) → Facing InStep requester responder → Settled after answered
+    → AreIssued d (issued_of after) → Facing HaveConverged requester responder → Settled after answered
     → SidesCount requester responder after answered
 deed_sides one txn (sides.Requester x) (sides.Requester after) (sides.Responder y) acted (sides.Responder answered) a b c d deed
     today ends done waited kept asker lender asker_after lender_after issued heeded issued_after heeded_after step settled =

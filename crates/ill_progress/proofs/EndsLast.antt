@@ -1,11 +1,11 @@
--- The loan of the example (`LastNumbers`) is in step, and its requester has used all its numbers.
+-- The loan of the example (`LastNumbers`) is converged, and its requester has used all its numbers.
 use Rattle.std.proofs.Common.{◌≡◌, length, refl}
 use Rattle.ill_core.specs.Requester as requester
 use Rattle.ill_core.specs.Requester.{IsRequester}
 use Rattle.ill_core.specs.Issued.{are_numbered}
 use Rattle.ill_core.specs.Responder as responder
 use Rattle.ill_core.specs.Responder.{IsResponder, rise_from, ships_first}
-use Rattle.ill_world.specs.Round.{InStep}
+use Rattle.ill_world.specs.Round.{HaveConverged}
 use Rattle.ill_progress.specs.LastNumbers.{renews_from, refusals_from, last_requester, last_responder}
 
 -- The record of the requester satisfies its rules.
@@ -18,10 +18,10 @@ pub last_lends : IsResponder last_responder
 unfolding responder.is_consistent are_numbered rise_from ships_first refusals_from
 last_lends = refl
 
--- The two records are in step.
-pub last_in_step : InStep last_requester last_responder
+-- The two records are converged.
+pub last_converged : HaveConverged last_requester last_responder
 unfolding renews_from refusals_from
-last_in_step = record {
+last_converged = record {
   faced = refl;
   undeclined = refl;
   received = λ is. refl;

@@ -33,7 +33,7 @@ use Rattle.ill_core.specs.Verbs.{requester_turn, requester_turn_in, reply_turn, 
 use Rattle.ill_core.proofs.IssuedLemmas.{has_more}
 use Rattle.ill_core.proofs.RequesterRows as rows
 use Rattle.ill_core.proofs.TransitionLemmas.{at_transition, is_this, no_more, transition_is}
-use Rattle.ill_world.specs.Round.{faced_in, InStep}
+use Rattle.ill_world.specs.Round.{faced_in, HaveConverged}
 use Rattle.ill_progress.specs.Ends.{is_wish_to_end, is_deed_to_end, recalled_acts, returned_acts, acts_to_end_in, acts_to_end}
 
 -- ---- how many acts are left
@@ -611,7 +611,7 @@ renewing_received states.RenewOverdue received is fits = fits
 renewing_received s received is fits = search rules
 
 -- After an answer to a Renew, and messages of either side, fewer acts are left if no Renew waits then.
-renewal_counts : (x after : RequesterRecord) (y new : ResponderRecord) → HasRenewed y new → InStep x y → RequesterRules x
+renewal_counts : (x after : RequesterRecord) (y new : ResponderRecord) → HasRenewed y new → HaveConverged x y → RequesterRules x
     → RequesterKept x after → RequesterRules after → is_among renewing after.state ≡ false → acts_to_end after < acts_to_end x
 renewal_counts x after y new renewed step fits kept fits_after settled =
     let waits = faces_renewing x.state y.state step.faced renewed.0 in
@@ -623,10 +623,10 @@ renewal_counts x after y new renewed step fits kept fits_after settled =
       received_left after.state (is_received_by after) after.checked_in has fits_after.issued.not_received settled,
     )
 
--- After a deed towards the end, and messages of either side, fewer acts are left. The two records were in step before, and
--- are afterwards. No Renew waits then, if the deed was an answer to one.
+-- After a deed towards the end, and messages of either side, fewer acts are left. The two records were converged
+-- before, and are afterwards. No Renew waits then, if the deed was an answer to one.
 pub deed_counts : (x after : RequesterRecord) (y new answered : ResponderRecord) → DeedEnds y new → ResponderKept new answered
-    → InStep x y → InStep after answered → RequesterRules x → RequesterKept x after → RequesterRules after
+    → HaveConverged x y → HaveConverged after answered → RequesterRules x → RequesterKept x after → RequesterRules after
     → (HasRenewed y new → is_among renewing after.state ≡ false) → acts_to_end after < acts_to_end x
 deed_counts x after y new answered (inl (was, is)) kept step step_after fits waited fits_after settles =
     omega (
@@ -648,7 +648,7 @@ deed_counts x after y new answered (inr (inr renewed)) kept step step_after fits
     renewal_counts x after y new renewed step fits waited fits_after (settles renewed)
 
 -- Some act is left before a deed towards the end.
-pub deed_left : (x : RequesterRecord) (y new : ResponderRecord) → DeedEnds y new → InStep x y → 0 < acts_to_end x
+pub deed_left : (x : RequesterRecord) (y new : ResponderRecord) → DeedEnds y new → HaveConverged x y → 0 < acts_to_end x
 deed_left x y new (inl (was, is)) step =
     omega (arith, undecided_left x.state (is_received_by x) x.checked_in (faces_open x.state y.state step.faced was))
 deed_left x y new (inr (inl (was, is))) step =

@@ -19,7 +19,7 @@ use Rattle.ill_core.specs.Responder.{ResponderRecord}
 use Rattle.ill_core.specs.ResponderEvidence.{MayRenew, answered_number}
 use Rattle.ill_core.proofs.GrantLemmas.{itself_not_before}
 use Rattle.ill_world.specs.Invariant.{RequesterInvariant, ResponderInvariant}
-use Rattle.ill_world.specs.Round.{InStep}
+use Rattle.ill_world.specs.Round.{HaveConverged}
 use Rattle.ill_world.proofs.Claims.{AreIssued}
 use Rattle.ill_world.proofs.Finds.{all_found}
 use Rattle.ill_world.proofs.Pairs.{attests_answered, implied, not_below, renewing as renewing_alone, some_of}
@@ -66,12 +66,12 @@ last_waits txn x y responder_sent requester_sent borrower lender issued heeded a
     (attests_answered known.0.number n due.0 known.0.body known.2))) in
     equal_is n (last_renew x) (and_parts _ _ waiting).1
 
--- After an answer to the Renew that waited, and messages of either side, no Renew waits, if both sides are in step.
+-- After an answer to the Renew that waited, and messages of either side, no Renew waits, if both sides are converged.
 pub renewal_settles : (txn : Qualifiers) (x after : RequesterRecord) (y new answered : ResponderRecord)
     (a b c d : List (Option Apdu))
     → RequesterInvariant txn x a → ResponderInvariant txn y b → RequesterInvariant txn after c → ResponderInvariant txn answered d
     → AreIssued a y.issued → AreIssued b x.issued → AreIssued c answered.issued → AreIssued d after.issued
-    → RequesterKept x after → ResponderKept new answered → InStep x y → InStep after answered → HasRenewed y new
+    → RequesterKept x after → ResponderKept new answered → HaveConverged x y → HaveConverged after answered → HasRenewed y new
     → is_among renewing after.state ≡ false
 renewal_settles txn x after y new answered a b c d borrower lender borrower_after lender_after issued heeded issued_after
     heeded_after waited kept step step_after renewed = false_from_ne_true _ apart

@@ -26,8 +26,8 @@ use Rattle.ill_world.specs.declared.event.Event.TheVariants as events
 use Rattle.ill_world.specs.World.{Party, Parties, decides, happens, run_of}
 use Rattle.ill_world.specs.Agreement.{Facing}
 use Rattle.ill_world.specs.Invariant.{Invariant}
-use Rattle.ill_world.specs.Round.{InStep, AreInStep, CanAnswer, round_of}
-use Rattle.ill_world.specs.Night.{AtRest, AreAtRest, AreInStepOrAtRest, night_of}
+use Rattle.ill_world.specs.Round.{HaveConverged, AreConverged, CanAnswer, round_of}
+use Rattle.ill_world.specs.Night.{AtRest, AreAtRest, AreConvergedOrAtRest, night_of}
 use Rattle.ill_world.proofs.Claims.{live_issues}
 use Rattle.ill_world.proofs.Runs.{run_stands}
 use Rattle.ill_progress.specs.Ends.{is_wish_to_end, is_deed_to_end, is_act_to_end, acts_to_end, side_acts_to_end, acts_left}
@@ -58,18 +58,18 @@ side_does make (Err refusal) is = absurd cc
 
 -- ---- a day
 
--- `Day w new`: a day has led `w` to `new`. In `new` both sides are in step or at rest. `SidesCount` holds, so fewer
+-- `Day w new`: a day has led `w` to `new`. In `new` both sides are converged or at rest. `SidesCount` holds, so fewer
 -- acts are left.
 abbrev pub Day : Parties → Parties → Type 0
-Day w new = AreInStepOrAtRest new × SidesCount w.requester.live w.responder.live new.requester.live new.responder.live
+Day w new = AreConvergedOrAtRest new × SidesCount w.requester.live w.responder.live new.requester.live new.responder.live
 
--- These facts are assumed here. Each event keeps the invariant. A night brings both sides in step or to rest, and is a
--- round or two saves.
+-- These facts are assumed here. Each event keeps the invariant. A night brings both sides to convergence or to rest,
+-- and is a round or two saves.
 pub record Nights (txn : Qualifiers) : Type 0 where
   -- Each event keeps the invariant.
   pub after : (w : Parties) (event : Event) → Invariant txn w → Invariant txn (happens w event).1
-  -- If the responder can answer a Conditional-Reply no, a night brings both sides in step, or to rest.
-  pub settles : (w : Parties) → Invariant txn w → CanAnswer w.responder.live → AreInStepOrAtRest (run_of w (night_of w))
+  -- If the responder can answer a Conditional-Reply no, a night brings both sides to convergence, or to rest.
+  pub settles : (w : Parties) → Invariant txn w → CanAnswer w.responder.live → AreConvergedOrAtRest (run_of w (night_of w))
   -- If the loan is open for the requester, a night is a round.
   pub rounds : (w : Parties) → Invariant txn w → is_over w.requester.live ≡ false → night_of w ≡ round_of w
   -- If the loan is over for the requester, a night is a save of each side.
@@ -101,7 +101,7 @@ module _ (txn : Qualifiers) (one : OneEach) (keep : RowsKeep) (nights : Nights t
       let new : Parties = after_day w (events.Wish wish) in
       let stands_acted : Invariant txn acted = nights.after w (events.Wish wish) stands in
       let stands_new : Invariant txn new = run_stands txn nights.after acted (night_of acted) stands_acted in
-      let settled : AreInStepOrAtRest new = nights.settles acted stands_acted can in
+      let settled : AreConvergedOrAtRest new = nights.settles acted stands_acted can in
       let is = decided w.requester (acts w.requester.live (actions.Wish wish)) done in (
         settled,
         wish_sides one txn w.requester.live is.0 new.requester.live w.responder.live new.responder.live w.responder.sent
@@ -112,7 +112,7 @@ module _ (txn : Qualifiers) (one : OneEach) (keep : RowsKeep) (nights : Nights t
       )
 
   -- If a deed towards the end is done, and a night follows, `Day` holds of the worlds before and after.
-  deed_day : (w : Parties) (deed : Deed) (today : Date) → Invariant txn w → AreInStep w → is_deed_to_end deed ≡ true
+  deed_day : (w : Parties) (deed : Deed) (today : Date) → Invariant txn w → AreConverged w → is_deed_to_end deed ≡ true
       → (happens w (events.Deed deed today)).0 ≡ Done → Day w (after_day w (events.Deed deed today))
   deed_day w deed today stands step ends done =
       let acted : Parties = (happens w (events.Deed deed today)).1 in
@@ -123,7 +123,7 @@ module _ (txn : Qualifiers) (one : OneEach) (keep : RowsKeep) (nights : Nights t
       let can : CanAnswer acted.responder.live =
       deed_can txn w.responder.live acted.responder.live w.requester.sent acted.requester.sent deed today ends
       (is.1 ∙ ap Ok (sym is.2)) stands.responder.live stands_acted.responder.live in
-      let settled : AreInStepOrAtRest new = nights.settles acted stands_acted can in (
+      let settled : AreConvergedOrAtRest new = nights.settles acted stands_acted can in (
         settled,
         deed_sides one txn w.requester.live new.requester.live w.responder.live is.0 new.responder.live w.responder.sent
             w.requester.sent new.responder.sent new.requester.sent deed today ends is.1
@@ -137,12 +137,12 @@ module _ (txn : Qualifiers) (one : OneEach) (keep : RowsKeep) (nights : Nights t
 
   -- If an act towards the end is done, and a night follows, `Day` holds of the worlds before and after. The act is a
   -- wish or a deed.
-  pub act_day : (w : Parties) (act : Event) → Invariant txn w → AreInStep w → CanAnswer w.responder.live
+  pub act_day : (w : Parties) (act : Event) → Invariant txn w → AreConverged w → CanAnswer w.responder.live
       → is_act_to_end act ≡ true → (happens w act).0 ≡ Done → Day w (after_day w act)
   act_day w (events.Wish wish) stands step can ends done = wish_day w wish stands can ends done
   act_day w (events.Deed deed today) stands step can ends done = deed_day w deed today stands step ends done
   act_day w (events.Save of) stands step can ends done = absurd cc
-  act_day w (events.SaveFault of landed) stands step can ends done = absurd cc
+  act_day w (events.SaveFault of committed) stands step can ends done = absurd cc
   act_day w (events.Send of n) stands step can ends done = absurd cc
   act_day w (events.Deliver of n) stands step can ends done = absurd cc
   act_day w (events.Noise of bytes) stands step can ends done = absurd cc
@@ -156,19 +156,19 @@ rest_over (sides.Requester x) (sides.Responder y) rest = rest.requester
 rest_over (sides.Responder z) responder rest = absurd rest
 rest_over (sides.Requester x) (sides.Requester z) rest = absurd rest
 
--- If the loan is not over for the requester, both sides are in step.
-open_in_step : (requester responder : Side) → Settled requester responder → is_over requester ≡ false
-    → Facing InStep requester responder
-open_in_step requester responder (inl step) is_open = step
-open_in_step requester responder (inr rest) is_open =
+-- If the loan is not over for the requester, both sides are converged.
+open_converged : (requester responder : Side) → Settled requester responder → is_over requester ≡ false
+    → Facing HaveConverged requester responder
+open_converged requester responder (inl step) is_open = step
+open_converged requester responder (inr rest) is_open =
     let both : true ≡ false = sym (rest_over requester responder rest) ∙ is_open in absurd cc
 
 -- If the turn is not nobody's, the loan is not over.
 not_over : (turn : Turn) → is_nobodys turn ≡ false → turn ≡ Over → ⊥
 not_over turn is_open over = let both : true ≡ false = sym (ap is_nobodys over) ∙ is_open in absurd cc
 
--- If the loan is not over for the requester, and both sides are in step, some act is left.
-some_left : (requester responder : Side) → Facing InStep requester responder → is_over requester ≡ false
+-- If the loan is not over for the requester, and both sides are converged, some act is left.
+some_left : (requester responder : Side) → Facing HaveConverged requester responder → is_over requester ≡ false
     → 0 < side_acts_to_end requester
 some_left (sides.Requester x) responder step is_open = go (acts_to_end x) refl
   where
@@ -184,14 +184,15 @@ SideCanAct requester responder =
     ((wish : Wish) × (is_wish_to_end wish ≡ true) × IsOk (acts requester (actions.Wish wish)))
     ⊎ ((deed : Deed) × (is_deed_to_end deed ≡ true) × ((today : Date) → IsOk (acts responder (actions.Deed deed today))))
 
--- This law is assumed here: of two records in step one can act towards the end. The loan is not over for the requester,
--- and each has a number left.
+-- This law is assumed here: of two converged records one can act towards the end. The loan is not over for the
+-- requester, and each has a number left.
 abbrev pub OneCanAct : Type 0
-OneCanAct = (x : RequesterRecord) (y : ResponderRecord) → InStep x y → (requester_turn x ≡ Over → ⊥) → length x.issued < 255
+OneCanAct = (x : RequesterRecord) (y : ResponderRecord) → HaveConverged x y → (requester_turn x ≡ Over → ⊥)
+    → length x.issued < 255
     → length y.issued < 255 → CanWish x ⊎ CanDo y
 
--- If both sides are in step, and the loan is not over, one of them can act towards the end. Each has a number left.
-one_side_acts : OneCanAct → (requester responder : Side) → Facing InStep requester responder → is_over requester ≡ false
+-- If both sides are converged, and the loan is not over, one of them can act towards the end. Each has a number left.
+one_side_acts : OneCanAct → (requester responder : Side) → Facing HaveConverged requester responder → is_over requester ≡ false
     → length (issued_of requester) < 255 → length (issued_of responder) < 255 → SideCanAct requester responder
 one_side_acts can (sides.Requester x) (sides.Responder y) step is_open asking lending =
     elim (can x y step (not_over (requester_turn x) is_open) asking lending) [
@@ -217,17 +218,18 @@ numbers_lent requester responder after answered counts has few = go counts.lent
     go (inl most) = omega (arith, most, has)
     go (inr none) = omega (arith, none, few)
 
--- Premises: one of two sides in step can act (`can_act`). A loan over for the requester is at rest (`rests`).
+-- Premises: one of two converged sides can act (`can_act`). A loan over for the requester is at rest (`rests`).
 module _ (txn : Qualifiers) (one : OneEach) (keep : RowsKeep) (nights : Nights txn) (can_act : OneCanAct)
     (rests : (w : Parties) → Invariant txn w → is_over w.requester.live ≡ true → AreAtRest w) where
-  -- The loan can be ended from `w` in `days` days. Premises: the invariant, and sides in step or at rest. At most
-  -- `days` acts are left, and both sides have numbers for them.
+  -- The loan can be ended from `w` in `days` days. Premises: the invariant, and sides that are converged or at rest. At
+  -- most `days` acts are left, and both sides have numbers for them.
   abbrev CanEndFrom : ℕ → Parties → Type 0
-  CanEndFrom days w = Invariant txn w → AreInStepOrAtRest w → acts_left w ≤ days → HasNumbers (acts_left w) w.requester.live
+  CanEndFrom days w = Invariant txn w → AreConvergedOrAtRest w → acts_left w ≤ days → HasNumbers (acts_left w) w.requester.live
       → HasNumbers (acts_left w) w.responder.live → CanEnd days w
 
   -- After a day with `act` the loan can be ended in `days` days, if `CanEndFrom days` holds of each world (`next`).
-  after_act : (days : ℕ) → ((new : Parties) → CanEndFrom days new) → (w : Parties) (act : Event) → Invariant txn w → AreInStep w
+  after_act : (days : ℕ) → ((new : Parties) → CanEndFrom days new) → (w : Parties) (act : Event) → Invariant txn w
+      → AreConverged w
       → acts_left w ≤ suc days → 0 < acts_left w → HasNumbers (acts_left w) w.requester.live
       → HasNumbers (acts_left w) w.responder.live → is_act_to_end act ≡ true → (happens w act).0 ≡ Done
       → CanEnd days (after_day w act)
@@ -249,7 +251,7 @@ module _ (txn : Qualifiers) (one : OneEach) (keep : RowsKeep) (nights : Nights t
       go : (over : Bool) → is_over w.requester.live ≡ over → CanEnd (suc days) w
       go true over = inl (rests w stands over)
       go false is_open =
-          let step : AreInStep w = open_in_step w.requester.live w.responder.live settled is_open in
+          let step : AreConverged w = open_converged w.requester.live w.responder.live settled is_open in
           let some = some_left w.requester.live w.responder.live step is_open in
           elim (one_side_acts can_act w.requester.live w.responder.live step is_open (omega (arith, some, asking))
           (omega (arith, some, lending))) [
@@ -282,7 +284,7 @@ module _ (txn : Qualifiers) (one : OneEach) (keep : RowsKeep) (nights : Nights t
             arith,
             few,
             some_left w.requester.live w.responder.live
-                (open_in_step w.requester.live w.responder.live settled is_open) is_open,
+                (open_converged w.requester.live w.responder.live settled is_open) is_open,
           ))
 
   -- `CanEndFrom` holds of all `days` and each world, by induction on `days`.

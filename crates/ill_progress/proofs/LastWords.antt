@@ -1,4 +1,5 @@
--- If the loan has ended for a responder, its last message tells so. If it arrives, the loan is over for the requester too.
+-- If the loan has ended for a responder, its last message tells so. If it arrives, the loan is over for the requester
+-- too.
 use Rattle.std.proofs.Common.{rules, ◌≡◌, ℕ, suc, Bool, true, false, List, [], ◌∷◌, ◌++◌, length, Option, Some, Ok, refl, sym, ap}
 use Rattle.std.proofs.Common.{◌∙◌, subst, true≢false, length-append, arith, None, Result, Err, if◌then◌else◌}
 use Rattle.std.specs.Prelude.{slice_get}
@@ -177,7 +178,7 @@ keeps_tells = record {
   takes = λ old a sent was tells. side_takes_tell old a sent tells;
 }
 
--- The responder of a world tells its end, live and landed.
+-- The responder of a world tells its end, live and committed.
 abbrev pub ResponderTells : Parties → Type 0
 ResponderTells w = PartyInvariant SideTells w.responder w.requester.sent
 
@@ -187,7 +188,7 @@ event_tells : RowsGrow → (w : Parties) (event : Event) (role : Role) → Respo
 event_tells grows w event who.Requester tells = record {
   saved = tells.saved;
   live = side_still_tells w.responder.live _ _ tells.live;
-  landed = side_still_tells w.responder.landed _ _ tells.landed;
+  committed = side_still_tells w.responder.committed _ _ tells.committed;
 }
 event_tells grows w event who.Responder tells = party_kept SideTells w.responder w.requester.sent event grows keeps_tells tells
 
@@ -203,7 +204,7 @@ pub first_tells : (txn : Qualifiers) → Invariant txn (first_world txn) → Res
 first_tells txn stands = record {
   saved = stands.responder.saved;
   live = λ final. absurd (true≢false (sym final));
-  landed = λ final. absurd (true≢false (sym final));
+  committed = λ final. absurd (true≢false (sym final));
 }
 
 -- ---- the arrival

@@ -35,7 +35,7 @@ after_if w e happens =
     if happens then (at_desk after.0, record w { shelves = after.1 }) else (no_desk, w)
 
 -- Returns the outcome of a retirement, and the shelves after it. `marked` says that there is a mark already. `over`
--- says that all landed loans are over.
+-- says that all committed loans are over.
 abbrev pub retired_if : MarkedShelves → Role → List ℕ → Bool → Bool → RetiringOutcome × MarkedShelves
 retired_if w role group marked over =
     if marked then (done, w)
@@ -124,9 +124,9 @@ mark_stays w all role group is = run_keeps (λ v. has_mark v role group ≡ true
 
 -- ---- a desk that is retired
 
--- The sides of a desk are unchanged, in memory and landed.
+-- The sides of a desk are unchanged, in memory and committed.
 abbrev SameSides : DeskParty → DeskParty → Type 0
-SameSides old new = (new.live ≡ old.live) × (new.landed ≡ old.landed)
+SameSides old new = (new.live ≡ old.live) × (new.committed ≡ old.committed)
 
 -- A Send leaves the sides of its desk unchanged.
 sends_same : (p : DeskParty) (txn : Qualifiers) (n : ℕ) (found : Option DeskEntry) → SameSides p (desk_sends p txn n found).1
@@ -157,10 +157,10 @@ desk_same w marks (events.Save who.Requester) who.Requester is can = kept_out ma
 desk_same w marks (events.Save who.Requester) who.Responder is can = (refl, refl)
 desk_same w marks (events.Save who.Responder) who.Requester is can = (refl, refl)
 desk_same w marks (events.Save who.Responder) who.Responder is can = kept_out marks.responder is can
-desk_same w marks (events.SaveFault who.Requester landed) who.Requester is can = kept_out marks.requester is can
-desk_same w marks (events.SaveFault who.Requester landed) who.Responder is can = (refl, refl)
-desk_same w marks (events.SaveFault who.Responder landed) who.Requester is can = (refl, refl)
-desk_same w marks (events.SaveFault who.Responder landed) who.Responder is can = kept_out marks.responder is can
+desk_same w marks (events.SaveFault who.Requester committed) who.Requester is can = kept_out marks.requester is can
+desk_same w marks (events.SaveFault who.Requester committed) who.Responder is can = (refl, refl)
+desk_same w marks (events.SaveFault who.Responder committed) who.Requester is can = (refl, refl)
+desk_same w marks (events.SaveFault who.Responder committed) who.Responder is can = kept_out marks.responder is can
 desk_same w marks (events.Send who.Requester txn n) who.Requester is can = kept_out marks.requester is can
 desk_same w marks (events.Send who.Requester txn n) who.Responder is can = (refl, refl)
 desk_same w marks (events.Send who.Responder txn n) who.Requester is can = (refl, refl)
@@ -220,8 +220,8 @@ requester_same w marks (events.Wish txn wish) is can = kept_out marks.requester 
 requester_same w marks (events.Deed txn deed today) is can = refl
 requester_same w marks (events.Save who.Requester) is can = kept_out marks.requester is can
 requester_same w marks (events.Save who.Responder) is can = refl
-requester_same w marks (events.SaveFault who.Requester landed) is can = kept_out marks.requester is can
-requester_same w marks (events.SaveFault who.Responder landed) is can = refl
+requester_same w marks (events.SaveFault who.Requester committed) is can = kept_out marks.requester is can
+requester_same w marks (events.SaveFault who.Responder committed) is can = refl
 requester_same w marks (events.Send who.Requester txn n) is can = kept_out marks.requester is can
 requester_same w marks (events.Send who.Responder txn n) is can = refl
 requester_same w marks (events.Deliver who.Requester txn n) is can = kept_out marks.requester is can
@@ -321,8 +321,8 @@ responder_silent w marks (events.Wish of wish) txn n is can apart = refl
 responder_silent w marks (events.Deed of deed today) txn n is can apart = kept_out marks.responder is can
 responder_silent w marks (events.Save who.Requester) txn n is can apart = refl
 responder_silent w marks (events.Save who.Responder) txn n is can apart = kept_out marks.responder is can
-responder_silent w marks (events.SaveFault who.Requester landed) txn n is can apart = refl
-responder_silent w marks (events.SaveFault who.Responder landed) txn n is can apart = kept_out marks.responder is can
+responder_silent w marks (events.SaveFault who.Requester committed) txn n is can apart = refl
+responder_silent w marks (events.SaveFault who.Responder committed) txn n is can apart = kept_out marks.responder is can
 responder_silent w marks (events.Send who.Requester of m) txn n is can apart = refl
 responder_silent w marks (events.Send who.Responder of m) txn n is can apart =
     let last : ℕ = length (issued_of (held_for of w.responder.live).side) in

@@ -20,7 +20,7 @@ use Rattle.ill_world.specs.Desks.{DeskParty, DeskParties, first_desks, desks_hap
 use Rattle.ill_world.specs.DeskSafety.{DesksInvariant}
 use Rattle.ill_world.specs.Invariant.{Invariant}
 use Rattle.ill_world.specs.Round.{CanAnswer}
-use Rattle.ill_world.specs.Night.{AreAtRest, AreInStepOrAtRest}
+use Rattle.ill_world.specs.Night.{AreAtRest, AreConvergedOrAtRest}
 use Rattle.ill_world.specs.DeskNight.{desk_night_of}
 use Rattle.ill_world.specs.Shelves.{ShelfEvent, first_shelves, shelves_run, in_group, events_at}
 use Rattle.ill_world.proofs.Desks.{EachStands, desks_stand_on}
@@ -51,10 +51,10 @@ module _ (test : DeskEntry → Bool) (passes : (side : Side) → is_over side �
   opened_pass : (desks : DeskParties) (marks : TwoOf Bool) (at role : Role) → are_loans_over (party desks at) ≡ true
       → party marks role ≡ false → party (with_party marks at true) role ≡ true
       → AllPass (party (desks_happen desks (events.Restart at)).1 role)
-  opened_pass desks marks who.Requester who.Requester over unmarked after = whole_pass desks.requester.landed.sides over
+  opened_pass desks marks who.Requester who.Requester over unmarked after = whole_pass desks.requester.committed.sides over
   opened_pass desks marks who.Requester who.Responder over unmarked after = absurd (true≢false (sym after ∙ unmarked))
   opened_pass desks marks who.Responder who.Requester over unmarked after = absurd (true≢false (sym after ∙ unmarked))
-  opened_pass desks marks who.Responder who.Responder over unmarked after = whole_pass desks.responder.landed.sides over
+  opened_pass desks marks who.Responder who.Responder over unmarked after = whole_pass desks.responder.committed.sides over
 
   -- If an event sets a mark, all entries of the desk pass the test after it.
   new_mark : (w : MarkedShelves) (event : RetiringEvent) (role : Role) (group : List ℕ) → has_mark w role group ≡ false
@@ -176,15 +176,15 @@ shelf_runs_of_kept w all group kept =
 pub night_of_kept : ((txn : Qualifiers) (all : List ShelfEvent) → let w = shelves_run first_shelves all in
     CanAnswer (project txn (w txn.group)).responder.live
     → let night = in_group txn.group (desk_night_of (w txn.group)) in
-    AreInStepOrAtRest (project txn (shelves_run w night txn.group)))
+    AreConvergedOrAtRest (project txn (shelves_run w night txn.group)))
     → (txn : Qualifiers) (all : List RetiringEvent) → let w = retiring_run first_marked_shelves all in IsKeptByBoth w txn.group
     → CanAnswer (project txn (w.shelves txn.group)).responder.live
     → let night = map on_shelf (in_group txn.group (desk_night_of (w.shelves txn.group))) in
-    AreInStepOrAtRest (project txn ((retiring_run w night).shelves txn.group))
+    AreConvergedOrAtRest (project txn ((retiring_run w night).shelves txn.group))
 night_of_kept nights txn all kept can =
     let w = retiring_run first_marked_shelves all in
     let night = in_group txn.group (desk_night_of (w.shelves txn.group)) in
-    subst (λ desks. AreInStepOrAtRest (project txn desks)) (sym (shelf_runs_of_kept w night txn.group kept))
+    subst (λ desks. AreConvergedOrAtRest (project txn desks)) (sym (shelf_runs_of_kept w night txn.group kept))
     (subst (λ shelves. CanAnswer (project txn (shelves txn.group)).responder.live
-    → AreInStepOrAtRest (project txn (shelves_run shelves (in_group txn.group (desk_night_of (shelves txn.group))) txn.group)))
+    → AreConvergedOrAtRest (project txn (shelves_run shelves (in_group txn.group (desk_night_of (shelves txn.group))) txn.group)))
     (sym (run_shelves first_marked_shelves all)) (nights txn (shelf_events_of first_marked_shelves all)) can)

@@ -1,4 +1,4 @@
--- After a night in which people act both sides are in step, or at rest. The responder has heard all messages of the
+-- After a night in which people act both sides are converged, or at rest. The responder has heard all messages of the
 -- requester, and its deeds change nothing of that.
 use Rattle.std.proofs.Common.{rules, arith, ◌≡◌, ◌⊎◌, inl, inr, ℕ, zero, suc, ◌+◌, ◌≤◌, ◌<◌, Bool, true, false, not, nat_le}
 use Rattle.std.proofs.Common.{List, []}
@@ -34,9 +34,9 @@ use Rattle.ill_world.specs.declared.event.Event.TheVariants as events
 use Rattle.ill_world.specs.World.{Party, Parties, decides, sends, happens, run_by, run_of}
 use Rattle.ill_world.specs.Agreement.{Facing}
 use Rattle.ill_world.specs.Invariant.{Invariant, RequesterInvariant, RequesterSideInvariant, ResponderSideInvariant}
-use Rattle.ill_world.specs.Round.{sends_and_delivers, half_of, round_of, InStep, AreInStep, CanAnswer}
+use Rattle.ill_world.specs.Round.{sends_and_delivers, half_of, round_of, HaveConverged, AreConverged, CanAnswer}
 use Rattle.ill_world.specs.Night.{asks, half_if, asking_half, night_of, AtRest, AreAtRest}
-use Rattle.ill_world.specs.Night.{AreInStepOrAtRest}
+use Rattle.ill_world.specs.Night.{AreConvergedOrAtRest}
 use Rattle.ill_world.proofs.Claims.{AreIssued, live_issues}
 use Rattle.ill_world.proofs.Hearing.{taking, keeps_all, heard_later}
 use Rattle.ill_world.proofs.Nights.{asked_wants, unasked_is_open}
@@ -47,7 +47,7 @@ use Rattle.ill_world.proofs.Runs.{run_both, run_one, run_stands}
 use Rattle.ill_world.proofs.Uniqueness.{message_number}
 use Rattle.ill_progress.specs.NightFacts.{NightFacts}
 use Rattle.ill_progress.specs.NightWithPeople.{HasHeard, ResponderHasHeard, is_by_responder, asked_and_worked, answering_half}
-use Rattle.ill_progress.specs.NightWithPeople.{worked_night_of, HaveLanded, two_late_nights_of}
+use Rattle.ill_progress.specs.NightWithPeople.{worked_night_of, AreCommitted, two_late_nights_of}
 use Rattle.ill_progress.proofs.HeardMessages.{heard_leaves}
 use Rattle.ill_progress.proofs.DeedLemmas.{heard_after_deed}
 
@@ -92,16 +92,16 @@ nobodys Theirs is = search rules
 
 -- ---- the party that sends
 
--- A Send leaves the live and the landed side.
+-- A Send leaves the live and the committed side.
 send_keeps : (p : Party) (n : ℕ) (found : Option Apdu) (released : Bool)
-    → ((sends p n found released).1.live ≡ p.live) × ((sends p n found released).1.landed ≡ p.landed)
+    → ((sends p n found released).1.live ≡ p.live) × ((sends p n found released).1.committed ≡ p.committed)
 send_keeps p n None released = (refl, refl)
 send_keeps p n (Some a) false = (refl, refl)
 send_keeps p n (Some a) true = (refl, refl)
 
--- The Sends and Delivers of the responder's messages leave its live and its landed side.
+-- The Sends and Delivers of the responder's messages leave its live and its committed side.
 sendings_keep : (w : Parties) (n count : ℕ) → let new = run_of w (sends_and_delivers who.Responder n count) in
-    (new.responder.live ≡ w.responder.live) × (new.responder.landed ≡ w.responder.landed)
+    (new.responder.live ≡ w.responder.live) × (new.responder.committed ≡ w.responder.committed)
 unfolding sends_and_delivers run_by
 sendings_keep w n zero = (refl, refl)
 sendings_keep w n (suc count) =
@@ -111,14 +111,14 @@ sendings_keep w n (suc count) =
     let here = send_keeps w.responder n (message (issued_of w.responder.live) n) (nat_le n w.responder.released) in
     (rest.0 ∙ here.0, rest.1 ∙ here.1)
 
--- After the responder's half of a night the responder's live side has landed, and is unchanged.
-half_lands : (wants : Bool) (w : Parties) → let new = run_of w (half_if wants who.Responder w) in
-    (new.responder.landed ≡ new.responder.live) × (new.responder.live ≡ w.responder.live)
+-- After the responder's half of a night the responder's live side is committed, and is unchanged.
+half_commits : (wants : Bool) (w : Parties) → let new = run_of w (half_if wants who.Responder w) in
+    (new.responder.committed ≡ new.responder.live) × (new.responder.live ≡ w.responder.live)
 unfolding run_by
-half_lands true w =
+half_commits true w =
     let kept = sendings_keep (happens w (events.Save who.Responder)).1 1 (length (issued_of w.responder.live)) in
     (kept.1 ∙ sym kept.0, kept.0)
-half_lands false w = (refl, refl)
+half_commits false w = (refl, refl)
 
 -- The events `more` follow the requester's half of a round and a save of the responder. They lead on from this save.
 half_saved : (w : Parties) (more : List Event) → run_of w (half_of who.Requester w ++ events.Save who.Responder ∷ more)
@@ -144,7 +144,7 @@ one_save_keeps w = (refl, refl)
 one_keeps : (w : Parties) (event : Event) → is_by_responder event ≡ true → (happens w event).1.requester ≡ w.requester
 one_keeps w (events.Deed deed today) is = refl
 one_keeps w (events.Save who.Responder) is = refl
-one_keeps w (events.SaveFault who.Responder landed) is = refl
+one_keeps w (events.SaveFault who.Responder committed) is = refl
 one_keeps w (events.Send who.Responder n) is = refl
 one_keeps w (events.Noise who.Responder bytes) is = refl
 one_keeps w (events.Restart who.Responder) is = refl
@@ -158,17 +158,17 @@ people_keep w [] all = refl
 people_keep w (event ∷ people) all =
     people_keep (happens w event).1 people (and_parts _ _ all).1 ∙ one_keeps w event (and_parts _ _ all).0
 
--- If two pairs of sides are equal, and the first are in step, so are the second.
-same_step : (x x_too y y_too : Side) → x ≡ x_too → y ≡ y_too → Facing InStep x y → Facing InStep x_too y_too
+-- If two pairs of sides are equal, and the first are converged, so are the second.
+same_step : (x x_too y y_too : Side) → x ≡ x_too → y ≡ y_too → Facing HaveConverged x y → Facing HaveConverged x_too y_too
 same_step x x_too y y_too same_x same_y step =
-    subst (λ (s : Side). Facing InStep s y_too) same_x (subst (λ (s : Side). Facing InStep x s) same_y step)
+    subst (λ (s : Side). Facing HaveConverged s y_too) same_x (subst (λ (s : Side). Facing HaveConverged x s) same_y step)
 
--- If two pairs of sides are equal, and the first are in step or at rest, so are the second.
-same_end : (x x_too y y_too : Side) → x ≡ x_too → y ≡ y_too → Facing InStep x y ⊎ Facing AtRest x y
-    → Facing InStep x_too y_too ⊎ Facing AtRest x_too y_too
+-- If two pairs of sides are equal, and the first are converged or at rest, so are the second.
+same_end : (x x_too y y_too : Side) → x ≡ x_too → y ≡ y_too → Facing HaveConverged x y ⊎ Facing AtRest x y
+    → Facing HaveConverged x_too y_too ⊎ Facing AtRest x_too y_too
 same_end x x_too y y_too same_x same_y end =
-    subst (λ (s : Side). Facing InStep s y_too ⊎ Facing AtRest s y_too) same_x
-    (subst (λ (s : Side). Facing InStep x s ⊎ Facing AtRest x s) same_y end)
+    subst (λ (s : Side). Facing HaveConverged s y_too ⊎ Facing AtRest s y_too) same_x
+    (subst (λ (s : Side). Facing HaveConverged x s ⊎ Facing AtRest x s) same_y end)
 
 -- If two sides are equal, and `is_over` is `over` for one, it is `over` for the other.
 over_too : (x y : Side) (over : Bool) → x ≡ y → is_over y ≡ over → is_over x ≡ over
@@ -257,19 +257,20 @@ module _ (txn : Qualifiers) (known : NightFacts txn) where
       let passed = asked_all w stands in
       (passed.live, passed.taken ∙ no_news w.requester.live w.responder.live heard)
 
-  -- If the responder has heard all, and can answer, its half of a round brings both in step. A whole round does so, and
-  -- its first half then changes nothing.
-  answer_brings_in_step : (w : Parties) → Invariant txn w → ResponderHasHeard w → CanAnswer w.responder.live
-      → AreInStep (run_of w (half_of who.Responder w))
-  answer_brings_in_step w stands heard can =
+  -- If the responder has heard all, and can answer, its half of a round brings both to convergence. A whole round does
+  -- so, and its first half then changes nothing.
+  answer_converges : (w : Parties) → Invariant txn w → ResponderHasHeard w → CanAnswer w.responder.live
+      → AreConverged (run_of w (half_of who.Responder w))
+  answer_converges w stands heard can =
       let asked : Parties = run_of w (half_of who.Requester w) in
       let round : Parties = run_of asked (half_of who.Responder asked) in
       let new : Parties = run_of w (half_of who.Responder w) in
       let same = half_without_news w stands heard in
       let answered = answered_all w stands in
       let again = answered_all asked (run_stands txn known.after w (half_of who.Requester w) stands) in
-      let step : AreInStep round = subst AreInStep (run_both happens w (half_of who.Requester w) (half_of who.Responder asked))
-      (known.in_step w stands can) in
+      let step : AreConverged round =
+      subst AreConverged (run_both happens w (half_of who.Requester w) (half_of who.Responder asked))
+      (known.converged w stands can) in
       same_step round.requester.live new.requester.live round.responder.live new.responder.live
       (again.taken
       ∙ ap (λ (s : Side). takes_all s (issued_of asked.responder.live)) same.0
@@ -303,16 +304,16 @@ module _ (txn : Qualifiers) (known : NightFacts txn) where
 
   -- If `Hears` holds of both sides of `p`, and of each new side, it holds of both after the decision.
   decided_hears : (x : Side) (p : Party) (result : Result Side Refusal) → ((new : Side) → result ≡ Ok new → Facing Hears x new)
-      → Facing Hears x p.live → Facing Hears x p.landed
-      → Facing Hears x (decides p result).1.live × Facing Hears x (decides p result).1.landed
-  decided_hears x p (Ok new) done live landed = (done new refl, landed)
-  decided_hears x p (Err refusal) done live landed = (live, landed)
+      → Facing Hears x p.live → Facing Hears x p.committed
+      → Facing Hears x (decides p result).1.live × Facing Hears x (decides p result).1.committed
+  decided_hears x p (Ok new) done live committed = (done new refl, committed)
+  decided_hears x p (Err refusal) done live committed = (live, committed)
 
   -- ---- events at the responder's library
 
-  -- `Hears` holds of the requester's live side, and of the live and the landed side of the responder.
+  -- `Hears` holds of the requester's live side, and of the live and the committed side of the responder.
   abbrev BothHear : Parties → Type 0
-  BothHear w = Facing Hears w.requester.live w.responder.live × Facing Hears w.requester.live w.responder.landed
+  BothHear w = Facing Hears w.requester.live w.responder.live × Facing Hears w.requester.live w.responder.committed
 
   -- An event at the responder's library keeps `BothHear`.
   one_hears : (w : Parties) (event : Event) → Invariant txn w → is_by_responder event ≡ true → BothHear w
@@ -410,9 +411,9 @@ module _ (txn : Qualifiers) (known : NightFacts txn) where
     stands_morning : Invariant txn morning
     stands_morning = run_stands txn known.after w (worked_night_of people w) stands
 
-    -- After the night both live sides have landed.
-    pub have_landed : HaveLanded morning
-    have_landed = subst HaveLanded (sym in_parts) (record { requester = refl; responder = (half_lands wants now).0 })
+    -- After the night both live sides are committed.
+    pub are_committed : AreCommitted morning
+    are_committed = subst AreCommitted (sym in_parts) (record { requester = refl; responder = (half_commits wants now).0 })
 
     -- A half of the requester, a save of the responder and the people leave the requester's live side.
     half_keeps : (half : Bool)
@@ -460,23 +461,24 @@ module _ (txn : Qualifiers) (known : NightFacts txn) where
             ap (λ b. wants_sending b now.responder.live) it_asks
             ∙ asked_wants txn now.responder.live now.requester.sent stands_now.responder.live
 
-    -- If the loan is open for the requester before the night, and the responder can answer, both are in step after it.
-    open_steps : is_over w.requester.live ≡ false → CanAnswer now.responder.live → AreInStep morning
+    -- If the loan is open for the requester before the night, and the responder can answer, both are converged after
+    -- it.
+    open_steps : is_over w.requester.live ≡ false → CanAnswer now.responder.live → AreConverged morning
     open_steps is_open can =
         let heard : ResponderHasHeard now =
         subst (λ (b : Bool). ResponderHasHeard (run_of w (half_if b who.Requester w ++ events.Save who.Responder ∷ people)))
         (sym (open_wants false w.requester.live is_open)) (worked_hears w people stands all) in
-        let step : AreInStep answered =
-        subst (λ (b : Bool). AreInStep (run_of now (half_if b who.Responder now))) (sym (open_wants_all is_open))
-        (answer_brings_in_step now stands_now heard can) in
-        subst AreInStep (sym in_parts) step
+        let step : AreConverged answered =
+        subst (λ (b : Bool). AreConverged (run_of now (half_if b who.Responder now))) (sym (open_wants_all is_open))
+        (answer_converges now stands_now heard can) in
+        subst AreConverged (sym in_parts) step
 
-    -- After the night both sides are in step, or at rest.
-    pub worked_night : CanAnswer now.responder.live → AreInStepOrAtRest morning
+    -- After the night both sides are converged, or at rest.
+    pub worked_night : CanAnswer now.responder.live → AreConvergedOrAtRest morning
     worked_night can = go (is_over w.requester.live) refl
       where
-        -- If the loan is over for the requester, both sides are at rest after the night; if not, they are in step.
-        go : (over : Bool) → is_over w.requester.live ≡ over → AreInStepOrAtRest morning
+        -- If the loan is over for the requester, both sides are at rest after the night; if not, they are converged.
+        go : (over : Bool) → is_over w.requester.live ≡ over → AreConvergedOrAtRest morning
         go true is = inr (over_rests is)
         go false is = inl (open_steps is can)
 
@@ -542,21 +544,21 @@ module _ (txn : Qualifiers) (known : NightFacts txn) where
             let same = half_without_news next_day (run_stands txn known.after w (night_of w) stands) (night_hears is) in
             subst Same (sym (open_wants false next_day.requester.live is)) (sym same.0, sym same.1)
 
-    -- After a night and one more half of the requester both sides are in step, or at rest.
-    night_and_half : CanAnswer w.responder.live → AreInStepOrAtRest (run_of next_day (asking_half next_day))
+    -- After a night and one more half of the requester both sides are converged, or at rest.
+    night_and_half : CanAnswer w.responder.live → AreConvergedOrAtRest (run_of next_day (asking_half next_day))
     night_and_half can =
         let new : Parties = run_of next_day (asking_half next_day) in
         same_end next_day.requester.live new.requester.live next_day.responder.live new.responder.live half_more.0 half_more.1
         (known.night w stands can)
 
-  -- After two nights that the responder begins both sides are in step, or at rest.
+  -- After two nights that the responder begins both sides are converged, or at rest.
   pub two_late_nights : (asked : Bool) (w : Parties) → Invariant txn w → CanAnswer w.responder.live
-      → AreInStepOrAtRest (run_of w (two_late_nights_of asked w))
+      → AreConvergedOrAtRest (run_of w (two_late_nights_of asked w))
   two_late_nights asked w stands can =
       let first = half_if (wants_sending asked w.responder.live) who.Responder w in
       let now : Parties = run_of w first in
       let next : Parties = run_of now (night_of now) in
-      subst AreInStepOrAtRest
+      subst AreConvergedOrAtRest
       (sym (run_both happens w first (night_of now ++ asking_half next) ∙ run_both happens now (night_of now) (asking_half next)))
       (night_and_half now (run_stands txn known.after w first stands)
-      (subst CanAnswer (sym (half_lands (wants_sending asked w.responder.live) w).1) can))
+      (subst CanAnswer (sym (half_commits (wants_sending asked w.responder.live) w).1) can))

@@ -36,7 +36,7 @@ pub data MisjudgesAct : Event → Bool → Type 0 where
   recalls : (today : Date) → MisjudgesAct (Deed deeds.Recall today) true
   -- The event is no action. But the answer is yes.
   saves : (who : Role) → MisjudgesAct (Save who) true
-  fails : (who : Role) (landed : Bool) → MisjudgesAct (SaveFault who landed) true
+  fails : (who : Role) (committed : Bool) → MisjudgesAct (SaveFault who committed) true
   sends : (who : Role) (n : ℕ) → MisjudgesAct (Send who n) true
   delivers : (who : Role) (n : ℕ) → MisjudgesAct (Deliver who n) true
   hears : (who : Role) (bytes : List ℕ) → MisjudgesAct (Noise who bytes) true

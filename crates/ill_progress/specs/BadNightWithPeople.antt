@@ -1,4 +1,5 @@
--- Records that have not heard, and parties that have not landed. By the laws `HasHeard` and `HaveLanded` exclude them.
+-- Records that have not heard, and parties that have not committed. By the laws `HasHeard` and `AreCommitted` exclude
+-- them.
 use Rattle.std.specs.Prelude.{◌≡◌, ℕ, Some}
 use Rattle.ill_values.specs.declared.apdu.Apdu.{Apdu}
 use Rattle.ill_core.specs.Issued.{message}
@@ -12,6 +13,6 @@ use Rattle.ill_world.specs.World.{Parties, party}
 pub data HasNotHeard (x : RequesterRecord) (y : ResponderRecord) : Type 0 where
   unheard : (n : ℕ) (a : Apdu) → message x.issued n ≡ Some a → ((takes y a).1 ≡ y → ⊥) → HasNotHeard x y
 
--- The live side of a party has not landed.
-pub data HasNotLanded (w : Parties) : Type 0 where
-  not_landed : (who : Role) → ((party w who).landed ≡ (party w who).live → ⊥) → HasNotLanded w
+-- The live side of a party has not committed.
+pub data IsNotCommitted (w : Parties) : Type 0 where
+  not_committed : (who : Role) → ((party w who).committed ≡ (party w who).live → ⊥) → IsNotCommitted w

@@ -1,5 +1,5 @@
--- These are wrong outcomes of retiring events, and wrong shelves after them. Each case has its own fault. By the law the
--- definitions of a retirement exclude them all.
+-- These are wrong outcomes of retiring events, and wrong shelves after them. Each case has its own fault. By the law
+-- the definitions of a retirement exclude them all.
 use Rattle.std.specs.Prelude.{◌≡◌, ◌⊎◌, ℕ, true, false, List, ◌∷◌, ◌++◌, length}
 use Rattle.ill_values.specs.TxnId.{Qualifiers}
 use Rattle.ill_record.specs.declared.role.Role.{Role}
@@ -68,13 +68,14 @@ pub data IsMishandled (w : MarkedShelves) (outcome : RetiringOutcome) (new : Mar
   changes_other : (who : Role) (group : List ℕ) →
       (party (new.shelves group) (other who) ≡ party (w.shelves group) (other who) → ⊥)
       ⊎ (has_mark new (other who) group ≡ has_mark w (other who) group → ⊥) → IsMishandled w outcome new (retire who group)
-  -- A loan has landed that is not over. But the retirement is done, or changes something.
+  -- A loan is committed that is not over. But the retirement is done, or changes something.
   retires_open : (who : Role) (group : List ℕ) (side : Side) → has_mark w who group ≡ false →
-      Has (party (w.shelves group) who).landed.sides side → is_over side ≡ false →
+      Has (party (w.shelves group) who).committed.sides side → is_over side ≡ false →
       (outcome ≡ not_now → ⊥) ⊎ (new ≡ w → ⊥) → IsMishandled w outcome new (retire who group)
-  -- All loans that have landed are over. But the outcome is not `done`, no mark is there, or the desk is not restarted.
+  -- All loans that are committed are over. But the outcome is not `done`, no mark is there, or the desk is not
+  -- restarted.
   refuses_over : (who : Role) (group : List ℕ) → has_mark w who group ≡ false →
-      ((side : Side) → Has (party (w.shelves group) who).landed.sides side → is_over side ≡ true) →
+      ((side : Side) → Has (party (w.shelves group) who).committed.sides side → is_over side ≡ true) →
       (outcome ≡ done → ⊥) ⊎ (has_mark new who group ≡ false)
       ⊎ (party (new.shelves group) who ≡ desk_restarts (party (w.shelves group) who) → ⊥) →
       IsMishandled w outcome new (retire who group)

@@ -18,8 +18,8 @@ use Rattle.ill_world.specs.declared.event.Event.{Event}
 use Rattle.ill_world.specs.declared.event.Event.TheVariants.{Save}
 use Rattle.ill_world.specs.World.{Parties, happens, run_of}
 use Rattle.ill_world.specs.Invariant.{Invariant}
-use Rattle.ill_world.specs.Round.{round_of, AreInStep, CanAnswer}
-use Rattle.ill_world.specs.Night.{night_of, AreAtRest, AreInStepOrAtRest}
+use Rattle.ill_world.specs.Round.{round_of, AreConverged, CanAnswer}
+use Rattle.ill_world.specs.Night.{night_of, AreAtRest, AreConvergedOrAtRest}
 
 -- The facts of the tables and of worlds on which the laws of nights rest.
 pub record NightFacts (txn : Qualifiers) : Type 0 where
@@ -27,15 +27,15 @@ pub record NightFacts (txn : Qualifiers) : Type 0 where
   pub after : (w : Parties) (event : Event) → Invariant txn w → Invariant txn (happens w event).1
   -- If the loan is over for the requester, both sides are at rest.
   pub rests : (w : Parties) → Invariant txn w → is_over w.requester.live ≡ true → AreAtRest w
-  -- If the responder can answer a Conditional-Reply no, a round brings both sides in step.
-  pub in_step : (w : Parties) → Invariant txn w → CanAnswer w.responder.live → AreInStep (run_of w (round_of w))
+  -- If the responder can answer a Conditional-Reply no, a round brings both sides to convergence.
+  pub converged : (w : Parties) → Invariant txn w → CanAnswer w.responder.live → AreConverged (run_of w (round_of w))
   -- If the loan is open for the requester, a night is a round.
   pub rounds : (w : Parties) → Invariant txn w → is_over w.requester.live ≡ false → night_of w ≡ round_of w
   -- If the loan is over for the requester, a night is a save of each side.
   pub saves : (w : Parties) → Invariant txn w → is_over w.requester.live ≡ true
       → night_of w ≡ Save Requester ∷ Save Responder ∷ []
-  -- If the responder can answer a Conditional-Reply no, a night brings both sides in step, or to rest.
-  pub night : (w : Parties) → Invariant txn w → CanAnswer w.responder.live → AreInStepOrAtRest (run_of w (night_of w))
+  -- If the responder can answer a Conditional-Reply no, a night brings both sides to convergence, or to rest.
+  pub night : (w : Parties) → Invariant txn w → CanAnswer w.responder.live → AreConvergedOrAtRest (run_of w (night_of w))
   -- If the loan is over for the requester, no message changes its record.
   pub over_stays : (x : RequesterRecord) (a : Apdu) → requester_turn x ≡ Over → (requester_deliveries.takes x a).1 ≡ x
   -- A requester that takes a message issues none.

@@ -1,5 +1,5 @@
--- A night in which people act. Between its halves the responder's library does deeds, saves, and its machine may restart.
--- It is this profile's own.
+-- A night in which people act. Between its halves the responder's library does deeds, saves, and its machine may
+-- restart. It is this profile's own.
 use Rattle.std.specs.Prelude.{◌≡◌, ℕ, Bool, true, false, List, [], ◌∷◌, ◌++◌, Some}
 use Rattle.ill_values.specs.declared.apdu.Apdu.{Apdu}
 use Rattle.ill_core.specs.Issued.{message}
@@ -26,12 +26,12 @@ ResponderHasHeard w = Facing HasHeard w.requester.live w.responder.live
 
 -- ---- people at the responder's library
 
--- Returns true if the event is one at the responder's library, and no delivery: a deed, a save that succeeds or fails, a
--- Send, noise, or a restart.
+-- Returns true if the event is one at the responder's library, and no delivery: a deed, a save that succeeds or fails,
+-- a Send, noise, or a restart.
 abbrev pub is_by_responder : Event → Bool
 is_by_responder (Deed deed today) = true
 is_by_responder (Save Responder) = true
-is_by_responder (SaveFault Responder landed) = true
+is_by_responder (SaveFault Responder committed) = true
 is_by_responder (Send Responder n) = true
 is_by_responder (Noise Responder bytes) = true
 is_by_responder (Restart Responder) = true
@@ -41,8 +41,8 @@ is_by_responder other = false
 abbrev pub asked_and_worked : List Event → Parties → List Event
 asked_and_worked people w = asking_half w ++ Save Responder ∷ people
 
--- Returns the responder's half of a night from `now` on, and then a save of the requester. `asked` says that the requester
--- asked in this night.
+-- Returns the responder's half of a night from `now` on, and then a save of the requester. `asked` says that the
+-- requester asked in this night.
 abbrev pub answering_half : Bool → Parties → List Event
 answering_half asked now = half_if (wants_sending asked now.responder.live) Responder now ++ Save Requester ∷ []
 
@@ -52,10 +52,10 @@ worked_night_of people w =
     let before = asked_and_worked people w in
     before ++ answering_half (asks w.requester.live) (run_of w before)
 
--- The live sides of both have landed.
-pub record HaveLanded (w : Parties) : Type 0 where
-  pub requester : w.requester.landed ≡ w.requester.live
-  pub responder : w.responder.landed ≡ w.responder.live
+-- The live sides of both are committed.
+pub record AreCommitted (w : Parties) : Type 0 where
+  pub requester : w.requester.committed ≡ w.requester.live
+  pub responder : w.responder.committed ≡ w.responder.live
 
 -- ---- nights that the responder begins
 

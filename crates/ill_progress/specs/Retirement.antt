@@ -1,5 +1,5 @@
--- A library may retire a group of its shelf, by the command `retire`. Then a mark stays in place of the desk. The model of
--- shelves with marks is this profile's own.
+-- A library may retire a group of its shelf, by the command `retire`. Then a mark stays in place of the desk. The model
+-- of shelves with marks is this profile's own.
 use Rattle.std.specs.Prelude.{◌≡◌, ℕ, Bool, true, false, not, ◌||◌, ◌==◌, bytes_eq, if◌then◌else◌, List, [], ◌∷◌, ◌++◌, length}
 use Rattle.std.specs.Prelude.{take}
 use Rattle.std.specs.List.{list_all}
@@ -56,7 +56,7 @@ pub data RetiringOutcome : Type 0 where
   no_desk : RetiringOutcome
   -- The group has a mark after a retirement: it was set now, or before.
   done : RetiringOutcome
-  -- A landed loan of the desk is not over, so a retirement changed nothing.
+  -- A committed loan of the desk is not over, so a retirement changed nothing.
   not_now : RetiringOutcome
 
 -- Returns true if the event sends a last word: the last message of a loan, as the responder's desk holds it. Only a
@@ -75,17 +75,17 @@ marked_shelves_happen w e =
     let after = shelves_happen w.shelves e in
     if can_happen w e then (at_desk after.0, record w { shelves = after.1 }) else (no_desk, w)
 
--- Returns true if all loans in the landed record of a desk are over.
+-- Returns true if all loans in the committed record of a desk are over.
 abbrev pub are_loans_over : DeskParty → Bool
-are_loans_over p = list_all is_over p.landed.sides
+are_loans_over p = list_all is_over p.committed.sides
 
--- Returns the event of shelves that opens the desk of `who` at `group`. As at a restart, it has what has landed.
+-- Returns the event of shelves that opens the desk of `who` at `group`. As at a restart, it has what is committed.
 abbrev pub opens_desk : Role → List ℕ → ShelfEvent
 opens_desk who group = record { group = group; event = Restart who }
 
 -- Returns the outcome of the retirement of `group` by `who`, and the shelves after it. If there is a mark already,
--- nothing changes. If all landed loans are over, the desk is opened, and the mark is set. If a landed loan is not over,
--- nothing changes.
+-- nothing changes. If all committed loans are over, the desk is opened, and the mark is set. If a committed loan is not
+-- over, nothing changes.
 abbrev pub retires : MarkedShelves → Role → List ℕ → RetiringOutcome × MarkedShelves
 retires w who group =
     if has_mark w who group then (done, w)
@@ -143,7 +143,8 @@ events_named (retire who group ∷ events) = events_named events
 abbrev pub IsKeptByBoth : MarkedShelves → List ℕ → Type 0
 IsKeptByBoth w group = (has_mark w Requester group ≡ false) × (has_mark w Responder group ≡ false)
 
--- Returns the events by which the last word of `txn` leaves the responder's desk of `w`, and arrives at the requester's.
+-- Returns the events by which the last word of `txn` leaves the responder's desk of `w`, and arrives at the
+-- requester's.
 abbrev pub last_word_of : Qualifiers → DeskParties → List RetiringEvent
 last_word_of txn w =
     let last = length (issued_of (held_for txn w.responder.live).side) in

@@ -20,8 +20,8 @@ ghost use Rattle.ill_words.specs.declared.outcome.Outcome.TheVariants.{Done};
 ghost use Rattle.ill_world.specs.declared.event.Event.{Event};
 ghost use Rattle.ill_world.specs.World.{Parties, first_world, happens, party, run_of};
 ghost use Rattle.ill_world.specs.Invariant.{Invariant};
-ghost use Rattle.ill_world.specs.Round.{AreInStep, CanAnswer, InStep};
-ghost use Rattle.ill_world.specs.Night.{AreAtRest, AreInStepOrAtRest, night_of};
+ghost use Rattle.ill_world.specs.Round.{AreConverged, CanAnswer, HaveConverged};
+ghost use Rattle.ill_world.specs.Night.{AreAtRest, AreConvergedOrAtRest, night_of};
 ghost use Rattle.ill_progress.specs.BadEnds.{MisjudgesAct};
 ghost use Rattle.ill_progress.specs.LastNumbers.{last_requester, last_responder};
 ghost use Rattle.ill_progress.specs.Ends.{acts_left, acts_to_end, after_day, CanEnd, HasNumbers, is_act_to_end, is_deed_to_end, is_wish_to_end, last_refusal};
@@ -62,28 +62,30 @@ pub fn five_acts_end_a_loan()
 {}
 
 /// The library that has the turn can act towards the end if it has a number left. The requester can by a wish, and the
-/// responder by a deed that each day allows. So if two records are in step, and the loan is not over, one library can.
+/// responder by a deed that each day allows. So if two records are converged, and the loan is not over, one library
+/// can.
 pub fn who_has_the_turn_can_act_towards_the_end()
     ensures asks { (x : RequesterRecord) → requester_turn x ≡ Mine → length x.issued < 255 →
         (wish : Wish) × (is_wish_to_end wish ≡ true) × IsOk (requester_actions.acts x wish) }
     ensures lends { (y : ResponderRecord) → responder_turn y ≡ Mine → length y.issued < 255 →
         (deed : Deed) × (is_deed_to_end deed ≡ true)
         × ((today : Date) → IsOk (responder_actions.acts y deed today)) }
-    ensures in_step { (x : RequesterRecord) (y : ResponderRecord) → InStep x y → (requester_turn x ≡ Over → ⊥) →
+    ensures converged { (x : RequesterRecord) (y : ResponderRecord) → HaveConverged x y → (requester_turn x ≡ Over → ⊥) →
         length x.issued < 255 → length y.issued < 255 →
         ((wish : Wish) × (is_wish_to_end wish ≡ true) × IsOk (requester_actions.acts x wish))
         ⊎ ((deed : Deed) × (is_deed_to_end deed ≡ true)
         × ((today : Date) → IsOk (responder_actions.acts y deed today))) }
 {
-    ill_world::laws::one_of_two_in_step_acts();
+    ill_world::laws::one_of_two_converged_sides_acts();
 }
 
-/// If both sides are in step, each act towards the end leaves fewer acts, once a night has passed. Both sides are then
-/// in step again, or at rest. The world satisfies the invariant, and the responder can answer a Conditional-Reply no.
+/// If both sides are converged, each act towards the end leaves fewer acts, once a night has passed. Both sides are
+/// then converged again, or at rest. The world satisfies the invariant, and the responder can answer a
+/// Conditional-Reply no.
 pub fn each_act_towards_the_end_counts()
-    ensures { (txn : Qualifiers) (w : Parties) (act : Event) → Invariant txn w → AreInStep w →
+    ensures { (txn : Qualifiers) (w : Parties) (act : Event) → Invariant txn w → AreConverged w →
         CanAnswer w.responder.live → is_act_to_end act ≡ true → (happens w act).0 ≡ Done →
-        AreInStepOrAtRest (after_day w act) × (acts_left (after_day w act) < acts_left w) }
+        AreConvergedOrAtRest (after_day w act) × (acts_left (after_day w act) < acts_left w) }
 {
     ill_world::laws::world_stands();
     ill_world::laws::one_night_is_enough();
@@ -98,11 +100,11 @@ pub fn each_act_towards_the_end_counts()
     numbers_are_few();
 }
 
-/// A loan in step or at rest can be ended in as many days as acts are left. The world must satisfy the invariant, and
-/// each side must have as many numbers left. So a loan with these numbers can be ended after any events and a night.
-/// Before the night the responder must be able to answer a Conditional-Reply no.
+/// A loan whose sides are converged or at rest can be ended in as many days as acts are left. The world must satisfy
+/// the invariant, and each side must have as many numbers left. So a loan with these numbers can be ended after any
+/// events and a night. Before the night the responder must be able to answer a Conditional-Reply no.
 pub fn every_loan_can_end()
-    ensures stands { (txn : Qualifiers) (w : Parties) → Invariant txn w → AreInStepOrAtRest w →
+    ensures stands { (txn : Qualifiers) (w : Parties) → Invariant txn w → AreConvergedOrAtRest w →
         HasNumbers (acts_left w) w.requester.live → HasNumbers (acts_left w) w.responder.live →
         CanEnd (acts_left w) w }
     ensures run { (txn : Qualifiers) (events : List Event) → let before = run_of (first_world txn) events in
@@ -125,15 +127,15 @@ pub fn every_loan_can_end()
     who_has_the_turn_can_act_towards_the_end();
 }
 
-/// A loan that was recalled may have no end. If records in step are in RECALL, and the requester has issued 255
+/// A loan that was recalled may have no end. If two converged records are in RECALL, and the requester has issued 255
 /// messages, each wish and each deed is refused. There are such records, and each satisfies its rules.
 pub fn the_last_number_may_leave_a_recall()
-    ensures refused { (x : RequesterRecord) (y : ResponderRecord) → InStep x y → x.state ≡ states.Recall →
+    ensures refused { (x : RequesterRecord) (y : ResponderRecord) → HaveConverged x y → x.state ≡ states.Recall →
         length x.issued ≡ 255 →
         ((wish : Wish) → requester_actions.acts x wish
         ≡ Err (last_refusal (requester_actions.transition_of x wish)))
         × ((deed : Deed) (today : Date) → responder_actions.acts y deed today ≡ Err (NotNow y.state)) }
-    ensures worked { IsRequester last_requester × IsResponder last_responder × InStep last_requester last_responder
+    ensures worked { IsRequester last_requester × IsResponder last_responder × HaveConverged last_requester last_responder
         × (last_requester.state ≡ states.Recall) × (length last_requester.issued ≡ 255) }
 {
     no_action_lacks_a_number();

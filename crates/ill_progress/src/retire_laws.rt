@@ -13,13 +13,13 @@ ghost use Rattle.ill_world.specs.Desks.{desks_run, project, sent_for};
 ghost use Rattle.ill_world.specs.Safety.{Safe};
 ghost use Rattle.ill_world.specs.Agreement.{Agrees};
 ghost use Rattle.ill_world.specs.Round.{CanAnswer};
-ghost use Rattle.ill_world.specs.Night.{AreAtRest, AreInStepOrAtRest};
+ghost use Rattle.ill_world.specs.Night.{AreAtRest, AreConvergedOrAtRest};
 ghost use Rattle.ill_world.specs.DeskNight.{desk_night_of};
 ghost use Rattle.ill_world.specs.Shelves.{events_at, in_group, shelves_run};
 ghost use Rattle.ill_progress.specs.Retirement.{MarkedShelves, RetiringEvent, on_shelf, first_marked_shelves, has_mark, last_word_of, retiring_happens, retiring_run, shelf_events_of, events_named, IsKeptByBoth, IsSafeRetiringRun, IsAgreeingRetiringRun};
 ghost use Rattle.ill_progress.specs.BadRetirement.{IsMishandled};
 
-/// A mark stays for good. A desk that is retired keeps its sides, in memory and landed. A requester's keeps all, and
+/// A mark stays for good. A desk that is retired keeps its sides, in memory and committed. A requester's keeps all, and
 /// sends nothing more. A responder's sends only last words: no other message joins what it has sent.
 #[tactic(auto, using(crate::proofs::Retirement::mark_stays, crate::proofs::Retirement::sides_stay, crate::proofs::Retirement::requester_stays, crate::proofs::Retirement::responder_stays_silent))]
 pub fn a_retired_desk_stays()
@@ -28,7 +28,7 @@ pub fn a_retired_desk_stays()
     ensures sides { (w : MarkedShelves) (events : List RetiringEvent) (who : Role) (group : List ℕ) →
         has_mark w who group ≡ true → let old = party (w.shelves group) who in
         let new = party ((retiring_run w events).shelves group) who in
-        (new.live ≡ old.live) × (new.landed ≡ old.landed) }
+        (new.live ≡ old.live) × (new.committed ≡ old.committed) }
     ensures requester { (w : MarkedShelves) (events : List RetiringEvent) (group : List ℕ) →
         has_mark w Requester group ≡ true →
         ((retiring_run w events).shelves group).requester ≡ (w.shelves group).requester }
@@ -78,13 +78,13 @@ pub fn retiring_runs_have_each_world()
         IsAgreeingRetiringRun w (before ++ after) → Agrees (project txn ((retiring_run w before).shelves txn.group)) }
 {}
 
-/// A night of a group that neither library has retired brings both sides of each transaction in step, or to rest. It
-/// does so if the responder can answer a Conditional-Reply no.
+/// A night of a group that neither library has retired brings both sides of each transaction to convergence, or to
+/// rest. It does so if the responder can answer a Conditional-Reply no.
 pub fn a_night_of_a_kept_group_is_enough()
     ensures { (txn : Qualifiers) (events : List RetiringEvent) → let w = retiring_run first_marked_shelves events in
         IsKeptByBoth w txn.group → CanAnswer (project txn (w.shelves txn.group)).responder.live →
         let night = map on_shelf (in_group txn.group (desk_night_of (w.shelves txn.group))) in
-        AreInStepOrAtRest (project txn ((retiring_run w night).shelves txn.group)) }
+        AreConvergedOrAtRest (project txn ((retiring_run w night).shelves txn.group)) }
 {
     ill_world::shelf_laws::a_night_of_a_group_is_enough();
 }
@@ -124,7 +124,7 @@ pub fn a_last_word_is_enough()
 }
 
 /// No event changes what a mark keeps, and none is lost at a desk without one. A retirement changes only its own desk,
-/// and is done if, and only if, all loans that have landed there are over.
+/// and is done if, and only if, all loans that are committed there are over.
 #[tactic(auto, using(crate::proofs::BadRetirement::none_mishandled))]
 pub fn no_bad_retirement_passes()
     ensures { (w : MarkedShelves) (event : RetiringEvent) →

@@ -99,18 +99,19 @@ below : (a b : ℕ) → nat_lt a b ≡ true → a < b
 below a b less = search rules
 
 -- No refusal of a side is a lack of memory.
-no_memory_wanted : (of_role idle twice room : Bool)
+not_out_of_memory : (of_role idle twice room : Bool)
     → (if not of_role then Some faults.OtherRole else
     (if idle then Some faults.Idle else (if twice then Some faults.Twice else (if room then None else Some faults.Full))))
     ≡ Some faults.OutOfMemory
     → ⊥
-no_memory_wanted of_role idle twice room wanted = search rules
+not_out_of_memory of_role idle twice room wanted = search rules
 
 -- If a side is refused, returning it and changing nothing is as `Puts` says.
 pub handed_back : (held : SidesOf) (side : Side) (fault : SidesFault) → put_refusal held side ≡ Some fault
     → Puts held side (Err (fault, side)) held
 handed_back held side faults.OutOfMemory refused =
-    absurd (no_memory_wanted (is_same_role held.role (role_of side)) (is_idle side) (is_some (side_with (txn_of side) held.sides))
+    absurd (not_out_of_memory (is_same_role held.role (role_of side)) (is_idle side)
+    (is_some (side_with (txn_of side) held.sides))
     (nat_lt (length held.sides) most_sides) refused)
 handed_back held side faults.OtherRole refused = (refused, refl, refl)
 handed_back held side faults.Idle refused = (refused, refl, refl)

@@ -23,14 +23,14 @@ unfolding requester.is_consistent
 requester_state x is = not-true _ (and_parts _ _ (and_parts _ _ (and_parts _ _ is).1).0).0
 
 -- The first APDU of a consistent requester, if it has issued one, is an ILL-Request, and no other is.
--- `landed_record` is the test of the issued APDUs, and `begins` its last part. `fits`, `types` and `request` split the
--- rules of a consistent record, one after another.
+-- `committed_record` is the test of the issued APDUs, and `begins` its last part. `fits`, `types` and `request` split
+-- the rules of a consistent record, one after another.
 pub requester_request : (x : RequesterRecord) → IsRequester x → begins_with_request x.issued ≡ true
 unfolding requester.is_consistent
 requester_request x is =
-    let landed_record = requester.issued_keeps_rules x.state x.issued in
-    let fits = and_parts (are_numbered x.txn 1 x.issued) (requester_parts x && landed_record) is in
-    let types = and_parts (requester_parts x) landed_record fits.1 in
+    let committed_record = requester.issued_keeps_rules x.state x.issued in
+    let fits = and_parts (are_numbered x.txn 1 x.issued) (requester_parts x && committed_record) is in
+    let types = and_parts (requester_parts x) committed_record fits.1 in
     let begins = begins_with_request x.issued && requester.issued_fits x.state x.issued in
     let request = and_parts (list_all (λ a. is_requesters a.body) x.issued) begins types.1 in
     (and_parts (begins_with_request x.issued) (requester.issued_fits x.state x.issued) request.1).0

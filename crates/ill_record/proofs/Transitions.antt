@@ -135,13 +135,13 @@ pub record RequestRows : Type 0 where
 not_true : (b : Bool) → not b ≡ true → b ≡ false
 not_true b h = search rules
 
--- If a responder keeps its request, its side does. `landed_record` says that the responder's state is still not IDLE
+-- If a responder keeps its request, its side does. `committed_record` says that the responder's state is still not IDLE
 -- and that its request is unchanged.
 keeps_request : (y new : ResponderRecord) → responder_evidence.KeepsRequest y new
     → KeepsRequest (sides.Responder y) (sides.Responder new)
 keeps_request y new keeps asked =
-    let landed_record = keeps (not_true _ asked) in
-    (ap not landed_record.0, landed_record.1)
+    let committed_record = keeps (not_true _ asked) in
+    (ap not committed_record.0, committed_record.1)
 
 -- A requester has never taken a request, so any side `new` satisfies `KeepsRequest` after it.
 never_asked : (x : RequesterRecord) (new : Side) → KeepsRequest (sides.Requester x) new

@@ -160,14 +160,14 @@ takes_memory (sides.Requester x) a = false
 takes_memory (sides.Responder y) a = responder_deliveries.takes_memory y a.body
 
 -- The side `old` would take the APDU `a` and needs memory for it, and nothing has changed.
-abbrev pub WantsMemoryFor : Side → Apdu → Side → Type 0
-WantsMemoryFor old a new =
+abbrev pub RunsOutOfMemoryFor : Side → Apdu → Side → Type 0
+RunsOutOfMemoryFor old a new =
     ((takes old a).0 ≡ Ok Taken) × (takes_memory old a ≡ true) × (new ≡ old)
 
 -- The side `old` answers the APDU `a`, and is `new` after it.
 -- Memory can run out only if the side needs memory for `a`, and then nothing changes.
 abbrev pub Takes : Side → Apdu → Result Taking Refusal → Side → Type 0
-Takes old a (Err refusals.OutOfMemory) new = WantsMemoryFor old a new
+Takes old a (Err refusals.OutOfMemory) new = RunsOutOfMemoryFor old a new
 Takes old a answer new = takes old a ≡ (answer, new)
 
 -- One transition leads from the old side to the new one: an action that is done, or the delivery of an APDU.

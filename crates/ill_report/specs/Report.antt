@@ -33,7 +33,7 @@ use Rattle.ill_rows.specs.Finding.{is_found}
 use Rattle.ill_report.specs.Link.{linked_text}
 use Rattle.ill_rows.specs.Cells.{title_text}
 use Rattle.ill_beside.specs.Kept.{kept_of}
-use Rattle.ill_beside.specs.NewsWords.{told_words}
+use Rattle.ill_beside.specs.NewsWords.{printed_words}
 use Rattle.ill_beside.specs.Notes.{note_of}
 use Rattle.ill_beside.specs.Since.{AnnexRead, since_of}
 use Rattle.ill_beside.specs.StateWords.{state_words}
@@ -81,9 +81,9 @@ since_text (Some day) = SINCE.now ++ (iso_text day ++ TIME_END.now) ++ NOTE_END.
 
 -- Returns the text of a message in the news of a loan.
 unfoldable pub news_mark : Side → Apdu → List ℕ
-news_mark side a = NEWS.now ++ (html_text (told_words side a.body) ++ NEWS_END.now)
+news_mark side a = NEWS.now ++ (html_text (printed_words side a.body) ++ NEWS_END.now)
 
--- Returns the texts of those of `news` that are of the loan of a side, if news are told.
+-- Returns the texts of those of `news` that are of the loan of a side, if news are printed.
 abbrev pub news_marks : (news : Option (List Apdu)) → Side → List ℕ
 news_marks None side = []
 news_marks (Some news) side = flat_map (news_mark side) (kept_of (txn_of side) news)

@@ -57,7 +57,8 @@ fn push_serialized(text: &mut Vec<u8>, value: &[u8]) -> Result<(), OutOfMemory>
     Ok(())
 }
 
-/// Appends `words`, a text of HTML. If there is a text for the desk, they are within a link to the page of the loan `txn`.
+/// Appends `words`, a text of HTML. If there is a text for the desk, they are within a link to the page of the loan
+/// `txn`.
 pub(crate) fn push_linked(
     page: &mut Vec<u8>,
     desk: Option<&str>,

@@ -24,7 +24,7 @@ use crate::report_parts::{
     heading,
 };
 use ill_beside::annex::Annex;
-use ill_beside::news_words::told_words;
+use ill_beside::news_words::printed_words;
 use ill_beside::notes::Notes;
 use ill_beside::since::since_of;
 use ill_beside::state_words::words_of;
@@ -453,7 +453,7 @@ fn push_marks(page: &mut Vec<u8>, side: &Side, kept: &[Apdu]) -> Result<(), OutO
 fn push_mark(page: &mut Vec<u8>, side: &Side, apdu: &Apdu) -> Result<(), OutOfMemory>
     ensures { OnOk result (page.new.items ≡ page.old.items ++ news_mark side.now apdu.now) }
 {
-    let words = told_words(*page.allocator(), side, &apdu.body)?;
+    let words = printed_words(*page.allocator(), side, &apdu.body)?;
     push_plain(page, NEWS)?;
     push_text(page, &words)?;
     push_plain(page, NEWS_END)

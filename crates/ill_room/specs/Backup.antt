@@ -1,4 +1,4 @@
--- What a night keeps beside its mail: a copy of the desk, and a sign of life (this profile's own).
+-- What a night keeps beside its message files: a copy of the desk, and a sign of life (this profile's own).
 use Rattle.std.specs.Prelude.{◌≡◌, ◌⊎◌, ℕ, suc, Bool, false, if◌then◌else◌, List, Option, Some, Result, Ok, Err}
 use Rattle.ill_record.specs.Sides.{SidesOf}
 use Rattle.ill_record.specs.RecordsV2.{sides_encoding}
@@ -7,17 +7,17 @@ use Rattle.ill_night.specs.CopyOver.{Replaces}
 use Rattle.ill_night.specs.declared.copy.Copied.TheVariants.{Done}
 
 -- The state of a backup: the bytes of the copy, if there is one, and the number of signs of life. `keeps_copy` is true
--- if a copy is wanted, and `keeps_sign` if signs of life are. `is_honest` is true if the backup does as it answers.
+-- if a copy is wanted, and `keeps_sign` if signs of life are. `is_correct` is true if the backup does as it answers.
 pub record BackupState : Type 0 where
   pub copied : Option (List ℕ)
   pub signs : ℕ
   pub keeps_copy : Bool
   pub keeps_sign : Bool
-  pub is_honest : Bool
+  pub is_correct : Bool
 
 -- Returns true if a backup does as it answers.
-abbrev pub is_honest_backup : BackupState → Bool
-is_honest_backup state = state.is_honest
+abbrev pub is_correct_backup : BackupState → Bool
+is_correct_backup state = state.is_correct
 
 -- `new` wants a copy if `old` does, and a sign of life if `old` does, and not else.
 pub record IsSameWish (old new : BackupState) : Type 0 where

@@ -56,24 +56,25 @@ pub record Sealing : Type 0 where
 abbrev pub letter_name : List ℕ → List ℕ
 letter_name letter = codes "letter-" ++ take 32 (encode_lower (sha256 letter))
 
--- Returns the mail that has the letter with this text.
-abbrev pub sealed_mail : Sealing → List ℕ → Letter
-sealed_mail sealing text = record {
+-- Returns the message file that has the letter with this text.
+abbrev pub sealed_message_file : Sealing → List ℕ → Letter
+sealed_message_file sealing text = record {
   name = letter_name (sealed sealing.key sealing.sender text);
   bytes = sealed sealing.key sealing.sender text;
 }
 
--- Returns the mails that have the letters of these messages.
-abbrev pub sealed_mails : Sealing → List Letter → List Letter
-sealed_mails sealing letters = map (sealed_mail sealing) (texts_of (map (λ letter. letter.bytes) letters))
+-- Returns the message files that have the letters of these messages.
+abbrev pub sealed_message_files : Sealing → List Letter → List Letter
+sealed_message_files sealing letters = map (sealed_message_file sealing) (texts_of (map (λ letter. letter.bytes) letters))
 
--- Returns the mails in which messages leave: in sealed letters if there is a key, else each in a mail of its own.
+-- Returns the message files in which messages leave: in sealed letters if there is a key, else each in a message file
+-- of its own.
 abbrev pub form_of : Option Sealing → List Letter → List Letter
 form_of None letters = letters
-form_of (Some sealing) letters = sealed_mails sealing letters
+form_of (Some sealing) letters = sealed_message_files sealing letters
 
--- The messages of `letters` were put into the outlet, in sealed letters if there is a key. Or a prefix of these mails
--- was, and the next one failed. If the call is done, its result is the number of messages.
+-- The messages of `letters` were put into the outlet, in sealed letters if there is a key. Or a prefix of these message
+-- files was, and the next one failed. If the call is done, its result is the number of messages.
 abbrev pub PutsWith : {M : Type 0} → (M → Letter → M) → Option Sealing → List Letter → Option M → Option M →
     Result ℕ ToolFault → Type 0
 PutsWith after sealing letters old new result = PutsAs after (form_of sealing) letters old new result
@@ -95,5 +96,5 @@ abbrev pub filling_of : Texts → Filling
 filling_of texts = record { full = map (λ text. text.items) texts.full.items; last = texts.last.items }
 
 -- Returns the model of a letter.
-abbrev pub mail_of : SealedLetter → Letter
-mail_of letter = record { name = letter.name.items; bytes = letter.bytes.items }
+abbrev pub message_file_of : SealedLetter → Letter
+message_file_of letter = record { name = letter.name.items; bytes = letter.bytes.items }

@@ -12,10 +12,10 @@ ghost use Rattle.ill_room.specs.Sealed.{texts_of};
 
 use ill_seal::laws::nobody_forges_a_letter;
 
-/// Settling neither removes nor puts aside a mail that is to wait. It neither removes nor gives back a mail that is to be
-/// put aside, and neither gives back nor puts aside a done mail. It moves no mail without a verdict and none that is not
-/// claimed, and changes no message that asks.
-pub fn no_mail_comes_to_a_wrong_place()
+/// Settling neither removes nor quarantines a message file that is to wait. It neither removes nor gives back a message
+/// file that is to be quarantined, and neither gives back nor quarantines a done message file. It moves no message file
+/// without a verdict and none that is not claimed, and changes no message that asks.
+pub fn no_message_file_comes_to_a_wrong_place()
     ensures { (all : List Verdict) (old new : RoomState) → IsBadSettling all old new → Settles all old new → ⊥ }
 {}
 
@@ -35,7 +35,7 @@ pub fn nobody_forges_a_message()
     nobody_forges_a_letter();
 }
 
-/// If all is settled, no mail that is done or put aside is still claimed.
-pub fn no_settled_mail_stays()
+/// If all is settled, no message file that is done or quarantined is still claimed.
+pub fn no_settled_message_file_stays()
     ensures { (all : List Verdict) (old new : RoomState) → IsBadEnd all old new → AreSettled all old new → ⊥ }
 {}

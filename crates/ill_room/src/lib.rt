@@ -1,5 +1,5 @@
-//! The rooms of a night's mail: what a run does with the mails that it has claimed, with the copy of its desk and with its
-//! sign of life. A room is a trait. No file is known here.
+//! The rooms of a night's message files: what a run does with the message files that it has claimed, with the copy of
+//! its desk and with its sign of life. A room is a trait. No file is known here.
 #![tactic(auto)]
 
 pub mod backup;

@@ -11,8 +11,8 @@ use ill_text::fault::{STORE_FAILED, ToolFault};
 use std::io::Write;
 use std::marker::Model;
 
-/// A room in memory, for tests. It passes its first calls, and each later one fails and changes nothing, as after a loss of
-/// power.
+/// A room in memory, for tests. It passes its first calls, and each later one fails and changes nothing, as after a
+/// loss of power.
 #[derive(Drop)]
 pub struct MemoryRoom {
     places: Vec<Place>,
@@ -24,13 +24,13 @@ pub struct MemoryRoom {
 impl Model for MemoryRoom {
     ghost Value = { RoomState };
 
-    ghost view = { λ r. record { places = r.places.items; asked = r.asked.items; is_honest = true } };
+    ghost view = { λ r. record { places = r.places.items; asked = r.asked.items; is_correct = true } };
 }
 
 impl MemoryRoom {
-    /// Returns a room with mails at these places and no messages that ask. Its first `calls` calls do not fail.
+    /// Returns a room with message files at these places and no messages that ask. Its first `calls` calls do not fail.
     pub fn new(places: Vec<Place>, calls: u32) -> MemoryRoom
-        ensures { result ≡ record { places = places.items; asked = []; is_honest = true } }
+        ensures { result ≡ record { places = places.items; asked = []; is_correct = true } }
     {
         let alloc = *places.allocator();
         MemoryRoom {
@@ -40,7 +40,7 @@ impl MemoryRoom {
         }
     }
 
-    /// Returns the places of the mails.
+    /// Returns the places of the message files.
     pub fn places(&self) -> &[Place]
         ensures { result.now ≡ self.now.places }
     {
@@ -58,26 +58,27 @@ impl MemoryRoom {
         true
     }
 
-    /// Moves the mail `mail` to the place `to`, if it is claimed. If no call is left, it fails.
+    /// Moves message file `number` to the place `to`, if it is claimed. If no call is left, it fails.
     #[tactic(auto, using(crate::proofs::MemoryRoom::set_moves, crate::proofs::MemoryRoom::none_moves, crate::proofs::MemoryRoom::fails_to_move))]
-    fn move_to(&mut self, mail: usize, to: Place) -> Result<(), ToolFault>
-        ensures moves { Moves to mail self.old result self.new }
-        ensures honest { self.new.is_honest ≡ self.old.is_honest }
+    fn move_to(&mut self, number: usize, to: Place) -> Result<(), ToolFault>
+        ensures moves { Moves to number self.old result self.new }
+        ensures correct { self.new.is_correct ≡ self.old.is_correct }
         ensures faults { IfErr result IsFileFault }
     {
         if !self.burns() {
             return Err(STORE_FAILED);
         }
-        if mail < self.places.len() {
-            let place = self.places[mail];
-            self.places[mail] = place.moved(to);
+        if number < self.places.len() {
+            let place = self.places[number];
+            self.places[number] = place.moved(to);
         }
         Ok(())
     }
 }
 
 impl Place {
-    /// Returns the place of a mail after it was to be moved to the place `to`. Only a claimed mail moves.
+    /// Returns the place of a message file after it was to be moved to the place `to`. Only a claimed message file
+    /// moves.
     pub fn moved(self, to: Place) -> Place
         ensures { result ≡ moved to self }
     {
@@ -88,23 +89,23 @@ impl Place {
     }
 }
 
-// A call that moves a mail or keeps messages takes one of the calls away. If none is left, it fails.
+// A call that moves a message file or keeps messages takes one of the calls away. If none is left, it fails.
 impl Room for MemoryRoom {
     ghost state = { λ room. room };
 
     #[tactic(auto, using(crate::proofs::MemoryRoom::moves_in_all))]
-    fn remove(&mut self, mail: usize) -> Result<(), ToolFault> {
-        self.move_to(mail, Place::Gone)
+    fn remove(&mut self, number: usize) -> Result<(), ToolFault> {
+        self.move_to(number, Place::Gone)
     }
 
     #[tactic(auto, using(crate::proofs::MemoryRoom::moves_in_all))]
-    fn put_aside(&mut self, mail: usize, _unfit: Unfit) -> Result<(), ToolFault> {
-        self.move_to(mail, Place::Aside)
+    fn quarantine(&mut self, number: usize, _unfit: Unfit) -> Result<(), ToolFault> {
+        self.move_to(number, Place::Quarantined)
     }
 
     #[tactic(auto, using(crate::proofs::MemoryRoom::gives_in_all))]
-    fn give_back(&mut self, mail: usize) -> Result<(), ToolFault> {
-        self.move_to(mail, Place::Waiting)
+    fn give_back(&mut self, number: usize) -> Result<(), ToolFault> {
+        self.move_to(number, Place::Waiting)
     }
 
     fn keep_asked<E: Write>(&mut self, asked: &[u8], _errors: &mut E) -> Result<(), ToolFault> {
@@ -115,7 +116,7 @@ impl Room for MemoryRoom {
         Ok(())
     }
 
-    fn tell_person<E: Write>(&self, _role: Role, _verdicts: &[Verdict], _errors: &mut E) {}
+    fn print_for_person<E: Write>(&self, _role: Role, _verdicts: &[Verdict], _errors: &mut E) {}
 
     fn clear(&mut self) {}
 }

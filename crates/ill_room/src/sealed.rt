@@ -2,7 +2,7 @@
 
 ghost use Rattle.std.specs.Prelude.{◌≡◌, ◌++◌, ◌∷◌, [], map, option_map, List, ℕ, Some, IfOk, OnOk};
 ghost use Rattle.ill_night.specs.Outbox.{RunsOutbox};
-ghost use Rattle.ill_room.specs.Sealed.{PutsWith, PutsLetters, all_texts, filling_of, letter_name, mail_of, sealed_mail, sealing_of, texts_of, with_message};
+ghost use Rattle.ill_room.specs.Sealed.{PutsWith, PutsLetters, all_texts, filling_of, letter_name, message_file_of, sealed_message_file, sealing_of, texts_of, with_message};
 
 use ill_night::outbox::run_desk_outbox;
 use ill_night::outgoing::Outgoing;
@@ -31,10 +31,10 @@ pub struct Seal<'k> {
 
 /// Puts the messages of `run_desk_outbox` into `out`, and returns the number of messages. `asking` has the messages
 /// that came for loans that are over. With `seal` the messages leave in sealed letters, as many in each as it may have.
-/// Else each message leaves in a mail of its own.
+/// Else each message leaves in a message file of its own.
 ///
-/// After a fault, `out` has a prefix of these mails, and no part of another. All letters are sealed before the first
-/// one is put.
+/// After a fault, `out` has a prefix of these message files, and no part of another. All letters are sealed before the
+/// first one is put.
 pub fn run_outbox_with<S: Store, O: Outgoing>(
     alloc: Global,
     desk: &Desk<S>,
@@ -42,8 +42,8 @@ pub fn run_outbox_with<S: Store, O: Outgoing>(
     seal: Option<Seal<'_>>,
     out: &mut O,
 ) -> Result<usize, ToolFault>
-    ensures { RunsOutbox (PutsWith O.after (option_map sealing_of seal.entry)) asking.now desk.now.live.held (O.mails out.old)
-        (O.mails out.new) result }
+    ensures { RunsOutbox (PutsWith O.after (option_map sealing_of seal.entry)) asking.now desk.now.live.held (O.message_files out.old)
+        (O.message_files out.new) result }
 {
     match seal {
         Some(seal) => run_sealed_outbox(alloc, desk, asking, seal, out),
@@ -59,8 +59,8 @@ fn run_sealed_outbox<S: Store, O: Outgoing>(
     seal: Seal<'_>,
     out: &mut O,
 ) -> Result<usize, ToolFault>
-    ensures { RunsOutbox (PutsWith O.after (Some (sealing_of seal.entry))) asking.now desk.now.live.held (O.mails out.old)
-        (O.mails out.new) result }
+    ensures { RunsOutbox (PutsWith O.after (Some (sealing_of seal.entry))) asking.now desk.now.live.held (O.message_files out.old)
+        (O.message_files out.new) result }
 {
     let mut gathered = Gathered {
         messages: Vec::new(alloc),
@@ -90,8 +90,8 @@ pub fn put_sealed<O: Outgoing>(
     out: &mut O,
 ) -> Result<(), ToolFault>
     ensures { PutsLetters O.after
-        (map (sealed_mail (sealing_of seal.entry)) (texts_of (map (λ message. message.items) messages.now))) (O.mails out.old)
-        (O.mails out.new) result }
+        (map (sealed_message_file (sealing_of seal.entry)) (texts_of (map (λ message. message.items) messages.now))) (O.message_files out.old)
+        (O.message_files out.new) result }
 {
     match letters_of(alloc, seal, messages) {
         Ok(letters) => put_letters(&letters, out),
@@ -105,11 +105,11 @@ pub(crate) struct Gathered {
     pub(crate) messages: Vec<Vec<u8>>,
 }
 
-// A mail that is put is appended to the messages. Its name is dropped.
+// A message file that is put is appended to the messages. Its name is dropped.
 impl Outgoing for Gathered {
-    ghost Mails = { List (List ℕ) };
+    ghost MessageFiles = { List (List ℕ) };
 
-    ghost mails = { λ gathered. Some (map (λ message. message.items) gathered.messages.items) };
+    ghost message_files = { λ gathered. Some (map (λ message. message.items) gathered.messages.items) };
 
     ghost after = { λ there letter. there ++ letter.bytes ∷ [] };
 
@@ -133,8 +133,8 @@ fn letters_of(
     seal: Seal<'_>,
     messages: &[Vec<u8>],
 ) -> Result<Vec<SealedLetter>, OutOfMemory>
-    ensures { IfOk result (λ letters. map mail_of letters.items
-        ≡ map (sealed_mail (sealing_of seal.entry)) (texts_of (map (λ message. message.items) messages.now))) }
+    ensures { IfOk result (λ letters. map message_file_of letters.items
+        ≡ map (sealed_message_file (sealing_of seal.entry)) (texts_of (map (λ message. message.items) messages.now))) }
 {
     let texts = texts_of(alloc, messages)?;
     seal_all(alloc, seal, &texts)
@@ -146,8 +146,8 @@ fn seal_all(
     seal: Seal<'_>,
     texts: &[Vec<u8>],
 ) -> Result<Vec<SealedLetter>, OutOfMemory>
-    ensures { IfOk result (λ letters. map mail_of letters.items
-        ≡ map (sealed_mail (sealing_of seal.entry)) (map (λ text. text.items) texts.now)) }
+    ensures { IfOk result (λ letters. map message_file_of letters.items
+        ≡ map (sealed_message_file (sealing_of seal.entry)) (map (λ text. text.items) texts.now)) }
 {
     let mut letters = Vec::new(alloc);
     for text in texts {
@@ -158,7 +158,7 @@ fn seal_all(
 
 /// Returns the letter that has `text`, sealed with the key and the sender of `with`.
 fn seal_one(alloc: Global, with: Seal<'_>, text: &[u8]) -> Result<SealedLetter, OutOfMemory>
-    ensures { IfOk result (λ letter. mail_of letter ≡ sealed_mail (sealing_of with.entry) text.now) }
+    ensures { IfOk result (λ letter. message_file_of letter ≡ sealed_message_file (sealing_of with.entry) text.now) }
 {
     let bytes = seal(alloc, with.key, with.sender, text)?;
     let name = letter_name(alloc, &bytes)?;
@@ -178,7 +178,7 @@ fn letter_name(alloc: Global, letter: &[u8]) -> Result<Vec<u8>, OutOfMemory>
 
 /// Puts `letters` into `out`, one after another.
 fn put_letters<O: Outgoing>(letters: &[SealedLetter], out: &mut O) -> Result<(), ToolFault>
-    ensures { PutsLetters O.after (map mail_of letters.now) (O.mails out.old) (O.mails out.new) result }
+    ensures { PutsLetters O.after (map message_file_of letters.now) (O.message_files out.old) (O.message_files out.new) result }
 {
     for letter in letters {
         if let Err(fault) = out.put(&letter.name, &letter.bytes) {

@@ -1,4 +1,4 @@
-//! Tests of the rooms of a night's mail.
+//! Tests of the rooms of a night's message files.
 #![tactic(auto)]
 
 #[cfg(test)]

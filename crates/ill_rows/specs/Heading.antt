@@ -23,9 +23,9 @@ between Lines is_first = gap is_first
 between Json is_first = []
 
 -- Returns the path of a desk, if the Bool is true: several desks are listed.
-abbrev pub file_told : Bool → List ℕ → Option (List ℕ)
-file_told false path = None
-file_told true path = Some path
+abbrev pub file_printed : Bool → List ℕ → Option (List ℕ)
+file_printed false path = None
+file_printed true path = Some path
 
 -- Returns the field of the path of a desk, if there is a path.
 abbrev pub file_fields : Option (List ℕ) → List Field

@@ -27,13 +27,13 @@ pub fn found_of<'a>(
         None => Ok(Vec::from_slice(alloc, sides)?),
         Some(words) => {
             let words = folded(alloc, words.as_bytes())?;
-            told_of(alloc, sides, &words, notes)
+            printed_of(alloc, sides, &words, notes)
         }
     }
 }
 
 /// Returns the loans of `sides` of which a text has the words `sought`, which are folded, in their order.
-fn told_of<'a>(
+fn printed_of<'a>(
     alloc: Global,
     sides: &[&'a Side],
     sought: &[u8],
@@ -44,13 +44,13 @@ fn told_of<'a>(
 {
     let mut found = Vec::new(alloc);
     for side in sides {
-        push_told(&mut found, side, sought, notes)?;
+        push_printed(&mut found, side, sought, notes)?;
     }
     Ok(found)
 }
 
 /// Appends `side` to `found`, if one of its texts has the words `sought`, which are folded.
-fn push_told<'a>(
+fn push_printed<'a>(
     found: &mut Vec<&'a Side>,
     side: &'a Side,
     sought: &[u8],

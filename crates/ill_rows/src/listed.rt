@@ -2,7 +2,7 @@
 
 ghost use Rattle.std.specs.Prelude.{◌≡◌, ◌++◌, option_map, codes, IfOk, OnOk};
 ghost use Rattle.ill_text.specs.Json.{joined, member};
-ghost use Rattle.ill_rows.specs.Heading.{file_fields, file_told, gap, heading, left_out_line, left_out_words, room_line};
+ghost use Rattle.ill_rows.specs.Heading.{file_fields, file_printed, gap, heading, left_out_line, left_out_words, room_line};
 
 use ill_text::escape::push_escaped;
 use ill_text::form::Form;
@@ -25,8 +25,8 @@ pub struct Listed<'a> {
 
 impl<'a> Listed<'a> {
     /// Returns the path, if it is written.
-    pub fn told(&self) -> Option<&'a str>
-        ensures { option_map (λ path. path.now) result ≡ file_told self.now.is_headed self.now.path.now }
+    pub fn printed(&self) -> Option<&'a str>
+        ensures { option_map (λ path. path.now) result ≡ file_printed self.now.is_headed self.now.path.now }
     {
         if self.is_headed {
             Some(self.path)
@@ -71,8 +71,8 @@ pub fn left_out_line(alloc: Global, path: &str, count: usize) -> Result<Vec<u8>,
 {
     let mut line = Vec::from_slice(alloc, b"ill: ")?;
     push_escaped(&mut line, path.as_bytes())?;
-    let told = format!(in alloc; ": {count}")?;
-    line.extend_from_slice(told.as_bytes())?;
+    let printed = format!(in alloc; ": {count}")?;
+    line.extend_from_slice(printed.as_bytes())?;
     line.extend_from_slice(left_out_words(count == 1).as_bytes())?;
     Ok(line)
 }

@@ -10,7 +10,7 @@ use Rattle.ill_saved.specs.ManySides.{side_for}
 use Rattle.ill_world.specs.BadWorlds.{Contradicts}
 use Rattle.ill_world.specs.Desks.{DeskParty}
 use Rattle.ill_world.proofs.BadWorlds.{no_contradiction}
-use Rattle.ill_runs.specs.Mail.{IsOneOf, WasSent}
+use Rattle.ill_runs.specs.MessageFile.{IsOneOf, WasSent}
 use Rattle.ill_runs.specs.Libraries.{Library, Libraries, IsAt, AreSafe, HasAllThatLeft, IsMessageOf}
 use Rattle.ill_runs.specs.BadLibraries.{AreUnsafe, unread, contradicted, HasForgotten, unreadable, forgotten}
 use Rattle.ill_runs.proofs.Lists.{each_at}
@@ -37,12 +37,12 @@ not_safe libraries (contradicted requester responder txn first second bad) safe 
     (subst (λ s. Contradicts (side_for txn requester) (side_for txn s)) (sym other) bad) in
     no_contradiction _ _ bad_there faces.0 faces.1 faces.2
 
--- A library has the landed sides of its desk in its file, and its desk has sent each message that has left.
+-- A library has the committed sides of its desk in its file, and its desk has sent each message that has left.
 pub desk_is_in_file : (library : Library) (p : DeskParty) → IsAt library p
-    → ((held : SidesOf) → records_at library.file ≡ Ok held → held ≡ p.landed)
+    → ((held : SidesOf) → records_at library.file ≡ Ok held → held ≡ p.committed)
     × ((a : Apdu) → IsOneOf library.left a → WasSent p.sent a)
 desk_is_in_file library p at = (
-  λ held read. read_once _ held p.landed read at.file,
+  λ held read. read_once _ held p.committed read at.file,
   λ a one. each_at (WasSent p.sent) library.left one.0 a at.left one.1,
 )
 

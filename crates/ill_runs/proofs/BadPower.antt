@@ -22,17 +22,17 @@ pub none_starts_so : (left : Option (List ℕ)) (q : DeskParty) → IsBadStart l
 none_starts_so left q (nothing none) starts =
     let same : ◌≡◌ {A = Option (List ℕ)} None (Some starts.file) = sym none ∙ starts.there in absurd cc
 none_starts_so left q (unread file fault there fails) starts =
-    not_read (records_at file) fault q.landed fails
-    (subst (λ (bytes : List ℕ). records_at bytes ≡ Ok q.landed) (one_file left starts.file file starts.there there)
-    starts.landed)
+    not_read (records_at file) fault q.committed fails
+    (subst (λ (bytes : List ℕ). records_at bytes ≡ Ok q.committed) (one_file left starts.file file starts.there there)
+    starts.committed)
 none_starts_so left q (other_sides file held there read differs) starts =
-    differs (read_once (records_at file) q.landed held
-    (subst (λ (bytes : List ℕ). records_at bytes ≡ Ok q.landed) (one_file left starts.file file starts.there there)
-    starts.landed) read)
+    differs (read_once (records_at file) q.committed held
+    (subst (λ (bytes : List ℕ). records_at bytes ≡ Ok q.committed) (one_file left starts.file file starts.there there)
+    starts.committed) read)
 none_starts_so left q (not_whole differs) starts =
-    let read : ◌≡◌ {A = Result DeskContents RecordFault} (Ok q.live) (Ok (whole_of q.landed)) =
-    sym starts.live ∙ ap (map_ok whole_of) starts.landed in
-    let same : q.live ≡ whole_of q.landed = cc in differs same
+    let read : ◌≡◌ {A = Result DeskContents RecordFault} (Ok q.live) (Ok (whole_of q.committed)) =
+    sym starts.live ∙ ap (map_ok whole_of) starts.committed in
+    let same : q.live ≡ whole_of q.committed = cc in differs same
 
 -- A command whose power goes in a save is not cut off badly.
 pub none_cuts_so : (others : List Apdu) (before after : Library) (cut : IsCutInSave others before after) → IsBadCut cut → ⊥

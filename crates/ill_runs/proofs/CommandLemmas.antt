@@ -1,4 +1,4 @@
--- Proves that the commands of a person, and the mails and deeds of a night, are events of the model.
+-- Proves that the commands of a person, and the message files and deeds of a night, are events of the model.
 use Rattle.std.proofs.Common.{◌≡◌, inl, inr, ⊎_elim, ℕ, Bool, true, false, if◌then◌else◌, List, [], ◌∷◌, length, fold, Option}
 use Rattle.std.proofs.Common.{Some, None}
 use Rattle.std.proofs.Common.{option_map, Result, Ok, Err}
@@ -17,28 +17,28 @@ use Rattle.ill_record.specs.declared.side.Action.TheVariants as actions
 use Rattle.ill_record.specs.Sides.{is_same_role}
 use Rattle.ill_record.specs.Side.{role_for, begins}
 use Rattle.ill_record.specs.Ranges.{Each}
-use Rattle.ill_saved.specs.Holdings.{WantsMemory}
+use Rattle.ill_saved.specs.Holdings.{RunsOutOfMemory}
 use Rattle.ill_saved.specs.ManySides.{DeskContents, many_sides, desk_acts, desk_takes, acts_reached, side_for_call}
 use Rattle.ill_words.specs.declared.outcome.DeskOutcome.{DeskOutcome}
 use Rattle.ill_der.specs.Handling.{Handled}
 use Rattle.ill_text.specs.Input.{Ends, ReadsInput, Rest, rest_of}
 use Rattle.ill_text.specs.declared.fault.ToolFault.{ToolFault}
 use Rattle.ill_text.specs.declared.fault.ToolFault.TheVariants.{Desk, Write, OutOfMemory}
-use Rattle.ill_desk.specs.Performing.{HeldAndLanded, CommandState, Run, EndsRun, Performs, acted, handed, is_change}
+use Rattle.ill_desk.specs.Performing.{HeldAndCommitted, CommandState, Run, EndsRun, Performs, acted, handed, is_change}
 use Rattle.ill_desk.specs.Act.{RunsAct}
 use Rattle.ill_desk.specs.Take.{RunsTaking, TakesAndSaves, TakesMessage, Progress, progress}
 use Rattle.ill_desk.specs.Telling.{Wording}
-use Rattle.ill_night.specs.declared.verdict.Mail.{Mail}
+use Rattle.ill_night.specs.declared.verdict.MessageFile.{MessageFile}
 use Rattle.ill_night.specs.declared.verdict.Unfit.{Unfit}
 use Rattle.ill_night.specs.declared.verdict.Verdict.{Verdict}
-use Rattle.ill_inbox.specs.Inbox.{Sorting, after_mail, after_bytes, after_message, after_handing}
-use Rattle.ill_night.specs.Mails.{message_in, verdict_unread}
+use Rattle.ill_inbox.specs.Inbox.{Sorting, after_message_file, after_bytes, after_message, after_handing}
+use Rattle.ill_night.specs.MessageFiles.{message_in, verdict_unread}
 use Rattle.ill_inbox.specs.Dates.{Doing, after_act, after_deed}
 use Rattle.ill_world.specs.declared.event.DeskEvent.TheVariants.{Wish, Deed}
 use Rattle.ill_world.specs.Desks.{DeskParty, Sending, desk_decides}
 use Rattle.ill_world.specs.DeskSafety.{IsDeskOf}
 use Rattle.ill_runs.specs.Events.{Leads, IsReadAs, IsDesk, IsRun}
-use Rattle.ill_runs.specs.Mail.{WasSent, message_failed, messages_taken, message_if, message_if_read, message_of}
+use Rattle.ill_runs.specs.MessageFile.{WasSent, message_failed, messages_taken, message_if, message_if_read, message_of}
 use Rattle.ill_runs.proofs.Lists.{each_parts}
 use Rattle.ill_runs.proofs.EventLemmas.{none_leads, one_leads, then_leads, leads_keep_role, fault_is_run, saves_if, fails_to_save}
 use Rattle.ill_runs.proofs.EventLemmas.{delivery_leads, store_of_end}
@@ -48,39 +48,40 @@ use Rattle.ill_runs.proofs.EventLemmas.{delivery_leads, store_of_end}
 module _ (who : Role) (sent : List Sending) (p : DeskParty) where
   -- If an event leads to the sides `event.1`, what `Performs` says of it is a run. Its result says if it was saved, if
   -- the save failed, or if memory was refused.
-  pub performed_is_run : (WantsMemory : Type 0) (event : Result DeskOutcome ToolFault × DeskContents)
-      (old new : HeldAndLanded DeskContents) (result : Result DeskOutcome ToolFault) → IsReadAs old.landed p.landed
-      → Leads who sent p (record p { live = event.1 }) → Performs many_sides WantsMemory old event result new
+  pub performed_is_run : (RunsOutOfMemory : Type 0) (event : Result DeskOutcome ToolFault × DeskContents)
+      (old new : HeldAndCommitted DeskContents) (result : Result DeskOutcome ToolFault) → IsReadAs old.committed p.committed
+      → Leads who sent p (record p { live = event.1 }) → Performs many_sides RunsOutOfMemory old event result new
       → IsRun who sent p result new
-  performed_is_run WantsMemory event old new (Ok outcome) landed leads is =
-      saves_if who sent p old new event.1 (is_change outcome) landed leads is.1 is.2
-  performed_is_run WantsMemory event old new (Err (Desk (faults.Store Failed))) landed leads is =
-      let failed = fails_to_save who sent p old new event.1 landed leads is.1 in
-      (failed.0, failed.1, failed.2.landed)
-  performed_is_run WantsMemory event old new (Err OutOfMemory) landed leads is = elim is [
+  performed_is_run RunsOutOfMemory event old new (Ok outcome) committed leads is =
+      saves_if who sent p old new event.1 (is_change outcome) committed leads is.1 is.2
+  performed_is_run RunsOutOfMemory event old new (Err (Desk (faults.Store Failed))) committed leads is =
+      let failed = fails_to_save who sent p old new event.1 committed leads is.1 in
+      (failed.0, failed.1, failed.2.committed)
+  performed_is_run RunsOutOfMemory event old new (Err OutOfMemory) committed leads is = elim is [
     | inl wants ↦
-        fault_is_run DeskOutcome who sent p OutOfMemory new (subst (λ desk. IsReadAs desk.landed p.landed) (sym wants.1) landed)
+        fault_is_run DeskOutcome who sent p OutOfMemory new
+        (subst (λ desk. IsReadAs desk.committed p.committed) (sym wants.1) committed)
     | inr ran ↦ fault_is_run DeskOutcome who sent p OutOfMemory new
-        (subst (λ desk. IsReadAs desk.landed p.landed) (sym ran.1) landed)
+        (subst (λ desk. IsReadAs desk.committed p.committed) (sym ran.1) committed)
   ]
-  performed_is_run WantsMemory event old new (Err other) landed leads is = absurd is
+  performed_is_run RunsOutOfMemory event old new (Err other) committed leads is = absurd is
 
   -- If an event leads to the sides of `run`, what `EndsRun` says of it is a run. Its result says if it was saved and
   -- told, or which of these failed.
   pub ended_is_run : {A : Type 0} (run : Run DeskContents A) (old new : CommandState DeskContents) (result : Result A ToolFault)
-      → IsReadAs old.desk.landed p.landed → Leads who sent p (record p { live = run.live })
+      → IsReadAs old.desk.committed p.committed → Leads who sent p (record p { live = run.live })
       → EndsRun many_sides run old result new → IsRun who sent p result new.desk
-  ended_is_run run old new (Ok answer) landed leads is =
-      saves_if who sent p old.desk new.desk run.live run.has_changed landed leads is.2.0 is.2.1
-  ended_is_run run old new (Err Write) landed leads is =
-      let saved = saves_if who sent p old.desk new.desk run.live run.has_changed landed leads is.1.0 is.1.1 in
-      (saved.0, saved.1, saved.2.landed)
-  ended_is_run run old new (Err (Desk (faults.Store Failed))) landed leads is =
-      let failed = fails_to_save who sent p old.desk new.desk run.live landed leads is.2 in
-      (failed.0, failed.1, failed.2.landed)
-  ended_is_run {A} run old new (Err OutOfMemory) landed leads is =
-      fault_is_run A who sent p OutOfMemory new.desk (subst (λ content. IsReadAs content p.landed) (sym is.1) landed)
-  ended_is_run run old new (Err other) landed leads is = absurd is
+  ended_is_run run old new (Ok answer) committed leads is =
+      saves_if who sent p old.desk new.desk run.live run.has_changed committed leads is.2.0 is.2.1
+  ended_is_run run old new (Err Write) committed leads is =
+      let saved = saves_if who sent p old.desk new.desk run.live run.has_changed committed leads is.1.0 is.1.1 in
+      (saved.0, saved.1, saved.2.committed)
+  ended_is_run run old new (Err (Desk (faults.Store Failed))) committed leads is =
+      let failed = fails_to_save who sent p old.desk new.desk run.live committed leads is.2 in
+      (failed.0, failed.1, failed.2.committed)
+  ended_is_run {A} run old new (Err OutOfMemory) committed leads is =
+      fault_is_run A who sent p OutOfMemory new.desk (subst (λ content. IsReadAs content p.committed) (sym is.1) committed)
+  ended_is_run run old new (Err other) committed leads is = absurd is
 
 -- ---- actions
 
@@ -121,23 +122,24 @@ module _ (who : Role) (sent : List Sending) (p : DeskParty) (of : IsDeskOf who p
   action_leads action (Ok new) is = done_leads action new is
   action_leads action (Err fault) is = none_leads who sent p
 
--- The command `act` is a run. Some events lead from `p` to a desk `q`, whose landed sides are in the store after it.
+-- The command `act` is a run. Some events lead from `p` to a desk `q`, whose committed sides are in the store after it.
 pub act_is_run : (who : Role) (sent : List Sending) (p : DeskParty) → IsDeskOf who p → (txn : Qualifiers)
     (action : Option Action) (old new : CommandState DeskContents) (result : Result Bool ToolFault) → IsDesk old.desk p
-    → RunsAct many_sides txn action old result new → (q : DeskParty) × Leads who sent p q × IsReadAs new.desk.landed q.landed
+    → RunsAct many_sides txn action old result new → (q : DeskParty) × Leads who sent p q
+    × IsReadAs new.desk.committed q.committed
 act_is_run who sent p of txn (Some action) old new result at is =
     let performed : Result DeskOutcome ToolFault = is.0 in
     let event = acted old.desk.live (desk_acts old.desk.live txn action) in
     let leads = subst (λ live. Leads who sent p (record p { live = (acted live (desk_acts live txn action)).1 })) (sym at.live)
     (action_leads who sent p of txn action (desk_acts p.live txn action) refl) in
-    let run = performed_is_run who sent p (Unit {0}) event old.desk new.desk performed at.landed leads is.2 in
+    let run = performed_is_run who sent p (Unit {0}) event old.desk new.desk performed at.committed leads is.2 in
     (run.0, run.1, store_of_end performed new.desk run.0 run.2)
 act_is_run who sent p of txn None old new result at is =
-    (p, none_leads who sent p, subst (λ desk. IsReadAs desk.landed p.landed) (sym is.1) at.landed)
+    (p, none_leads who sent p, subst (λ desk. IsReadAs desk.committed p.committed) (sym is.1) at.committed)
 
 -- ---- the messages of an input
 
-module _ (who : Role) (sent : List Sending) (is_kept : Bool) (told : Wording) where
+module _ (who : Role) (sent : List Sending) (is_kept : Bool) (printed : Wording) where
   -- The desk of `progress` is the model's desk to which some events lead from `p`.
   record IsFrom (p : DeskParty) (progress : Progress DeskContents) : Type 0 where
     end : DeskParty
@@ -145,17 +147,18 @@ module _ (who : Role) (sent : List Sending) (is_kept : Bool) (told : Wording) wh
     at : IsDesk progress.state.desk end
 
   -- Taking a message that the other desk has sent is a run, whatever its result is.
-  taken_is_run : (p : DeskParty) (a : Apdu) (old new : HeldAndLanded DeskContents) (result : Result DeskOutcome ToolFault)
+  taken_is_run : (p : DeskParty) (a : Apdu) (old new : HeldAndCommitted DeskContents) (result : Result DeskOutcome ToolFault)
       → WasSent sent a → IsDesk old p → TakesAndSaves many_sides old a result new → IsRun who sent p result new
   taken_is_run p a old new result was at is =
-      performed_is_run who sent p (WantsMemory many_sides old.live a) (handed many_sides old.live a) old new result at.landed
+      performed_is_run who sent p (RunsOutOfMemory many_sides old.live a) (handed many_sides old.live a) old new result
+      at.committed
       (subst (λ live. Leads who sent p (record p { live = (desk_takes live a).1 })) (sym at.live)
       (delivery_leads who sent p a was))
       is
 
   -- Taking messages one after another is a run, if the other desk has sent each.
   handled_is_run : (p : DeskParty) (before after : Progress DeskContents) (apdus : List Apdu) → Each (WasSent sent) apdus
-      → IsDesk before.state.desk p → Handled (TakesMessage is_kept told many_sides) before apdus after → IsFrom p after
+      → IsDesk before.state.desk p → Handled (TakesMessage is_kept printed many_sides) before apdus after → IsFrom p after
   unfolding Each
   handled_is_run p before after [] were at is =
       record { end = p; leads = none_leads who sent p; at = subst (λ s. IsDesk s.state.desk p) (sym is) at }
@@ -168,15 +171,15 @@ module _ (who : Role) (sent : List Sending) (is_kept : Bool) (told : Wording) wh
 
   -- The bad end of an input is a run, if the other desk has sent the message of which the handling failed.
   failing_is_run : (p : DeskParty) (fault : ToolFault) (count : ℕ) (rest : Rest) (before after : Progress DeskContents)
-      → IsDesk before.state.desk p → (ends : Ends (TakesMessage is_kept told many_sides) (Err fault) count rest before after)
+      → IsDesk before.state.desk p → (ends : Ends (TakesMessage is_kept printed many_sides) (Err fault) count rest before after)
       → Each (WasSent sent) (⊎_elim (λ stops. []) (λ fails. fails.0 ∷ []) ends)
-      → (q : DeskParty) × Leads who sent p q × IsReadAs after.state.desk.landed q.landed
+      → (q : DeskParty) × Leads who sent p q × IsReadAs after.state.desk.committed q.committed
   unfolding Each
   failing_is_run p fault count rest before after at (inl stops) were =
-      (p, none_leads who sent p, subst (λ s. IsReadAs s.state.desk.landed p.landed) (sym stops.1) at.landed)
+      (p, none_leads who sent p, subst (λ s. IsReadAs s.state.desk.committed p.committed) (sym stops.1) at.committed)
   failing_is_run p fault count rest before after at (inr fails) were = elim fails.4 [
     | inl memory ↦
-        (p, none_leads who sent p, subst (λ s. IsReadAs s.state.desk.landed p.landed) (sym memory.1) at.landed)
+        (p, none_leads who sent p, subst (λ s. IsReadAs s.state.desk.committed p.committed) (sym memory.1) at.committed)
     | inr took ↦
         let run = taken_is_run p fails.0 before.state.desk after.state.desk took.0 were.0 at took.2 in
         (run.0, run.1, store_of_end took.0 after.state.desk run.0 run.2)
@@ -184,18 +187,19 @@ module _ (who : Role) (sent : List Sending) (is_kept : Bool) (told : Wording) wh
 
   -- The end of an input is a run, if the other desk has sent the message of which the handling failed.
   ending_is_run : (p : DeskParty) (left rest : Option (List ℕ)) (before after : Progress DeskContents)
-      (result : Result ℕ ToolFault) (read : ReadsInput (TakesMessage is_kept told many_sides) left rest before result after)
+      (result : Result ℕ ToolFault) (read : ReadsInput (TakesMessage is_kept printed many_sides) left rest before result after)
       → IsDesk read.last.state.desk p → Each (WasSent sent) (message_failed result read)
-      → (q : DeskParty) × Leads who sent p q × IsReadAs after.state.desk.landed q.landed
+      → (q : DeskParty) × Leads who sent p q × IsReadAs after.state.desk.committed q.committed
   ending_is_run p left rest before after (Ok n) read at were =
-      (p, none_leads who sent p, subst (λ s. IsReadAs s.state.desk.landed p.landed) (sym read.ended.3) at.landed)
+      (p, none_leads who sent p, subst (λ s. IsReadAs s.state.desk.committed p.committed) (sym read.ended.3) at.committed)
   ending_is_run p left rest before after (Err fault) read at were =
       failing_is_run p fault (length read.apdus) (rest_of read.bytes read.ahead rest) read.last after at read.ended were
 
   -- The command `take` is a run, if the other desk has sent each message of the input.
   pub take_is_run : (p : DeskParty) (old new : CommandState DeskContents) (result : Result Bool ToolFault) → IsDesk old.desk p
-      → (taken : RunsTaking is_kept told many_sides old result new) → Each (WasSent sent) (messages_taken {told = told} taken)
-      → (q : DeskParty) × Leads who sent p q × IsReadAs new.desk.landed q.landed
+      → (taken : RunsTaking is_kept printed many_sides old result new)
+      → Each (WasSent sent) (messages_taken {printed = printed} taken)
+      → (q : DeskParty) × Leads who sent p q × IsReadAs new.desk.committed q.committed
   take_is_run p old new result at taken were =
       let read = taken.3 in
       let both = each_parts (WasSent sent) read.apdus (message_failed taken.0 read) were in
@@ -204,17 +208,17 @@ module _ (who : Role) (sent : List Sending) (is_kept : Bool) (told : Wording) wh
       handled.at both.1 in
       (ended.0, then_leads handled.leads ended.1, ended.2)
 
--- ---- the mails of a night
+-- ---- the message files of a night
 
 module _ (who : Role) (sent : List Sending) (p : DeskParty) where
-  -- If a message leads to the sides `next.1`, the mail that holds it leads to the sides that it leaves.
+  -- If a message leads to the sides `next.1`, the message file that holds it leads to the sides that it leaves.
   handing_leads : (name bytes : List ℕ) (a : Apdu) (next : Result DeskOutcome ToolFault × DeskContents)
       (old : Sorting DeskContents) → Leads who sent (record p { live = old.live }) (record p { live = next.1 })
       → Leads who sent (record p { live = old.live }) (record p { live = (after_handing many_sides name bytes a next old).live })
   handing_leads name bytes a (Ok outcome, live) old leads = leads
   handing_leads name bytes a (Err fault, live) old leads = none_leads who sent (record p { live = old.live })
 
-  -- If the other desk has sent the message of a mail, taking the mail is an event, or none.
+  -- If the other desk has sent the message of a message file, taking the message file is an event, or none.
   message_leads : (name bytes : List ℕ) (found : Result Apdu Unfit) (old : Sorting DeskContents)
       → Each (WasSent sent) (message_if found)
       → Leads who sent (record p { live = old.live }) (record p { live = (after_message many_sides name bytes found old).live })
@@ -224,22 +228,25 @@ module _ (who : Role) (sent : List Sending) (p : DeskParty) where
       (delivery_leads who sent (record p { live = old.live }) a was.0)
   message_leads name bytes (Err unfit) old was = none_leads who sent (record p { live = old.live })
 
-  -- Taking a mail is an event or none, whether the mail could be read or not.
+  -- Taking a message file is an event or none, whether the message file could be read or not.
   content_leads : (unread : Verdict) (name : List ℕ) (content : Option (List ℕ)) (old : Sorting DeskContents)
       → Each (WasSent sent) (message_if_read content)
       → Leads who sent (record p { live = old.live }) (record p { live = (after_bytes many_sides unread name content old).live })
   content_leads unread name (Some bytes) old was = message_leads name bytes (message_in bytes) old was
   content_leads unread name None old was = none_leads who sent (record p { live = old.live })
 
-  -- Taking mails is events, if the other desk has sent the message of each.
-  pub mails_lead : (old : Sorting DeskContents) (mails : List Mail) → Each (λ mail. Each (WasSent sent) (message_of mail)) mails
-      → Leads who sent (record p { live = old.live }) (record p { live = (fold (after_mail many_sides) old mails).live })
+  -- Taking message files is events, if the other desk has sent the message of each.
+  pub message_files_lead : (old : Sorting DeskContents) (message_files : List MessageFile)
+      → Each (λ message_file. Each (WasSent sent) (message_of message_file)) message_files
+      → Leads who sent (record p { live = old.live })
+      (record p { live = (fold (after_message_file many_sides) old message_files).live })
   unfolding Each
-  mails_lead old [] were = none_leads who sent (record p { live = old.live })
-  mails_lead old (mail ∷ mails) were =
-      then_leads (content_leads (verdict_unread mail.letter) mail.name.items (option_map (λ bytes. bytes.items) mail.bytes) old
+  message_files_lead old [] were = none_leads who sent (record p { live = old.live })
+  message_files_lead old (message_file ∷ message_files) were =
+      then_leads (content_leads (verdict_unread message_file.letter) message_file.name.items
+      (option_map (λ bytes. bytes.items) message_file.bytes) old
       were.0)
-      (mails_lead (after_mail many_sides old mail) mails were.1)
+      (message_files_lead (after_message_file many_sides old message_file) message_files were.1)
 
   -- ---- the deeds of a day
 

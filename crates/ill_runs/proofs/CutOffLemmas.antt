@@ -13,15 +13,15 @@ use Rattle.ill_record.specs.Ranges.{Each}
 use Rattle.ill_saved.specs.ManySides.{DeskContents, many_sides}
 use Rattle.ill_text.specs.declared.fault.ToolFault.{ToolFault}
 use Rattle.ill_text.specs.declared.fault.ToolFault.TheVariants.{Desk}
-use Rattle.ill_desk.specs.Performing.{HeldAndLanded, CommandState, command_state, with_input, saved, IsFaulted}
+use Rattle.ill_desk.specs.Performing.{HeldAndCommitted, CommandState, command_state, with_input, saved, IsFaulted}
 use Rattle.ill_der.specs.Handling.{Handled}
 use Rattle.ill_desk.specs.Take.{Progress, RunsTaking, TakesMessage, kept_text, progress}
 use Rattle.ill_desk.specs.Telling.{Wording}
 use Rattle.ill_night.specs.Outbox.{Issue, leaving_desk}
-use Rattle.ill_mail.specs.Nights.{AskedNight, ExchangesAt}
+use Rattle.ill_exchange.specs.Nights.{AskedNight, ExchangesAt}
 use Rattle.ill_world.specs.World.{party}
-use Rattle.ill_runs.specs.Mail.{IsOneOf, IsOutbox, IsReleased, LeavesIfDone, Leaves}
-use Rattle.ill_runs.specs.Libraries.{Library, Libraries, StartsFrom, IsCommand, Acts, Takes, TakesMail, Sends}
+use Rattle.ill_runs.specs.MessageFile.{IsOneOf, IsOutbox, IsReleased, LeavesIfDone, Leaves}
+use Rattle.ill_runs.specs.Libraries.{Library, Libraries, StartsFrom, IsCommand, Acts, Takes, TakesMessageFile, Sends}
 use Rattle.ill_runs.specs.Libraries.{Exchanges, Commands, Happens, IsHistory}
 use Rattle.ill_runs.specs.CutOff.{ActSaves, TakeReaches, TakeSaves, InboxSaves, NightReaches, DeedsSave, IsCutInSave}
 use Rattle.ill_runs.specs.CutOff.{IsCutBetweenSaves, IsCutInSending, LosesPower, HappensOrLoses, IsPoweredHistory, with_first}
@@ -36,10 +36,10 @@ save_failed = Desk (faults.Store Failed)
 -- ---- the save
 
 -- A save of the desk `now` may fail so that its store has the record `file`.
-record FailsWith (now : HeldAndLanded DeskContents) (file : List ℕ) : Type 0 where
-  end : HeldAndLanded DeskContents
+record FailsWith (now : HeldAndCommitted DeskContents) (file : List ℕ) : Type 0 where
+  end : HeldAndCommitted DeskContents
   faulted : IsFaulted many_sides now end
-  landed : end.landed ≡ Some (Some file)
+  committed : end.committed ≡ Some (Some file)
 
 -- If the power goes in a save, this save may fail with the record that is left.
 fails_with : (others : List Apdu) (before after : Library) (cut : IsCutInSave others before after) → FailsWith cut.now after.file
@@ -47,13 +47,13 @@ fails_with others before after cut = elim cut.file [
   | inl old ↦ record {
     end = cut.now;
     faulted = inl refl;
-    landed = cut.landed ∙ ap (λ (file : List ℕ). Some (Some file)) (sym old);
+    committed = cut.committed ∙ ap (λ (file : List ℕ). Some (Some file)) (sym old);
   }
   | inr new ↦ record {
-    end = record cut.now { landed = (saved many_sides cut.now).landed };
+    end = record cut.now { committed = (saved many_sides cut.now).committed };
     faulted = inr (refl, cut.encoded);
-    landed = ap (λ (content : Option (Option (List ℕ))). option_map (λ _. Some (many_sides.encoding cut.now.live)) content)
-        cut.landed ∙ ap (λ (file : List ℕ). Some (Some file)) (sym new);
+    committed = ap (λ (content : Option (Option (List ℕ))). option_map (λ _. Some (many_sides.encoding cut.now.live)) content)
+        cut.committed ∙ ap (λ (file : List ℕ). Some (Some file)) (sym new);
   }
 ]
 
@@ -82,7 +82,7 @@ act_cut others before after cut saves =
         ),
         refl,
       );
-      landed = failed.landed;
+      committed = failed.committed;
       left = cut.left ∙ sym (append-nil before.left);
     }
 
@@ -108,7 +108,7 @@ take_cut longest others before after cut saves =
       kept = append_known last.state.kept (kept_text reached.is_kept a);
       written = last.state.written;
     } in
-    let taken : RunsTaking reached.is_kept reached.told many_sides old (Err save_failed) new = (
+    let taken : RunsTaking reached.is_kept reached.printed many_sides old (Err save_failed) new = (
       Err save_failed,
       last.fine,
       refl,
@@ -145,19 +145,19 @@ take_cut longest others before after cut saves =
       starts = subst (StartsFrom before.file) (sym reached.from) cut.starts;
       runs = (
         reached.is_kept,
-        reached.told,
+        reached.printed,
         Err save_failed,
         taken,
         each_append (IsOneOf others) reached.apdus (a ∷ []) reached.came (saves.3, tt),
         refl,
       );
-      landed = failed.landed;
+      committed = failed.committed;
       left = cut.left ∙ sym (append-nil before.left);
     }
 
--- If the power goes in the save of the mails that came, this is a command `inbox` whose save failed.
+-- If the power goes in the save of the message files that came, this is a command `inbox` whose save failed.
 inbox_cut : (others : List Apdu) (before after : Library) (cut : IsCutInSave others before after)
-    → InboxSaves others cut.old cut.now → IsCommand (TakesMail others) before after
+    → InboxSaves others cut.old cut.now → IsCommand (TakesMessageFile others) before after
 inbox_cut others before after cut saves =
     let failed = fails_with others before after cut in
     record {
@@ -181,7 +181,7 @@ inbox_cut others before after cut saves =
         saves.2,
         refl,
       );
-      landed = failed.landed;
+      committed = failed.committed;
       left = cut.left ∙ sym (append-nil before.left);
     }
 
@@ -212,7 +212,7 @@ deeds_cut others before after cut saves =
       leaving = [];
       starts = subst (StartsFrom before.file) (sym reached.from) cut.starts;
       runs = (asked, Err save_failed, night, reached.came, refl);
-      landed = failed.landed;
+      committed = failed.committed;
       left = cut.left ∙ sym (append-nil before.left);
     }
 
@@ -224,7 +224,7 @@ save_is_command longest others before after cut = elim cut.saves [
   | inr further ↦ elim further [
     | inl takes ↦ inr (inl (take_cut longest others before after cut takes))
     | inr beyond ↦ elim beyond [
-      | inl mails ↦ inr (inr (inl (inbox_cut others before after cut mails)))
+      | inl message_files ↦ inr (inr (inl (inbox_cut others before after cut message_files)))
       | inr deeds ↦ inr (inr (inr (inr (inl (deeds_cut others before after cut deeds)))))
     ]
   ]
@@ -237,12 +237,12 @@ abbrev without_input : Progress DeskContents → Progress DeskContents
 without_input state = progress state.state state.fine
 
 -- If messages are handled from `before` to `after`, the same messages are handled between both without the input left.
-handled_without : (is_kept : Bool) (told : Wording) (before after : Progress DeskContents) (apdus : List Apdu)
-    → Handled (TakesMessage is_kept told many_sides) before apdus after
-    → Handled (TakesMessage is_kept told many_sides) (without_input before) apdus (without_input after)
-handled_without is_kept told before after [] same = ap without_input same
-handled_without is_kept told before after (a ∷ apdus) is =
-    (without_input is.0, is.1, handled_without is_kept told is.0 after apdus is.2)
+handled_without : (is_kept : Bool) (printed : Wording) (before after : Progress DeskContents) (apdus : List Apdu)
+    → Handled (TakesMessage is_kept printed many_sides) before apdus after
+    → Handled (TakesMessage is_kept printed many_sides) (without_input before) apdus (without_input after)
+handled_without is_kept printed before after [] same = ap without_input same
+handled_without is_kept printed before after (a ∷ apdus) is =
+    (without_input is.0, is.1, handled_without is_kept printed is.0 after apdus is.2)
 
 -- If the power goes between two saves of the command `take`, this is a command `take` of fewer messages.
 take_stopped : (others : List Apdu) (before after : Library) (cut : IsCutBetweenSaves others before after)
@@ -251,7 +251,7 @@ take_stopped : (others : List Apdu) (before after : Library) (cut : IsCutBetween
 take_stopped others before after cut last reached now =
     let old : CommandState DeskContents = with_input None reached.start in
     let new : CommandState DeskContents = with_input None last.state in
-    let taken : RunsTaking reached.is_kept reached.told many_sides old (Ok last.fine) new = (
+    let taken : RunsTaking reached.is_kept reached.printed many_sides old (Ok last.fine) new = (
       Ok (length reached.apdus),
       last.fine,
       refl,
@@ -264,7 +264,7 @@ take_stopped others before after cut last reached now =
         most = reached.most;
         few = omega arith;
         read = tt;
-        handled = handled_without reached.is_kept reached.told (progress reached.start true) last reached.apdus
+        handled = handled_without reached.is_kept reached.printed (progress reached.start true) last reached.apdus
             reached.handled;
         ended = (refl, refl, (refl, tt), refl);
       },
@@ -276,27 +276,27 @@ take_stopped others before after cut last reached now =
       starts = subst (StartsFrom before.file) (sym reached.from) cut.starts;
       runs = (
         reached.is_kept,
-        reached.told,
+        reached.printed,
         Ok last.fine,
         taken,
         subst (Each (IsOneOf others)) (sym (append-nil reached.apdus)) reached.came,
         refl,
       );
-      landed = subst (λ (desk : HeldAndLanded DeskContents). desk.landed ≡ Some (Some after.file)) now cut.landed;
+      committed = subst (λ (desk : HeldAndCommitted DeskContents). desk.committed ≡ Some (Some after.file)) now cut.committed;
       left = cut.left ∙ sym (append-nil before.left);
     }
 
--- If the power goes in a night after its mails were saved, this is a command `inbox`.
+-- If the power goes in a night after its message files were saved, this is a command `inbox`.
 night_stopped : (others : List Apdu) (before after : Library) (cut : IsCutBetweenSaves others before after)
     (met : CommandState DeskContents) → NightReaches others cut.old met → cut.now ≡ met.desk
-    → IsCommand (TakesMail others) before after
+    → IsCommand (TakesMessageFile others) before after
 night_stopped others before after cut met reached now = record {
   old = reached.start;
   new = met;
   leaving = [];
   starts = subst (StartsFrom before.file) (sym reached.from) cut.starts;
   runs = (reached.form, Ok reached.night, reached.taken, reached.came, refl);
-  landed = subst (λ (desk : HeldAndLanded DeskContents). desk.landed ≡ Some (Some after.file)) now cut.landed;
+  committed = subst (λ (desk : HeldAndCommitted DeskContents). desk.committed ≡ Some (Some after.file)) now cut.committed;
   left = cut.left ∙ sym (append-nil before.left);
 }
 
@@ -307,18 +307,18 @@ same_library before after file left =
     ∙ ap (λ (apdus : List Apdu). record before { left = apdus }) left
 
 -- A command that has saved nothing leaves the library as it was.
-nothing_saved : (before after : Library) (cut_old now : HeldAndLanded DeskContents) → StartsFrom before.file cut_old
-    → now ≡ cut_old → now.landed ≡ Some (Some after.file) → after.left ≡ before.left → after ≡ before
-nothing_saved before after old now starts same landed left =
+nothing_saved : (before after : Library) (cut_old now : HeldAndCommitted DeskContents) → StartsFrom before.file cut_old
+    → now ≡ cut_old → now.committed ≡ Some (Some after.file) → after.left ≡ before.left → after ≡ before
+nothing_saved before after old now starts same committed left =
     let contents : ◌≡◌ {A = Option (Option (List ℕ))} (Some (Some after.file)) (Some (Some before.file)) =
-    sym landed ∙ ap (λ (desk : HeldAndLanded DeskContents). desk.landed) same ∙ starts.1 in
+    sym committed ∙ ap (λ (desk : HeldAndCommitted DeskContents). desk.committed) same ∙ starts.1 in
     let file : after.file ≡ before.file = cc in same_library before after file left
 
 -- A command whose power goes between its saves is a command.
 between_is_command : (others : List Apdu) (before after : Library) → IsCutBetweenSaves others before after
     → Commands others before after
 between_is_command others before after cut = elim cut.reaches [
-  | inl same ↦ inr (inr (inr (inr (inr (nothing_saved before after cut.old cut.now cut.starts same cut.landed cut.left)))))
+  | inl same ↦ inr (inr (inr (inr (inr (nothing_saved before after cut.old cut.now cut.starts same cut.committed cut.left)))))
   | inr further ↦ elim further [
     | inl takes ↦ inr (inl (take_stopped others before after cut takes.0 takes.1 takes.2))
     | inr night ↦ inr (inr (inl (night_stopped others before after cut night.0 night.1 night.2)))
@@ -378,7 +378,7 @@ fewer_exchanged others before after size command =
         runs.3,
         fewer_of_night runs.0 command.old command.new runs.1 runs.2 command.leaving size runs.4,
       );
-      landed = command.landed;
+      committed = command.committed;
       left = refl;
     })))))
 
@@ -399,7 +399,7 @@ fewer_sent others before after size command =
           | inr may ↦ inr (each_take (IsReleased live) size command.leaving may)
         ],
       );
-      landed = command.landed;
+      committed = command.committed;
       left = refl;
     }))))
 

@@ -10,7 +10,7 @@ use Rattle.ill_saved.specs.ManySides.{DeskContents, many_sides, sides_held, whol
 use Rattle.ill_record.specs.RecordsV2.{records_at, sides_encoding}
 use Rattle.ill_saved.proofs.Contents.{sides_of_whole}
 use Rattle.ill_text.specs.declared.fault.ToolFault.{ToolFault}
-use Rattle.ill_desk.specs.Performing.{HeldAndLanded, saved, with_sides, IsFaulted}
+use Rattle.ill_desk.specs.Performing.{HeldAndCommitted, saved, with_sides, IsFaulted}
 use Rattle.ill_world.specs.declared.event.DeskEvent.{DeskEvent}
 use Rattle.ill_world.specs.declared.event.DeskEvent.TheVariants.{Save, SaveFault, Deliver}
 use Rattle.ill_world.specs.World.{who_of}
@@ -18,7 +18,7 @@ use Rattle.ill_world.specs.Desks.{DeskParty, Sending, plain, desk_happens_to, de
 use Rattle.ill_world.specs.DeskSafety.{IsDeskOf}
 use Rattle.ill_world.proofs.Desks.{role_kept}
 use Rattle.ill_runs.specs.Events.{desk_after, HappenAt, Leads, IsReadAs, IsDesk, EndsAs, IsRun}
-use Rattle.ill_runs.specs.Mail.{WasSent}
+use Rattle.ill_runs.specs.MessageFile.{WasSent}
 
 -- ---- events one after another
 
@@ -77,10 +77,10 @@ leads_keep_role {who} {sent} {p} {q} leads role is =
 pub save_leads : (who : Role) (sent : List Sending) (p : DeskParty) → Leads who sent p (desk_saves p)
 save_leads who sent p = one_leads who sent p (Save who) refl
 
--- A save that fails is an event. `landed` is true if its record has landed.
-pub fault_leads : (who : Role) (sent : List Sending) (p : DeskParty) (landed : Bool)
-    → Leads who sent p (desk_fails_to_save p landed)
-fault_leads who sent p landed = one_leads who sent p (SaveFault who landed) refl
+-- A save that fails is an event. `committed` is true if its record is committed.
+pub fault_leads : (who : Role) (sent : List Sending) (p : DeskParty) (committed : Bool)
+    → Leads who sent p (desk_fails_to_save p committed)
+fault_leads who sent p committed = one_leads who sent p (SaveFault who committed) refl
 
 -- If a record is read as the sides `all` with all messages released, it is read as `all`.
 pub read_back : (read : Result SidesOf RecordFault) (all : SidesOf) → map_ok whole_of read ≡ Ok (whole_of all) → read ≡ Ok all
@@ -89,67 +89,68 @@ read_back (Ok found) all is =
     ap (λ (s : SidesOf). Ok s) (sym (sides_of_whole found) ∙ ap sides_held same ∙ sides_of_whole all)
 read_back (Err fault) all is = absurd cc
 
--- If the sides `live` were saved in a store of known content, and their record is read as these sides, the store has them.
-pub landed_again : (content : Option (Option (List ℕ))) (landed : SidesOf) (live : DeskContents)
-    → IsReadAs content landed → IsReadAgain many_sides live
-    → IsReadAs (saved many_sides (record { path = None; live = live; landed = content })).landed (sides_held live)
-landed_again (Some (Some bytes)) landed live is again = read_back (records_at (sides_encoding (sides_held live))) _ again
-landed_again (Some None) landed live is again = absurd is
-landed_again None landed live is again = absurd is
+-- If the sides `live` were saved in a store of known content, and their record is read as these sides, the store has
+-- them.
+pub committed_again : (content : Option (Option (List ℕ))) (committed : SidesOf) (live : DeskContents)
+    → IsReadAs content committed → IsReadAgain many_sides live
+    → IsReadAs (saved many_sides (record { path = None; live = live; committed = content })).committed (sides_held live)
+committed_again (Some (Some bytes)) committed live is again = read_back (records_at (sides_encoding (sides_held live))) _ again
+committed_again (Some None) committed live is again = absurd is
+committed_again None committed live is again = absurd is
 
 -- ---- the end of a command
 
 -- If a command ended at the model's desk `p`, it ended so with any result.
-pub ends_as : {X : Type 0} (result : Result X ToolFault) (desk : HeldAndLanded DeskContents) (p : DeskParty)
+pub ends_as : {X : Type 0} (result : Result X ToolFault) (desk : HeldAndCommitted DeskContents) (p : DeskParty)
     → IsDesk desk p → EndsAs result desk p
 ends_as (Ok answer) desk p is = is
-ends_as (Err fault) desk p is = is.landed
+ends_as (Err fault) desk p is = is.committed
 
--- If a command ended at the model's desk `p`, its store has the landed sides of `p`.
-pub store_of_end : {X : Type 0} (result : Result X ToolFault) (desk : HeldAndLanded DeskContents) (p : DeskParty)
-    → EndsAs result desk p → IsReadAs desk.landed p.landed
-store_of_end (Ok answer) desk p ends = ends.landed
+-- If a command ended at the model's desk `p`, its store has the committed sides of `p`.
+pub store_of_end : {X : Type 0} (result : Result X ToolFault) (desk : HeldAndCommitted DeskContents) (p : DeskParty)
+    → EndsAs result desk p → IsReadAs desk.committed p.committed
+store_of_end (Ok answer) desk p ends = ends.committed
 store_of_end (Err fault) desk p ends = ends
 
 -- If the store is as before, and the command ended with a fault, it was a run without an event.
 pub fault_is_run : (X : Type 0) (who : Role) (sent : List Sending) (p : DeskParty) (fault : ToolFault)
-    (desk : HeldAndLanded DeskContents) → IsReadAs desk.landed p.landed → IsRun {X = X} who sent p (Err fault) desk
-fault_is_run X who sent p fault desk landed = (p, none_leads who sent p, landed)
+    (desk : HeldAndCommitted DeskContents) → IsReadAs desk.committed p.committed → IsRun {X = X} who sent p (Err fault) desk
+fault_is_run X who sent p fault desk committed = (p, none_leads who sent p, committed)
 
 -- If sides `live` of a run were saved, or nothing was to be saved, the command ends at a desk of the model.
-pub saves_if : (who : Role) (sent : List Sending) (p : DeskParty) (old new : HeldAndLanded DeskContents) (live : DeskContents)
-    (has_changed : Bool) → IsReadAs old.landed p.landed → Leads who sent p (record p { live = live })
+pub saves_if : (who : Role) (sent : List Sending) (p : DeskParty) (old new : HeldAndCommitted DeskContents) (live : DeskContents)
+    (has_changed : Bool) → IsReadAs old.committed p.committed → Leads who sent p (record p { live = live })
     → new ≡ (if has_changed then saved many_sides (with_sides old live) else with_sides old live)
     → (has_changed ≡ true → IsReadAgain many_sides live)
     → (q : DeskParty) × Leads who sent p q × IsDesk new q
-saves_if who sent p old new live true landed leads same again = (
+saves_if who sent p old new live true committed leads same again = (
   desk_saves (record p { live = live }),
   then_leads leads (save_leads who sent (record p { live = live })),
   subst (λ desk. IsDesk desk (desk_saves (record p { live = live }))) (sym same)
-      (record { live = refl; landed = landed_again old.landed p.landed live landed (again refl) }),
+      (record { live = refl; committed = committed_again old.committed p.committed live committed (again refl) }),
 )
-saves_if who sent p old new live false landed leads same again = (
+saves_if who sent p old new live false committed leads same again = (
   record p { live = live },
   leads,
-  subst (λ desk. IsDesk desk (record p { live = live })) (sym same) (record { live = refl; landed = landed }),
+  subst (λ desk. IsDesk desk (record p { live = live })) (sym same) (record { live = refl; committed = committed }),
 )
 
 -- If the save of the sides `live` failed, the command ended at a desk of the model.
-pub fails_to_save : (who : Role) (sent : List Sending) (p : DeskParty) (old new : HeldAndLanded DeskContents)
-    (live : DeskContents) → IsReadAs old.landed p.landed → Leads who sent p (record p { live = live })
+pub fails_to_save : (who : Role) (sent : List Sending) (p : DeskParty) (old new : HeldAndCommitted DeskContents)
+    (live : DeskContents) → IsReadAs old.committed p.committed → Leads who sent p (record p { live = live })
     → IsFaulted many_sides (with_sides old live) new
     → (q : DeskParty) × Leads who sent p q × IsDesk new q
-fails_to_save who sent p old new live landed leads is = elim is [
+fails_to_save who sent p old new live committed leads is = elim is [
   | inl same ↦ (
     record p { live = live },
     then_leads leads (fault_leads who sent (record p { live = live }) false),
-    subst (λ desk. IsDesk desk (record p { live = live })) (sym same) (record { live = refl; landed = landed }),
+    subst (λ desk. IsDesk desk (record p { live = live })) (sym same) (record { live = refl; committed = committed }),
   )
   | inr same ↦ (
-    record p { live = live; landed = sides_held live },
+    record p { live = live; committed = sides_held live },
     then_leads leads (fault_leads who sent (record p { live = live }) true),
-    subst (λ desk. IsDesk desk (record p { live = live; landed = sides_held live })) (sym same.0)
-        (record { live = refl; landed = landed_again old.landed p.landed live landed same.1 }),
+    subst (λ desk. IsDesk desk (record p { live = live; committed = sides_held live })) (sym same.0)
+        (record { live = refl; committed = committed_again old.committed p.committed live committed same.1 }),
   )
 ]
 

@@ -20,7 +20,7 @@ use Rattle.ill_world.specs.Safety.{OfBoth, EndsAlike, WasShipped, WasGranted}
 use Rattle.ill_world.specs.DeskSafety.{DesksInvariant}
 use Rattle.ill_world.proofs.Desks.{EachStands, desks_stand_on}
 use Rattle.ill_runs.specs.Libraries.{Libraries, first_library, first_libraries, Happens, IsHistory, libraries_after, IsAt, AreAt}
-use Rattle.ill_runs.specs.Mail.{WasSent}
+use Rattle.ill_runs.specs.MessageFile.{WasSent}
 use Rattle.ill_runs.specs.Libraries.{IsRunAt, AreSafe, HasAllThatLeft, IsMessageOf}
 use Rattle.ill_runs.proofs.LibraryLemmas.{events_there, run_join, command_leads}
 
@@ -95,41 +95,41 @@ pub safe_at : ((txn : Qualifiers) (w : Parties) → Invariant txn w → OfBoth E
     → ((txn : Qualifiers) (w : Parties) → Invariant txn w → OfBoth WasGranted w)
     → (libraries : Libraries) (w : DeskParties) → DesksInvariant w → AreAt libraries w → AreSafe libraries
 safe_at ends shipped granted libraries w stands at = (
-  w.requester.landed,
-  w.responder.landed,
+  w.requester.committed,
+  w.responder.committed,
   at.requester.file,
   at.responder.file,
   λ txn. (
-    (ends txn (project txn w) (stands.each txn)).landed,
-    (shipped txn (project txn w) (stands.each txn)).landed,
-    (granted txn (project txn w) (stands.each txn)).landed,
+    (ends txn (project txn w) (stands.each txn)).committed,
+    (shipped txn (project txn w) (stands.each txn)).committed,
+    (granted txn (project txn w) (stands.each txn)).committed,
   ),
 )
 
 -- ---- what has left
 
--- If each message that was sent has landed, each that has left is a message of the landed sides.
-left_landed : (sent : List Sending) (landed : SidesOf)
+-- If each message that was sent is committed, each that has left is a message of the committed sides.
+left_committed : (sent : List Sending) (committed : SidesOf)
     → ((txn : Qualifiers) (n : ℕ) (a : Apdu) → sent_message (sent_for txn sent) n ≡ Some a
-    → message (issued_of (side_for txn landed)) n ≡ Some a) → (left : List Apdu) → Each (WasSent sent) left
-    → Each (IsMessageOf landed) left
+    → message (issued_of (side_for txn committed)) n ≡ Some a) → (left : List Apdu) → Each (WasSent sent) left
+    → Each (IsMessageOf committed) left
 unfolding Each
-left_landed sent landed lands [] each = tt
-left_landed sent landed lands (a ∷ left) each =
-    ((each.0.0, each.0.1, lands each.0.0 each.0.1 a each.0.2), left_landed sent landed lands left each.1)
+left_committed sent committed commits [] each = tt
+left_committed sent committed commits (a ∷ left) each =
+    ((each.0.0, each.0.1, commits each.0.0 each.0.1 a each.0.2), left_committed sent committed commits left each.1)
 
 -- If two libraries are desks that satisfy their invariant, the file of each has all that has left it.
 pub has_all_left : (libraries : Libraries) (w : DeskParties) → DesksInvariant w → AreAt libraries w → (role : Role)
     → HasAllThatLeft (party libraries role)
 has_all_left libraries w stands at who.Requester = (
-  w.requester.landed,
+  w.requester.committed,
   at.requester.file,
-  left_landed w.requester.sent w.requester.landed (λ txn n a is. (stands.each txn).requester.saved.landed n a is)
+  left_committed w.requester.sent w.requester.committed (λ txn n a is. (stands.each txn).requester.saved.committed n a is)
       libraries.requester.left at.requester.left,
 )
 has_all_left libraries w stands at who.Responder = (
-  w.responder.landed,
+  w.responder.committed,
   at.responder.file,
-  left_landed w.responder.sent w.responder.landed (λ txn n a is. (stands.each txn).responder.saved.landed n a is)
+  left_committed w.responder.sent w.responder.committed (λ txn n a is. (stands.each txn).responder.saved.committed n a is)
       libraries.responder.left at.responder.left,
 )

@@ -15,7 +15,7 @@ use Rattle.ill_words.specs.Sending.{wants_sending}
 use Rattle.ill_night.specs.Outbox.{Issue, is_asked, issues_of, leaving_side, leaving_desk, released_of}
 use Rattle.ill_world.specs.DeskCounts.{AreApart, is_one_of}
 use Rattle.ill_world.proofs.DeskCounts.{has_found}
-use Rattle.ill_runs.specs.Mail.{IsReleased, IsOutbox}
+use Rattle.ill_runs.specs.MessageFile.{IsReleased, IsOutbox}
 use Rattle.ill_runs.proofs.Lists.{each_append, each_take, each_so}
 
 -- ---- the sides of a desk

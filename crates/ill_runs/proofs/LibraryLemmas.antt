@@ -18,8 +18,8 @@ use Rattle.ill_record.specs.Ranges.{Each}
 use Rattle.ill_saved.specs.Holdings.{DeskEntry, map_ok}
 use Rattle.ill_saved.specs.ManySides.{DeskContents, whole_of, found_by, found_or, txn_held, held_for, idle_held}
 use Rattle.ill_record.proofs.Finding.{same_self}
-use Rattle.ill_desk.specs.Performing.{HeldAndLanded}
-use Rattle.ill_night.specs.declared.verdict.Mail.{Mail}
+use Rattle.ill_desk.specs.Performing.{HeldAndCommitted}
+use Rattle.ill_night.specs.declared.verdict.MessageFile.{MessageFile}
 use Rattle.ill_world.specs.declared.event.DeskEvent.{DeskEvent}
 use Rattle.ill_world.specs.declared.event.DeskEvent.TheVariants.{Send, Restart}
 use Rattle.ill_world.specs.World.{party, who_of, happens_at, run_by, sent_message, with_sent, sends_by}
@@ -34,8 +34,9 @@ use Rattle.ill_world.proofs.Desks.{EachStands, desks_stand_on}
 use Rattle.ill_world.proofs.Projections.{sent_after}
 use Rattle.ill_world.proofs.Rounds.{put_here}
 use Rattle.ill_runs.specs.Events.{desk_after, HappenAt, Leads, IsReadAs, IsDesk}
-use Rattle.ill_runs.specs.Mail.{IsOneOf, WasSent, IsReleased, IsOutbox, Bring, messages_taken, message_of}
-use Rattle.ill_runs.specs.Libraries.{Library, StartsFrom, IsCommand, Acts, Takes, TakesMail, Sends, Exchanges, Commands, IsAt}
+use Rattle.ill_runs.specs.MessageFile.{IsOneOf, WasSent, IsReleased, IsOutbox, Bring, messages_taken, message_of}
+use Rattle.ill_runs.specs.Libraries.{Library, StartsFrom, IsCommand, Acts, Takes, TakesMessageFile, Sends, Exchanges, Commands}
+use Rattle.ill_runs.specs.Libraries.{IsAt}
 use Rattle.ill_runs.specs.Libraries.{LeadsTo}
 use Rattle.ill_runs.proofs.EventLemmas.{one_leads, then_leads, leads_keep_role, store_of_end}
 use Rattle.ill_runs.proofs.CommandLemmas.{act_is_run, take_is_run}
@@ -121,20 +122,21 @@ few_at who.Responder w stands txn =
 -- ---- the start of a command
 
 -- The desk of a library starts as the model's desk does after a restart.
-pub started : (library : Library) (p : DeskParty) (desk : HeldAndLanded DeskContents) → IsAt library p
+pub started : (library : Library) (p : DeskParty) (desk : HeldAndCommitted DeskContents) → IsAt library p
     → StartsFrom library.file desk → IsDesk desk (desk_restarts p)
 started library p desk at starts =
-    let read : ◌≡◌ {A = Result DeskContents RecordFault} (Ok (whole_of p.landed)) (Ok desk.live) =
+    let read : ◌≡◌ {A = Result DeskContents RecordFault} (Ok (whole_of p.committed)) (Ok desk.live) =
     sym (ap (map_ok whole_of) at.file) ∙ starts.0 in
-    let same : whole_of p.landed ≡ desk.live = cc in
-    record { live = sym same; landed = subst (λ content. IsReadAs content p.landed) (sym starts.1) at.file }
+    let same : whole_of p.committed ≡ desk.live = cc in
+    record { live = sym same; committed = subst (λ content. IsReadAs content p.committed) (sym starts.1) at.file }
 
--- If each message of `others` was sent, so was each that mails bring from `others`.
-pub brought : (sent : List Sending) (others : List Apdu) → Each (WasSent sent) others → (mails : List Mail)
-    → Bring (IsOneOf others) mails → Bring (WasSent sent) mails
-brought sent others were mails bring =
-    each_so (λ mail. Each (IsOneOf others) (message_of mail)) (λ mail. Each (WasSent sent) (message_of mail)) mails
-    (λ mail each. each_so (IsOneOf others) (WasSent sent) (message_of mail)
+-- If each message of `others` was sent, so was each that message files bring from `others`.
+pub brought : (sent : List Sending) (others : List Apdu) → Each (WasSent sent) others → (message_files : List MessageFile)
+    → Bring (IsOneOf others) message_files → Bring (WasSent sent) message_files
+brought sent others were message_files bring =
+    each_so (λ message_file. Each (IsOneOf others) (message_of message_file))
+    (λ message_file. Each (WasSent sent) (message_of message_file)) message_files
+    (λ message_file each. each_so (IsOneOf others) (WasSent sent) (message_of message_file)
     (λ a one. each_at (WasSent sent) others one.0 a were one.1) each) bring
 
 -- ---- messages that were sent
@@ -197,20 +199,20 @@ module _ (stand : EachStands) (stay : (txn : Qualifiers) (w : DeskParties) (even
       → held_for txn live ≡ held
   found_side live txn held found = ap (found_or (idle_held live.role txn)) found
 
-  -- The events `events` at the desk of `who` send the messages `left`. They change neither the live nor the landed
+  -- The events `events` at the desk of `who` send the messages `left`. They change neither the live nor the committed
   -- sides of this desk.
   record HasSent (who : Role) (w : DeskParties) (left : List Apdu) : Type 0 where
     events : List DeskEvent
     here : HappenAt who events
     live : (party (desks_run w events) who).live ≡ (party w who).live
-    landed : (party (desks_run w events) who).landed ≡ (party w who).landed
+    committed : (party (desks_run w events) who).committed ≡ (party w who).committed
     sent : Each (WasSent (party (desks_run w events) who).sent) left
 
   -- Messages that may be sent are sent by events.
   sends_all : (who : Role) (w : DeskParties) (left : List Apdu) → DesksInvariant w → Each (IsReleased (party w who).live) left
       → HasSent who w left
   unfolding Each run_by HappenAt
-  sends_all who w [] stands may = record { events = []; here = tt; live = refl; landed = refl; sent = tt }
+  sends_all who w [] stands may = record { events = []; here = tt; live = refl; committed = refl; sent = tt }
   sends_all who w (a ∷ left) stands may =
       let first : IsReleased (party w who).live a = may.0 in
       let txn = first.0 in
@@ -232,19 +234,19 @@ module _ (stand : EachStands) (stay : (txn : Qualifiers) (w : DeskParties) (even
         events = event ∷ more.events;
         here = (refl, more.here);
         live = more.live ∙ ap (λ p. p.live) one;
-        landed = more.landed ∙ ap (λ p. p.landed) one;
+        committed = more.committed ∙ ap (λ p. p.committed) one;
         sent = (sent_on who next more.events a (stand w event stands) was, more.sent);
       }
 
   -- ---- one command
 
   -- A command that began at the model's desk `p` has led it to the desk `end`. The store, with this content, has the
-  -- landed sides of `end`. If `end` holds no transaction twice, the messages `leaving` may be sent there.
+  -- committed sides of `end`. If `end` holds no transaction twice, the messages `leaving` may be sent there.
   record HasRun (who : Role) (sent : List Sending) (p : DeskParty) (leaving : List Apdu) (content : Option (Option (List ℕ)))
       : Type 0 where
     end : DeskParty
     leads : Leads who sent p end
-    landed : IsReadAs content end.landed
+    committed : IsReadAs content end.committed
     may_leave : ((apart : AreApart (live_txns end)) → Each (IsReleased end.live) leaving)
 
   -- No message leaves a desk, so each that leaves may be sent.
@@ -276,7 +278,7 @@ module _ (stand : EachStands) (stay : (txn : Qualifiers) (w : DeskParties) (even
     restarted_of = leads_keep_role restart_leads who of
 
     -- The command `act` is a run.
-    act_ran : (is : IsCommand Acts before after) → HasRun who sent p is.leaving is.new.desk.landed
+    act_ran : (is : IsCommand Acts before after) → HasRun who sent p is.leaving is.new.desk.committed
     act_ran is =
         let acts = is.runs in
         let run = act_is_run who sent (desk_restarts p) restarted_of acts.0 acts.1 is.old is.new acts.2
@@ -284,28 +286,28 @@ module _ (stand : EachStands) (stay : (txn : Qualifiers) (w : DeskParties) (even
         record {
           end = run.0;
           leads = then_leads restart_leads run.1;
-          landed = run.2;
+          committed = run.2;
           may_leave = λ apart. none_leave run.0.live is.leaving acts.4;
         }
 
     -- The command `take` is a run.
-    take_ran : (is : IsCommand (Takes others) before after) → HasRun who sent p is.leaving is.new.desk.landed
+    take_ran : (is : IsCommand (Takes others) before after) → HasRun who sent p is.leaving is.new.desk.committed
     take_ran is =
         let takes = is.runs in
         let run = take_is_run who sent takes.0 takes.1 (desk_restarts p) is.old is.new takes.2
         (started before p is.old.desk at is.starts) takes.3
-        (each_so (IsOneOf others) (WasSent sent) (messages_taken {told = takes.1} takes.3)
+        (each_so (IsOneOf others) (WasSent sent) (messages_taken {printed = takes.1} takes.3)
         (λ a one. each_at (WasSent sent) others one.0 a were one.1)
         takes.4) in
         record {
           end = run.0;
           leads = then_leads restart_leads run.1;
-          landed = run.2;
+          committed = run.2;
           may_leave = λ apart. none_leave run.0.live is.leaving takes.5;
         }
 
     -- The command `inbox` is a run.
-    inbox_ran : (is : IsCommand (TakesMail others) before after) → HasRun who sent p is.leaving is.new.desk.landed
+    inbox_ran : (is : IsCommand (TakesMessageFile others) before after) → HasRun who sent p is.leaving is.new.desk.committed
     inbox_ran is =
         let takes = is.runs in
         let run = taking_is_run who sent (desk_restarts p) restarted_of takes.0 is.old is.new takes.1
@@ -313,24 +315,24 @@ module _ (stand : EachStands) (stay : (txn : Qualifiers) (w : DeskParties) (even
         record {
           end = run.0;
           leads = then_leads restart_leads run.1;
-          landed = store_of_end takes.1 is.new.desk run.0 run.2;
+          committed = store_of_end takes.1 is.new.desk run.0 run.2;
           may_leave = λ apart. none_leave run.0.live is.leaving takes.4;
         }
 
     -- The commands `outbox` and `send` are a run.
-    send_ran : (is : IsCommand Sends before after) → HasRun who sent p is.leaving is.new.desk.landed
+    send_ran : (is : IsCommand Sends before after) → HasRun who sent p is.leaving is.new.desk.committed
     send_ran is =
         let desk = started before p is.old.desk at is.starts in
         record {
           end = desk_restarts p;
           leads = restart_leads;
-          landed = subst (λ d. IsReadAs d.landed p.landed) (sym is.runs.0) desk.landed;
+          committed = subst (λ d. IsReadAs d.committed p.committed) (sym is.runs.0) desk.committed;
           may_leave = λ apart. may_be_sent (desk_restarts p) is.leaving apart
               (subst (λ live. IsOutbox live is.leaving ⊎ Each (IsReleased live) is.leaving) desk.live is.runs.1);
         }
 
     -- The command `exchange` is a run.
-    exchange_ran : (is : IsCommand (Exchanges others) before after) → HasRun who sent p is.leaving is.new.desk.landed
+    exchange_ran : (is : IsCommand (Exchanges others) before after) → HasRun who sent p is.leaving is.new.desk.committed
     exchange_ran is =
         let night = is.runs in
         let run = night_is_run who sent night.0 (desk_restarts p) restarted_of is.old is.new night.1 is.leaving
@@ -338,7 +340,7 @@ module _ (stand : EachStands) (stay : (txn : Qualifiers) (w : DeskParties) (even
         record {
           end = run.0;
           leads = then_leads restart_leads run.1;
-          landed = run.2;
+          committed = run.2;
           may_leave = λ apart. leave_if_any run.0 is.leaving run.3 apart;
         }
 
@@ -347,7 +349,7 @@ module _ (stand : EachStands) (stay : (txn : Qualifiers) (w : DeskParties) (even
       → (leaving : List Apdu) (content : Option (Option (List ℕ)))
       → content ≡ Some (Some after.file) → after.left ≡ before.left ++ leaving
       → HasRun who (party w (other who)).sent (party w who) leaving content → LeadsTo who w after
-  ran_leads who w stands before after at leaving content landed left ran =
+  ran_leads who w stands before after at leaving content committed left ran =
       let next : DeskParties = desks_run w ran.leads.events in
       let stands_next : DesksInvariant next = desks_stand_on stand w ran.leads.events stands in
       let is : party next who ≡ ran.end = (events_there who w ran.leads.events ran.leads.here).0 ∙ ran.leads.after in
@@ -362,8 +364,8 @@ module _ (stand : EachStands) (stay : (txn : Qualifiers) (w : DeskParties) (even
         events = ran.leads.events ++ sent.events;
         here = here_both who ran.leads.events sent.events ran.leads.here sent.here;
         at = subst (λ v. IsAt after (party v who)) (sym joined) (record {
-          file = subst (λ c. IsReadAs c (party (desks_run next sent.events) who).landed) landed
-              (subst (IsReadAs content) (sym (sent.landed ∙ ap (λ p. p.landed) is)) ran.landed);
+          file = subst (λ c. IsReadAs c (party (desks_run next sent.events) who).committed) committed
+              (subst (IsReadAs content) (sym (sent.committed ∙ ap (λ p. p.committed) is)) ran.committed);
           left = subst (Each (WasSent (party (desks_run next sent.events) who).sent)) (sym left)
               (each_append (WasSent (party (desks_run next sent.events) who).sent) before.left leaving
               (each_so (WasSent (party w who).sent) (WasSent (party (desks_run next sent.events) who).sent) before.left on
@@ -387,19 +389,20 @@ module _ (stand : EachStands) (stay : (txn : Qualifiers) (w : DeskParties) (even
       let sent = (party w (other who)).sent in
       let p = party w who in
       let of = role_of_desk who w stands in elim commands [
-        | inl acts ↦ ran_leads who w stands before after at acts.leaving acts.new.desk.landed acts.landed acts.left
+        | inl acts ↦ ran_leads who w stands before after at acts.leaving acts.new.desk.committed acts.committed acts.left
             (act_ran who sent p of others were before after at acts)
         | inr further ↦ elim further [
-          | inl takes ↦ ran_leads who w stands before after at takes.leaving takes.new.desk.landed takes.landed takes.left
+          | inl takes ↦ ran_leads who w stands before after at takes.leaving takes.new.desk.committed takes.committed takes.left
               (take_ran who sent p of others were before after at takes)
           | inr beyond ↦ elim beyond [
-            | inl mails ↦ ran_leads who w stands before after at mails.leaving mails.new.desk.landed mails.landed mails.left
-                (inbox_ran who sent p of others were before after at mails)
+            | inl message_files ↦ ran_leads who w stands before after at message_files.leaving message_files.new.desk.committed
+                message_files.committed message_files.left
+                (inbox_ran who sent p of others were before after at message_files)
             | inr last ↦ elim last [
-              | inl sends ↦ ran_leads who w stands before after at sends.leaving sends.new.desk.landed sends.landed
+              | inl sends ↦ ran_leads who w stands before after at sends.leaving sends.new.desk.committed sends.committed
                   sends.left (send_ran who sent p of others were before after at sends)
               | inr rest ↦ elim rest [
-                | inl night ↦ ran_leads who w stands before after at night.leaving night.new.desk.landed night.landed
+                | inl night ↦ ran_leads who w stands before after at night.leaving night.new.desk.committed night.committed
                     night.left (exchange_ran who sent p of others were before after at night)
                 | inr same ↦ stays_there who w before after at same
               ]

@@ -1,4 +1,5 @@
--- Proves that a loss of power adds nothing to a run of two desks: each is a failed save with another end, and a restart.
+-- Proves that a loss of power adds nothing to a run of two desks: each is a failed save with another end, and a
+-- restart.
 use Rattle.std.proofs.Common.{◌≡◌, ◌⊎◌, inl, inr, ℕ, Bool, true, false, nat_le, List, [], ◌∷◌, ◌++◌, length, Option, Some, None}
 use Rattle.std.proofs.Common.{Result, Ok, Err, refl, sym, ap, ◌∙◌, subst, take_all, arith}
 use Rattle.ill_values.specs.TxnId.{Qualifiers}
@@ -26,180 +27,181 @@ use Rattle.ill_runs.specs.Power.{PoweredDesks, first_powered_desks, desks_of, po
 use Rattle.ill_runs.specs.BadPower.{ForgetsSent}
 use Rattle.ill_runs.proofs.LibraryLemmas.{after_event, run_join}
 
--- Returns desk `p` with other landed sides.
-abbrev with_landed : DeskParty → SidesOf → DeskParty
-with_landed p landed = record p { landed = landed }
+-- Returns desk `p` with other committed sides.
+abbrev with_committed : DeskParty → SidesOf → DeskParty
+with_committed p committed = record p { committed = committed }
 
--- These sides have landed at the desk, or a loss of power may leave them.
+-- These sides are committed at the desk, or a loss of power may leave them.
 abbrev MayStand : PoweredDesk → SidesOf → Type 0
-MayStand p sides = (sides ≡ p.desk.landed) ⊎ IsAmong sides p.leaves
+MayStand p sides = (sides ≡ p.desk.committed) ⊎ IsAmong sides p.leaves
 
--- ---- events that depend on no landed side
+-- ---- events that depend on no committed side
 
-module _ (p : DeskParty) (landed : SidesOf) where
-  -- If other sides had landed, a decision would lead to its desk with these sides.
+module _ (p : DeskParty) (committed : SidesOf) where
+  -- If other sides were committed, a decision would lead to its desk with these sides.
   decides_so : (result : Result DeskContents DeskFault)
-      → (desk_decides (with_landed p landed) result).1 ≡ with_landed (desk_decides p result).1 landed
+      → (desk_decides (with_committed p committed) result).1 ≡ with_committed (desk_decides p result).1 committed
   decides_so (Ok new) = refl
   decides_so (Err fault) = refl
 
-  -- If other sides had landed, a message that leaves would lead to its desk with these sides.
+  -- If other sides were committed, a message that leaves would lead to its desk with these sides.
   leaves_so : (txn : Qualifiers) (n : ℕ) (issued : Option Apdu) (is_released : Bool)
-      → (sends_by (with_landed p landed) (λ a. record (with_landed p landed) { sent = with_sent_for txn p.sent n a }) issued
+      → (sends_by (with_committed p committed) (λ a. record (with_committed p committed) { sent = with_sent_for txn p.sent n a })
+      issued
       is_released).1
-      ≡ with_landed (sends_by p (λ a. record p { sent = with_sent_for txn p.sent n a }) issued is_released).1 landed
+      ≡ with_committed (sends_by p (λ a. record p { sent = with_sent_for txn p.sent n a }) issued is_released).1 committed
   leaves_so txn n (Some a) true = refl
   leaves_so txn n (Some a) false = refl
   leaves_so txn n None is_released = refl
 
-  -- If other sides had landed, a Send would lead to its desk with these sides.
+  -- If other sides were committed, a Send would lead to its desk with these sides.
   sends_so : (txn : Qualifiers) (n : ℕ) (found : Option DeskEntry)
-      → (desk_sends (with_landed p landed) txn n found).1 ≡ with_landed (desk_sends p txn n found).1 landed
+      → (desk_sends (with_committed p committed) txn n found).1 ≡ with_committed (desk_sends p txn n found).1 committed
   sends_so txn n (Some held) = leaves_so txn n (message (issued_of held.side) n) (nat_le n held.released)
   sends_so txn n None = refl
 
-  -- If other sides had landed, a delivery would lead to its desk with these sides.
+  -- If other sides were committed, a delivery would lead to its desk with these sides.
   receives_so : (found : Option Apdu)
-      → (desk_receives (with_landed p landed) found).1 ≡ with_landed (desk_receives p found).1 landed
+      → (desk_receives (with_committed p committed) found).1 ≡ with_committed (desk_receives p found).1 committed
   receives_so (Some a) = refl
   receives_so None = refl
 
 -- ---- one event of one desk
 
--- Sides `before` may stand at `p`. If they have landed there, an event of `who` leads from `p` to `after` with the
--- landed sides `landed`.
-record Foretold (who : Role) (sent : List Sending) (p after : PoweredDesk) (landed : SidesOf) : Type 0 where
+-- Sides `before` may stand at `p`. If they are committed there, an event of `who` leads from `p` to `after` with the
+-- committed sides `committed`.
+record Foretold (who : Role) (sent : List Sending) (p after : PoweredDesk) (committed : SidesOf) : Type 0 where
   before : SidesOf
   stood : MayStand p before
   event : DeskEvent
   here : who_of (plain event) ≡ who
-  leads : (desk_happens_to (with_landed p.desk before) sent event).1 ≡ with_landed after.desk landed
+  leads : (desk_happens_to (with_committed p.desk before) sent event).1 ≡ with_committed after.desk committed
 
--- If one record alone may be left, and has landed, its sides are those that may stand.
-stands_alone : (sides landed : SidesOf) → (sides ≡ landed) ⊎ IsAmong sides (landed ∷ []) → sides ≡ landed
+-- If one record alone may be left, and is committed, its sides are those that may stand.
+stands_alone : (sides committed : SidesOf) → (sides ≡ committed) ⊎ IsAmong sides (committed ∷ []) → sides ≡ committed
 unfolding IsAmong
-stands_alone sides landed either = elim either [
+stands_alone sides committed either = elim either [
   | inl same ↦ same
   | inr among ↦ elim among [ inl same ↦ same | inr none ↦ absurd none ]
 ]
 
 module _ (who : Role) (sent : List Sending) (p : PoweredDesk) where
-  -- Premises: an event depends on no landed side, and leaves what may be left. Then sides that may stand after it are
-  -- foretold: they may stand before it.
+  -- Premises: an event depends on no committed side, and leaves what may be left. Then sides that may stand after it
+  -- are foretold: they may stand before it.
   quiet_so : (event : DeskEvent) → who_of (plain event) ≡ who → leaves_after p.desk p.leaves event ≡ p.leaves
-      → ((landed : SidesOf) → (desk_happens_to (with_landed p.desk landed) sent event).1
-      ≡ with_landed (desk_happens_to p.desk sent event).1 landed)
-      → (landed : SidesOf) → MayStand (powered_after p sent event) landed
-      → Foretold who sent p (powered_after p sent event) landed
-  quiet_so event here leaves so landed stands = record {
-    before = landed;
+      → ((committed : SidesOf) → (desk_happens_to (with_committed p.desk committed) sent event).1
+      ≡ with_committed (desk_happens_to p.desk sent event).1 committed)
+      → (committed : SidesOf) → MayStand (powered_after p sent event) committed
+      → Foretold who sent p (powered_after p sent event) committed
+  quiet_so event here leaves so committed stands = record {
+    before = committed;
     stood = elim stands [
-      | inl same ↦ inl (same ∙ ap (λ (d : DeskParty). d.landed) (so p.desk.landed))
-      | inr among ↦ inr (subst (IsAmong landed) leaves among)
+      | inl same ↦ inl (same ∙ ap (λ (d : DeskParty). d.committed) (so p.desk.committed))
+      | inr among ↦ inr (subst (IsAmong committed) leaves among)
     ];
     event = event;
     here = here;
-    leads = so landed;
+    leads = so committed;
   }
 
-  -- If the old record stands after a save that failed, the save landed nothing.
-  old_so : (w : Role) (b : Bool) → w ≡ who → (landed : SidesOf) → MayStand p landed
-      → Foretold who sent p (powered_after p sent (events.SaveFault w b)) landed
-  old_so w true here landed stood =
-      record { before = landed; stood = stood; event = events.SaveFault w false; here = here; leads = refl }
-  old_so w false here landed stood =
-      record { before = landed; stood = stood; event = events.SaveFault w false; here = here; leads = refl }
+  -- If the old record stands after a save that failed, the save committed nothing.
+  old_so : (w : Role) (b : Bool) → w ≡ who → (committed : SidesOf) → MayStand p committed
+      → Foretold who sent p (powered_after p sent (events.SaveFault w b)) committed
+  old_so w true here committed stood =
+      record { before = committed; stood = stood; event = events.SaveFault w false; here = here; leads = refl }
+  old_so w false here committed stood =
+      record { before = committed; stood = stood; event = events.SaveFault w false; here = here; leads = refl }
 
-  -- If the new record stands after a save that failed, the save landed it.
-  new_so : (w : Role) (b : Bool) → w ≡ who → (landed : SidesOf) → landed ≡ sides_held p.desk.live
-      → Foretold who sent p (powered_after p sent (events.SaveFault w b)) landed
-  new_so w true here landed same = record {
-    before = p.desk.landed;
+  -- If the new record stands after a save that failed, the save committed it.
+  new_so : (w : Role) (b : Bool) → w ≡ who → (committed : SidesOf) → committed ≡ sides_held p.desk.live
+      → Foretold who sent p (powered_after p sent (events.SaveFault w b)) committed
+  new_so w true here committed same = record {
+    before = p.desk.committed;
     stood = inl refl;
     event = events.SaveFault w true;
     here = here;
-    leads = ap (with_landed p.desk) (sym same);
+    leads = ap (with_committed p.desk) (sym same);
   }
-  new_so w false here landed same = record {
-    before = p.desk.landed;
+  new_so w false here committed same = record {
+    before = p.desk.committed;
     stood = inl refl;
     event = events.SaveFault w true;
     here = here;
-    leads = ap (with_landed p.desk) (sym same);
+    leads = ap (with_committed p.desk) (sym same);
   }
 
   -- After a save that failed the old record may stand, or the new one.
-  fault_so : (w : Role) (b : Bool) → w ≡ who → (landed : SidesOf)
-      → MayStand (powered_after p sent (events.SaveFault w b)) landed
-      → Foretold who sent p (powered_after p sent (events.SaveFault w b)) landed
+  fault_so : (w : Role) (b : Bool) → w ≡ who → (committed : SidesOf)
+      → MayStand (powered_after p sent (events.SaveFault w b)) committed
+      → Foretold who sent p (powered_after p sent (events.SaveFault w b)) committed
   unfolding IsAmong
-  fault_so w true here landed stands = elim stands [
-    | inl same ↦ new_so w true here landed same
+  fault_so w true here committed stands = elim stands [
+    | inl same ↦ new_so w true here committed same
     | inr among ↦ elim among [
-      | inl same ↦ new_so w true here landed same
-      | inr old ↦ old_so w true here landed (inr old)
+      | inl same ↦ new_so w true here committed same
+      | inr old ↦ old_so w true here committed (inr old)
     ]
   ]
-  fault_so w false here landed stands = elim stands [
-    | inl same ↦ old_so w false here landed (inl same)
+  fault_so w false here committed stands = elim stands [
+    | inl same ↦ old_so w false here committed (inl same)
     | inr among ↦ elim among [
-      | inl same ↦ new_so w false here landed same
-      | inr old ↦ old_so w false here landed (inr old)
+      | inl same ↦ new_so w false here committed same
+      | inr old ↦ old_so w false here committed (inr old)
     ]
   ]
 
-  -- If `landed` may stand after `event`, it is foretold: some event leads there from sides that may stand before.
-  foretold : (event : DeskEvent) → who_of (plain event) ≡ who → (landed : SidesOf)
-      → MayStand (powered_after p sent event) landed → Foretold who sent p (powered_after p sent event) landed
-  foretold (events.Wish txn wish) here landed stands =
+  -- If `committed` may stand after `event`, it is foretold: some event leads there from sides that may stand before.
+  foretold : (event : DeskEvent) → who_of (plain event) ≡ who → (committed : SidesOf)
+      → MayStand (powered_after p sent event) committed → Foretold who sent p (powered_after p sent event) committed
+  foretold (events.Wish txn wish) here committed stands =
       quiet_so (events.Wish txn wish) here refl
-      (λ others. decides_so p.desk others (desk_acts p.desk.live txn (actions.Wish wish))) landed stands
-  foretold (events.Deed txn deed today) here landed stands =
+      (λ others. decides_so p.desk others (desk_acts p.desk.live txn (actions.Wish wish))) committed stands
+  foretold (events.Deed txn deed today) here committed stands =
       quiet_so (events.Deed txn deed today) here refl
-      (λ others. decides_so p.desk others (desk_acts p.desk.live txn (actions.Deed deed today))) landed stands
-  foretold (events.Save w) here landed stands = record {
-    before = p.desk.landed;
+      (λ others. decides_so p.desk others (desk_acts p.desk.live txn (actions.Deed deed today))) committed stands
+  foretold (events.Save w) here committed stands = record {
+    before = p.desk.committed;
     stood = inl refl;
     event = events.Save w;
     here = here;
-    leads = ap (with_landed (desk_saves p.desk)) (sym (stands_alone landed (sides_held p.desk.live) stands));
+    leads = ap (with_committed (desk_saves p.desk)) (sym (stands_alone committed (sides_held p.desk.live) stands));
   }
-  foretold (events.SaveFault w b) here landed stands = fault_so w b here landed stands
-  foretold (events.Send w txn n) here landed stands =
+  foretold (events.SaveFault w b) here committed stands = fault_so w b here committed stands
+  foretold (events.Send w txn n) here committed stands =
       quiet_so (events.Send w txn n) here refl
-      (λ others. sends_so p.desk others txn n (found_by txn_held txn p.desk.live.held)) landed stands
-  foretold (events.Deliver w txn n) here landed stands =
+      (λ others. sends_so p.desk others txn n (found_by txn_held txn p.desk.live.held)) committed stands
+  foretold (events.Deliver w txn n) here committed stands =
       quiet_so (events.Deliver w txn n) here refl
-      (λ others. receives_so p.desk others (sent_message (sent_for txn sent) n)) landed stands
-  foretold (events.Noise w bytes) here landed stands =
-      quiet_so (events.Noise w bytes) here refl (λ other_landed. refl) landed stands
-  foretold (events.Restart w) here landed stands = record {
-    before = p.desk.landed;
+      (λ others. receives_so p.desk others (sent_message (sent_for txn sent) n)) committed stands
+  foretold (events.Noise w bytes) here committed stands =
+      quiet_so (events.Noise w bytes) here refl (λ other_committed. refl) committed stands
+  foretold (events.Restart w) here committed stands = record {
+    before = p.desk.committed;
     stood = inl refl;
     event = events.Restart w;
     here = here;
-    leads = ap (with_landed (desk_restarts p.desk)) (sym (stands_alone landed p.desk.landed stands));
+    leads = ap (with_committed (desk_restarts p.desk)) (sym (stands_alone committed p.desk.committed stands));
   }
 
   -- A loss of power is a restart from what might stand before.
-  lost_so : (left : SidesOf) → IsAmong left p.leaves → (landed : SidesOf) → MayStand (started_from p.desk left) landed
-      → Foretold who sent p (started_from p.desk left) landed
-  lost_so left among landed stands = record {
+  lost_so : (left : SidesOf) → IsAmong left p.leaves → (committed : SidesOf) → MayStand (started_from p.desk left) committed
+      → Foretold who sent p (started_from p.desk left) committed
+  lost_so left among committed stands = record {
     before = left;
     stood = inr among;
     event = events.Restart who;
     here = refl;
-    leads = ap (with_landed (started_from p.desk left).desk) (sym (stands_alone landed left stands));
+    leads = ap (with_committed (started_from p.desk left).desk) (sym (stands_alone committed left stands));
   }
 
 -- ---- two desks
 
--- Returns the two desks with these landed sides.
+-- Returns the two desks with these committed sides.
 abbrev with_both : PoweredDesks → SidesOf → SidesOf → DeskParties
 with_both w mine theirs =
-    record { requester = with_landed w.requester.desk mine; responder = with_landed w.responder.desk theirs }
+    record { requester = with_committed w.requester.desk mine; responder = with_committed w.responder.desk theirs }
 
--- For all sides that may stand at both desks, some events lead to the desks with these landed sides.
+-- For all sides that may stand at both desks, some events lead to the desks with these committed sides.
 abbrev Reached : PoweredDesks → Type 0
 Reached w =
     (mine theirs : SidesOf) → MayStand w.requester mine → MayStand w.responder theirs →
@@ -214,7 +216,7 @@ one_more alone event w v run next =
 
 -- If what may stand at a desk after an event is foretold, the desks after it are reached.
 reached_on : (role : Role) (w : PoweredDesks) (p : PoweredDesk)
-    → ((landed : SidesOf) → MayStand p landed → Foretold role (party w (other role)).desk.sent (party w role) p landed)
+    → ((committed : SidesOf) → MayStand p committed → Foretold role (party w (other role)).desk.sent (party w role) p committed)
     → Reached w → Reached (with_party w role p)
 reached_on who.Requester w p foresee reached mine theirs here there =
     let f = foresee mine here in
@@ -252,11 +254,11 @@ runs_reach w (loss role left ∷ later) may reached =
 first_reached : Reached first_powered_desks
 unfolding run_by
 first_reached mine theirs here there =
-    let first = stands_alone mine (first_desk who.Requester).landed here in
-    let second = stands_alone theirs (first_desk who.Responder).landed there in (
+    let first = stands_alone mine (first_desk who.Requester).committed here in
+    let second = stands_alone theirs (first_desk who.Responder).committed there in (
       [],
       sym (ap (λ (m : SidesOf). with_both first_powered_desks m theirs) first
-          ∙ ap (λ (t : SidesOf). with_both first_powered_desks (first_desk who.Requester).landed t) second),
+          ∙ ap (λ (t : SidesOf). with_both first_powered_desks (first_desk who.Requester).committed t) second),
     )
 
 -- After any events and losses of power, some events alone lead to both desks.
@@ -264,7 +266,7 @@ pub powered_run_is_run : (happened : List PowerEvent) → AllMayHappen first_pow
     → (alone : List DeskEvent) × (desks_run first_desks alone ≡ desks_of (power_run first_powered_desks happened))
 powered_run_is_run happened may =
     let w = power_run first_powered_desks happened in
-    runs_reach first_powered_desks happened may first_reached w.requester.desk.landed w.responder.desk.landed (inl refl)
+    runs_reach first_powered_desks happened may first_reached w.requester.desk.committed w.responder.desk.committed (inl refl)
     (inl refl)
 
 -- ---- what holds of the desks
@@ -279,9 +281,9 @@ safe_there safe w alone is txn =
 -- Two desks that satisfy their invariant have forgotten nothing that they have sent.
 none_forgets : (w : DeskParties) → DesksInvariant w → ForgetsSent w → ⊥
 none_forgets w stands (who.Requester, txn, n, a, was, lacks) =
-    lacks ((stands.each txn).requester.saved.landed n a was)
+    lacks ((stands.each txn).requester.saved.committed n a was)
 none_forgets w stands (who.Responder, txn, n, a, was, lacks) =
-    lacks ((stands.each txn).responder.saved.landed n a was)
+    lacks ((stands.each txn).responder.saved.committed n a was)
 
 -- The desks to which a run leads have forgotten nothing that they have sent.
 pub run_forgets_none : EachStands → DesksInvariant first_desks → (w : DeskParties) (alone : List DeskEvent)

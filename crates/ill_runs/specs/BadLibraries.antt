@@ -9,7 +9,7 @@ use Rattle.ill_record.specs.RecordsV2.{records_at}
 use Rattle.ill_saved.specs.ManySides.{side_for}
 use Rattle.ill_world.specs.World.{party}
 use Rattle.ill_world.specs.BadWorlds.{Contradicts}
-use Rattle.ill_runs.specs.Mail.{IsOneOf}
+use Rattle.ill_runs.specs.MessageFile.{IsOneOf}
 use Rattle.ill_runs.specs.Libraries.{IsMessageOf, Libraries, Library}
 
 -- The files are wrong. Each case gives one reason.
@@ -21,7 +21,7 @@ pub data AreUnsafe (libraries : Libraries) : Type 0 where
       records_at libraries.responder.file ≡ Ok responder →
       Contradicts (side_for txn requester) (side_for txn responder) → AreUnsafe libraries
 
--- The library has forgotten what has left it. Each case gives one reason.
+-- The library has forgotten a message that has left it. Each case gives one reason.
 pub data HasForgotten (library : Library) : Type 0 where
   -- The file cannot be read.
   unreadable : (fault : RecordFault) → records_at library.file ≡ Err fault → HasForgotten library

@@ -20,11 +20,11 @@ pub data IsBadStart (left : Option (List ℕ)) (q : DeskParty) : Type 0 where
   nothing : left ≡ None → IsBadStart left q
   -- The record cannot be read.
   unread : (file : List ℕ) (fault : RecordFault) → left ≡ Some file → records_at file ≡ Err fault → IsBadStart left q
-  -- The record has other sides than those that have landed.
-  other_sides : (file : List ℕ) (held : SidesOf) → left ≡ Some file → records_at file ≡ Ok held → (q.landed ≡ held → ⊥) →
+  -- The record has other sides than those that are committed.
+  other_sides : (file : List ℕ) (held : SidesOf) → left ≡ Some file → records_at file ≡ Ok held → (q.committed ≡ held → ⊥) →
       IsBadStart left q
-  -- The desk holds other sides than the landed ones, or has not released all their messages.
-  not_whole : (q.live ≡ whole_of q.landed → ⊥) → IsBadStart left q
+  -- The desk holds other sides than the committed ones, or has not released all their messages.
+  not_whole : (q.live ≡ whole_of q.committed → ⊥) → IsBadStart left q
 
 -- No loss of power cuts off a command as `cut` says. Each case gives one reason.
 pub data IsBadCut {others : List Apdu} {before after : Library} (cut : IsCutInSave others before after) : Type 0 where
@@ -35,8 +35,8 @@ pub data IsBadCut {others : List Apdu} {before after : Library} (cut : IsCutInSa
   -- The command began from other sides than those in the file.
   elsewhere : (many_sides.read before.file ≡ Ok cut.old.live → ⊥) → IsBadCut cut
 
--- A desk has forgotten a message that it has sent: its landed side does not have it.
+-- A desk has forgotten a message that it has sent: its committed side does not have it.
 abbrev pub ForgetsSent : DeskParties → Type 0
 ForgetsSent w =
     (who : Role) × (txn : Qualifiers) × (n : ℕ) × (a : Apdu) × (sent_message (sent_for txn (party w who).sent) n ≡ Some a)
-    × (message (issued_of (side_for txn (party w who).landed)) n ≡ Some a → ⊥)
+    × (message (issued_of (side_for txn (party w who).committed)) n ≡ Some a → ⊥)

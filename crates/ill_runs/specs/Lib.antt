@@ -3,6 +3,6 @@ pub mod BadPower
 pub mod CutOff
 pub mod Events
 pub mod Libraries
-pub mod Mail
+pub mod MessageFile
 pub mod Power
 pub mod ShelfLibraries

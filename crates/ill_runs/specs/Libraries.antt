@@ -14,17 +14,18 @@ use Rattle.ill_record.specs.RecordsV2.{records_at, sides_encoding}
 use Rattle.ill_saved.specs.ManySides.{DeskContents, many_sides, side_for}
 use Rattle.ill_text.specs.declared.fault.ToolFault.{ToolFault}
 use Rattle.ill_text.specs.declared.form.Form.{Form}
-use Rattle.ill_desk.specs.Performing.{HeldAndLanded, CommandState}
+use Rattle.ill_desk.specs.Performing.{HeldAndCommitted, CommandState}
 use Rattle.ill_desk.specs.Act.{RunsAct}
 use Rattle.ill_desk.specs.Take.{RunsTaking}
 use Rattle.ill_desk.specs.Telling.{Wording}
-use Rattle.ill_mail.specs.Nights.{AskedNight, Night, TakesMails, ExchangesAt}
+use Rattle.ill_exchange.specs.Nights.{AskedNight, Night, TakesMessageFiles, ExchangesAt}
 use Rattle.ill_world.specs.World.{TwoOf, party}
 use Rattle.ill_world.specs.Safety.{EndsAlike, WasShipped, WasGranted}
 use Rattle.ill_world.specs.declared.event.DeskEvent.{DeskEvent}
 use Rattle.ill_world.specs.Desks.{DeskParty, DeskParties, first_desks, desks_run}
 use Rattle.ill_runs.specs.Events.{HappenAt}
-use Rattle.ill_runs.specs.Mail.{IsOneOf, WasSent, IsReleased, IsOutbox, Bring, messages_taken, mails_taken, mails_of, Leaves}
+use Rattle.ill_runs.specs.MessageFile.{IsOneOf, WasSent, IsReleased, IsOutbox, Bring, messages_taken, message_files_taken}
+use Rattle.ill_runs.specs.MessageFile.{message_files_of, Leaves}
 
 -- ---- libraries
 
@@ -48,8 +49,8 @@ first_libraries = record { requester = first_library Requester; responder = firs
 -- ---- one command
 
 -- `desk` has started from the record `file`.
-abbrev pub StartsFrom : List ℕ → HeldAndLanded DeskContents → Type 0
-StartsFrom file desk = (many_sides.read file ≡ Ok desk.live) × (desk.landed ≡ Some (Some file))
+abbrev pub StartsFrom : List ℕ → HeldAndCommitted DeskContents → Type 0
+StartsFrom file desk = (many_sides.read file ≡ Ok desk.live) × (desk.committed ≡ Some (Some file))
 
 -- A command leads from the library `before` to `after`. Its desk started from the file of `before`, and `Runs` relates
 -- the states of the command, and the messages that left. The file of `after` is what its store has at the end.
@@ -60,7 +61,7 @@ pub record IsCommand (Runs : CommandState DeskContents → List Apdu → Command
   pub leaving : List Apdu
   pub starts : StartsFrom before.file old.desk
   pub runs : Runs old leaving new
-  pub landed : new.desk.landed ≡ Some (Some after.file)
+  pub committed : new.desk.committed ≡ Some (Some after.file)
   pub left : after.left ≡ before.left ++ leaving
 
 -- The command `act`. No message leaves.
@@ -72,15 +73,16 @@ Acts old leaving new =
 -- The command `take`: the desk takes the messages of its input, which are among `others`. No message leaves.
 abbrev pub Takes : List Apdu → CommandState DeskContents → List Apdu → CommandState DeskContents → Type 0
 Takes others old leaving new =
-    (is_kept : Bool) × (told : Wording) × (result : Result Bool ToolFault)
-    × (taken : RunsTaking is_kept told many_sides old result new) × Each (IsOneOf others) (messages_taken {told = told} taken)
+    (is_kept : Bool) × (printed : Wording) × (result : Result Bool ToolFault)
+    × (taken : RunsTaking is_kept printed many_sides old result new)
+    × Each (IsOneOf others) (messages_taken {printed = printed} taken)
     × (leaving ≡ [])
 
--- The command `inbox`: the desk takes mails, whose messages are among `others`. No message leaves.
-abbrev pub TakesMail : List Apdu → CommandState DeskContents → List Apdu → CommandState DeskContents → Type 0
-TakesMail others old leaving new =
-    (form : Form) × (result : Result Night ToolFault) × (taken : TakesMails form old result new)
-    × Bring (IsOneOf others) (mails_taken taken)
+-- The command `inbox`: the desk takes message files, whose messages are among `others`. No message leaves.
+abbrev pub TakesMessageFile : List Apdu → CommandState DeskContents → List Apdu → CommandState DeskContents → Type 0
+TakesMessageFile others old leaving new =
+    (form : Form) × (result : Result Night ToolFault) × (taken : TakesMessageFiles form old result new)
+    × Bring (IsOneOf others) (message_files_taken taken)
     × (leaving ≡ [])
 
 -- The commands `outbox` and `send`: the messages of an outbox leave, or some that may be sent. The desk stays as it is.
@@ -88,11 +90,11 @@ abbrev pub Sends : CommandState DeskContents → List Apdu → CommandState Desk
 Sends old leaving new =
     (new.desk ≡ old.desk) × (IsOutbox old.desk.live leaving ⊎ Each (IsReleased old.desk.live) leaving)
 
--- The command `exchange`: a night, to which mails come whose messages are among `others`.
+-- The command `exchange`: a night, to which message files come whose messages are among `others`.
 abbrev pub Exchanges : List Apdu → CommandState DeskContents → List Apdu → CommandState DeskContents → Type 0
 Exchanges others old leaving new =
     (asked : AskedNight) × (result : Result Bool ToolFault) × (night : ExchangesAt asked old result new)
-    × Bring (IsOneOf others) (mails_of asked night) × Leaves asked night leaving
+    × Bring (IsOneOf others) (message_files_of asked night) × Leaves asked night leaving
 
 -- One command leads from the library `before` to `after`. `others` have left the other library: any of them may come,
 -- once or often, early or late. A command that is stopped before its first save is the last case. One that is stopped
@@ -100,7 +102,7 @@ Exchanges others old leaving new =
 abbrev pub Commands : List Apdu → Library → Library → Type 0
 Commands others before after =
     IsCommand Acts before after ⊎ IsCommand (Takes others) before after
-    ⊎ IsCommand (TakesMail others) before after ⊎ IsCommand Sends before after
+    ⊎ IsCommand (TakesMessageFile others) before after ⊎ IsCommand Sends before after
     ⊎ IsCommand (Exchanges others) before after ⊎ (after ≡ before)
 
 -- One of the two libraries performs a command. The other one stays as it is.
@@ -121,10 +123,10 @@ libraries_after now (next ∷ later) = libraries_after next later
 
 -- ---- libraries and the desks of the model
 
--- The library is the model's desk `p` between two commands. Its file has the landed sides of `p`, and `p` has sent each
--- message that has left.
+-- The library is the model's desk `p` between two commands. Its file has the committed sides of `p`, and `p` has sent
+-- each message that has left.
 pub record IsAt (library : Library) (p : DeskParty) : Type 0 where
-  pub file : records_at library.file ≡ Ok p.landed
+  pub file : records_at library.file ≡ Ok p.committed
   pub left : Each (WasSent p.sent) library.left
 
 -- Both libraries are the desks of `w`.
@@ -144,8 +146,8 @@ pub record LeadsTo (who : Role) (w : DeskParties) (after : Library) : Type 0 whe
 
 -- ---- safety
 
--- In each transaction the side of `responder` does not contradict that of `requester`. If the requester's is CANCELLED or
--- NOT-SUPPLIED, the responder's is. If it is SHIPPED or later, the responder has shipped. Its due date was granted.
+-- In each transaction the side of `responder` does not contradict that of `requester`. If the requester's is CANCELLED
+-- or NOT-SUPPLIED, the responder's is. If it is SHIPPED or later, the responder has shipped. Its due date was granted.
 abbrev pub FaceEachOther : SidesOf → SidesOf → Type 0
 FaceEachOther requester responder =
     (txn : Qualifiers) → EndsAlike (side_for txn requester) (side_for txn responder)

@@ -1,4 +1,5 @@
--- A loss of power at a desk, in the terms of the model. It may leave one of several records, from which the desk starts.
+-- A loss of power at a desk, in the terms of the model. It may leave one of several records, from which the desk
+-- starts.
 use Rattle.std.specs.Prelude.{◌≡◌, ◌⊎◌, ℕ, Bool, List, [], ◌∷◌, Option, Some, Result, Ok, Err}
 use Rattle.ill_record.specs.declared.role.Role.{Role}
 use Rattle.ill_record.specs.declared.role.Role.TheVariants.{Requester, Responder}
@@ -7,7 +8,7 @@ use Rattle.ill_record.specs.Side.{other}
 use Rattle.ill_record.specs.Sides.{SidesOf}
 use Rattle.ill_record.specs.RecordsV2.{records_at}
 use Rattle.ill_saved.specs.ManySides.{DeskContents, many_sides, sides_held, whole_of}
-use Rattle.ill_desk.specs.Performing.{HeldAndLanded}
+use Rattle.ill_desk.specs.Performing.{HeldAndCommitted}
 use Rattle.ill_world.specs.declared.event.DeskEvent.{DeskEvent}
 use Rattle.ill_world.specs.declared.event.DeskEvent.TheVariants.{Save, SaveFault, Restart}
 use Rattle.ill_world.specs.World.{TwoOf, party, with_party, who_of}
@@ -21,16 +22,17 @@ pub record StartsAs (left : Option (List ℕ)) (q : DeskParty) : Type 0 where
   pub file : List ℕ
   pub there : left ≡ Some file
   pub live : many_sides.read file ≡ Ok q.live
-  pub landed : records_at file ≡ Ok q.landed
+  pub committed : records_at file ≡ Ok q.committed
 
--- The events `events` happen at the desk of `who`. They lead from the model's desk `p` to the one that starts from `left`.
+-- The events `events` happen at the desk of `who`. They lead from the model's desk `p` to the one that starts from
+-- `left`.
 abbrev pub EndsInStart : Role → List Sending → DeskParty → List DeskEvent → Option (List ℕ) → Type 0
 EndsInStart who sent p events left = HappenAt who events × StartsAs left (desk_after p sent events)
 
 -- A save that fails, and then a restart, lead from `p` to the desk that starts from `left`.
 abbrev pub IsFaultAndRestart : Role → List Sending → DeskParty → Option (List ℕ) → Type 0
 IsFaultAndRestart who sent p left =
-    (landed : Bool) × EndsInStart who sent p (SaveFault who landed ∷ Restart who ∷ []) left
+    (committed : Bool) × EndsInStart who sent p (SaveFault who committed ∷ Restart who ∷ []) left
 
 -- ---- what a loss of power may leave
 
@@ -44,13 +46,13 @@ unfoldable pub IsAmong : SidesOf → List SidesOf → Type 0
 IsAmong sides [] = ⊥
 IsAmong sides (first ∷ others) = (sides ≡ first) ⊎ IsAmong sides others
 
--- Returns the sides that a loss of power may leave of desk `p` after an event. `leaves` are those before it. After a save
--- that is done they are the saved ones alone. After one that failed these are added. After a restart they are the landed
--- ones alone.
+-- Returns the sides that a loss of power may leave of desk `p` after an event. `leaves` are those before it. After a
+-- save that is done they are the saved ones alone. After one that failed these are added. After a restart they are the
+-- committed ones alone.
 abbrev pub leaves_after : DeskParty → List SidesOf → DeskEvent → List SidesOf
 leaves_after p leaves (Save who) = sides_held p.live ∷ []
-leaves_after p leaves (SaveFault who landed) = sides_held p.live ∷ leaves
-leaves_after p leaves (Restart who) = p.landed ∷ []
+leaves_after p leaves (SaveFault who committed) = sides_held p.live ∷ leaves
+leaves_after p leaves (Restart who) = p.committed ∷ []
 leaves_after p leaves event = leaves
 
 -- Returns desk `p`, and what a loss of power may leave of it, after an event of the model. `sent` has the messages of
@@ -61,13 +63,13 @@ powered_after p sent event = record {
   leaves = leaves_after p.desk p.leaves event;
 }
 
--- Returns the desk of which a loss of power leaves only what has landed.
+-- Returns the desk of which a loss of power leaves only what is committed.
 abbrev pub on_record : DeskParty → PoweredDesk
-on_record p = record { desk = p; leaves = p.landed ∷ [] }
+on_record p = record { desk = p; leaves = p.committed ∷ [] }
 
 -- Returns desk `p` when it has started from the sides `left`. What it has sent stays sent.
 abbrev pub started_from : DeskParty → SidesOf → PoweredDesk
-started_from p left = on_record (record p { live = whole_of left; landed = left })
+started_from p left = on_record (record p { live = whole_of left; committed = left })
 
 -- ---- two desks whose power may go
 
@@ -120,13 +122,15 @@ abbrev pub AreLeft : (Option (List ℕ) → Type 0) → List SidesOf → Type 0
 AreLeft leaves known =
     (left : Option (List ℕ)) → leaves left → (sides : SidesOf) × IsReadAs (Some left) sides × IsAmong sides known
 
--- The program's desk `own` is the model's desk `p`. `leaves` holds of each record that a loss of power may leave of its store.
-pub record IsPoweredDesk (own : HeldAndLanded DeskContents) (leaves : Option (List ℕ) → Type 0) (p : PoweredDesk)
+-- The program's desk `own` is the model's desk `p`. `leaves` holds of each record that a loss of power may leave of its
+-- store.
+pub record IsPoweredDesk (own : HeldAndCommitted DeskContents) (leaves : Option (List ℕ) → Type 0) (p : PoweredDesk)
     : Type 0 where
   pub desk : IsDesk own p.desk
   pub left : AreLeft leaves p.leaves
 
--- Returns the event of the model that a save of a desk with this answer is. If it failed, `landed` is true if its record landed.
+-- Returns the event of the model that a save of a desk with this answer is. If it failed, `committed` is true if its
+-- record committed.
 abbrev pub save_event : Role → Bool → Result (Unit {0}) DeskFault → DeskEvent
-save_event who landed (Ok done) = Save who
-save_event who landed (Err fault) = SaveFault who landed
+save_event who committed (Ok done) = Save who
+save_event who committed (Err fault) = SaveFault who committed

@@ -1,5 +1,5 @@
--- Two libraries with shelves between their commands. A shelf has a desk for each group. A command on it visits desks, and
--- at each it is a command of a library with one desk.
+-- Two libraries with shelves between their commands. A shelf has a desk for each group. A command on it visits desks,
+-- and at each it is a command of a library with one desk.
 use Rattle.std.specs.Prelude.{bytes_eq, if◌then◌else◌, ℕ, List, [], ◌∷◌}
 use Rattle.ill_runs.specs.Libraries.{Libraries, first_libraries, Happens}
 

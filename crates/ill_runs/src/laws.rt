@@ -1,4 +1,5 @@
-//! The laws of histories: two libraries perform commands, one after another, and their mail is carried or lost.
+//! The laws of histories: two libraries perform commands, one after another, and their message files are carried or
+//! lost.
 
 ghost use Rattle.std.specs.Prelude.{◌≡◌, List, Ok};
 ghost use Rattle.ill_values.specs.declared.apdu.Apdu.{Apdu};
@@ -12,11 +13,11 @@ ghost use Rattle.ill_world.specs.declared.event.DeskEvent.{DeskEvent};
 ghost use Rattle.ill_world.specs.Desks.{DeskParties, DeskParty, desks_run};
 ghost use Rattle.ill_world.specs.DeskSafety.{DesksInvariant};
 ghost use Rattle.ill_runs.specs.BadLibraries.{AreUnsafe, HasForgotten};
-ghost use Rattle.ill_runs.specs.Mail.{IsOneOf, WasSent};
+ghost use Rattle.ill_runs.specs.MessageFile.{IsOneOf, WasSent};
 ghost use Rattle.ill_runs.specs.Libraries.{AreAt, AreSafe, Commands, HasAllThatLeft, IsAt, IsHistory, IsRunAt, LeadsTo, Libraries, Library, first_libraries, libraries_after};
 
-/// Each command of a library is some events at its desk in the model: a restart, what the command does, its saves, and a
-/// Send for each message that leaves. The messages that come were sent by the other desk.
+/// Each command of a library is some events at its desk in the model: a restart, what the command does, its saves, and
+/// a Send for each message that leaves. The messages that come were sent by the other desk.
 pub fn each_command_is_events()
     ensures { (who : Role) (w : DeskParties) → DesksInvariant w → (others : List Apdu) (before after : Library) →
         Each (WasSent (party w (other who)).sent) others → IsAt before (party w who) → Commands others before after →
@@ -26,8 +27,8 @@ pub fn each_command_is_events()
     ill_world::desk_laws::sent_stays_sent_at_desks();
 }
 
-/// A history leads on. If its first libraries are two desks of the model, some events lead from these desks to desks that
-/// are its last libraries.
+/// A history leads on. If its first libraries are two desks of the model, some events lead from these desks to desks
+/// that are its last libraries.
 pub fn each_history_leads_on()
     ensures { (w : DeskParties) (now : Libraries) (later : List Libraries) → DesksInvariant w → AreAt now w →
         IsHistory now later → (events : List DeskEvent) × AreAt (libraries_after now later) (desks_run w events) }
@@ -36,8 +37,8 @@ pub fn each_history_leads_on()
     ill_world::desk_laws::sent_stays_sent_at_desks();
 }
 
-/// Each history of two libraries is a run of the model. After any commands some events lead the first desks of the model
-/// to desks that are both libraries.
+/// Each history of two libraries is a run of the model. After any commands some events lead the first desks of the
+/// model to desks that are both libraries.
 pub fn each_history_is_a_run()
     ensures { (later : List Libraries) → IsHistory first_libraries later →
         IsRunAt (libraries_after first_libraries later) }
@@ -80,10 +81,10 @@ pub fn no_unsafe_libraries_are_safe()
     ensures { (libraries : Libraries) → AreUnsafe libraries → AreSafe libraries → ⊥ }
 {}
 
-/// If a library is a desk of the model, its file is read as the landed sides of this desk and as no others. The desk has
-/// sent each message that has left the library.
+/// If a library is a desk of the model, its file is read as the committed sides of this desk and as no others. The desk
+/// has sent each message that has left the library.
 pub fn files_are_the_desks()
     ensures { (library : Library) (p : DeskParty) → IsAt library p →
-        ((held : SidesOf) → records_at library.file ≡ Ok held → held ≡ p.landed)
+        ((held : SidesOf) → records_at library.file ≡ Ok held → held ≡ p.committed)
         × ((a : Apdu) → IsOneOf library.left a → WasSent p.sent a) }
 {}

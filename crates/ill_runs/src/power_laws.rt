@@ -5,7 +5,7 @@ ghost use Rattle.ill_values.specs.TxnId.{Qualifiers};
 ghost use Rattle.ill_values.specs.declared.apdu.Apdu.{Apdu};
 ghost use Rattle.ill_record.specs.declared.role.Role.{Role};
 ghost use Rattle.ill_saved.specs.declared.fault.DeskFault.{DeskFault};
-ghost use Rattle.ill_saved.specs.Desk.{DeskSaves, LeavesBeforeOr, LeavesLanded};
+ghost use Rattle.ill_saved.specs.Desk.{DeskSaves, LeavesBeforeOr, LeavesCommitted};
 ghost use Rattle.ill_saved.specs.Holdings.{IsReadAgain};
 ghost use Rattle.ill_saved.specs.ManySides.{many_sides, no_sides, sides_held};
 ghost use Rattle.ill_record.specs.Sides.{SidesOf};
@@ -27,57 +27,57 @@ use crate::laws;
 use ill_saved::{Desk, Store};
 
 /// A loss of power at a desk is a restart of the model's desk. In a save, and after one with any answer, a save that
-/// failed goes before the restart. The save had landed its record if the power left the new one. After a save that is
-/// done, this save goes before the restart.
+/// failed goes before the restart. The save committed its record if the power left the new one. After a save that
+/// is done, this save goes before the restart.
 ///
 /// `desk` is the desk before the save, and `after` its store after it. The calls of a desk give each premise. `create`,
-/// `start`, `save` and `restart` say that a loss leaves only what has landed, and `save` what it leaves. In the first
+/// `start`, `save` and `restart` say that a loss leaves only what is committed, and `save` what it leaves. In the first
 /// save of a new desk a loss leaves no record, or that of the model's first desk.
 pub fn a_loss_of_power_is_a_failed_save_and_a_restart<S: Store>(desk: &Desk<S>, after: &S)
     ensures between { (who : Role) (sent : List Sending) (p : DeskParty) (left : Option (List ℕ)) →
         IsDesk (view_of S.state desk.now) p →
-        LeavesLanded (S.state desk.now.store).landed (S.leaves desk.now.store) → S.leaves desk.now.store left →
+        LeavesCommitted (S.state desk.now.store).committed (S.leaves desk.now.store) → S.leaves desk.now.store left →
         EndsInStart who sent p (Restart who ∷ []) left }
     ensures in_save { (who : Role) (sent : List Sending) (p : DeskParty) (left : Option (List ℕ)) →
         IsDesk (view_of S.state desk.now) p →
-        LeavesLanded (S.state desk.now.store).landed (S.leaves desk.now.store) →
+        LeavesCommitted (S.state desk.now.store).committed (S.leaves desk.now.store) →
         IsReadAgain many_sides desk.now.live →
         S.leaves desk.now.store left ⊎ (left ≡ Some (many_sides.encoding desk.now.live)) →
         IsFaultAndRestart who sent p left }
     ensures after_save { (who : Role) (sent : List Sending) (p : DeskParty) (left : Option (List ℕ)) →
         IsDesk (view_of S.state desk.now) p →
-        LeavesLanded (S.state desk.now.store).landed (S.leaves desk.now.store) →
+        LeavesCommitted (S.state desk.now.store).committed (S.leaves desk.now.store) →
         IsReadAgain many_sides desk.now.live →
         LeavesBeforeOr (Some (many_sides.encoding desk.now.live)) (S.leaves desk.now.store) (S.leaves after.now) →
         S.leaves after.now left → IsFaultAndRestart who sent p left }
     ensures saved { (who : Role) (sent : List Sending) (p : DeskParty) (left : Option (List ℕ)) →
         IsDesk (view_of S.state desk.now) p → IsReadAgain many_sides desk.now.live →
         DeskSaves (many_sides.encoding desk.now.live) (S.state desk.now.store) (Ok tt) (S.state after.now) →
-        LeavesLanded (S.state after.now).landed (S.leaves after.now) → S.leaves after.now left →
+        LeavesCommitted (S.state after.now).committed (S.leaves after.now) → S.leaves after.now left →
         EndsInStart who sent p (Save who ∷ Restart who ∷ []) left }
     ensures first { (role : Role) (left : Option (List ℕ)) → desk.now.live ≡ no_sides role →
-        LeavesLanded None (S.leaves desk.now.store) → IsReadAgain many_sides desk.now.live →
+        LeavesCommitted None (S.leaves desk.now.store) → IsReadAgain many_sides desk.now.live →
         S.leaves desk.now.store left ⊎ (left ≡ Some (many_sides.encoding desk.now.live)) →
         (left ≡ None) ⊎ StartsAs left (first_desk role) }
 {}
 
-/// A desk of the program is a desk of the model whose power may go, after any saves, done or failed. Each record that a loss
-/// of power may leave has sides that the model knows (`leaves_after`), in a save too. The desk that starts from it is the
-/// model's desk after this loss.
+/// A desk of the program is a desk of the model whose power may go, after any saves, done or failed. Each record that a
+/// loss of power may leave has sides that the model knows (`leaves_after`), in a save too. The desk that starts from it
+/// is the model's desk after this loss.
 pub fn a_desk_may_lose_its_power_as_in_the_model<S: Store>(desk: &Desk<S>, after: &S)
     ensures loaded { (p : DeskParty) → IsDesk (view_of S.state desk.now) p →
-        LeavesLanded (S.state desk.now.store).landed (S.leaves desk.now.store) →
+        LeavesCommitted (S.state desk.now.store).committed (S.leaves desk.now.store) →
         IsPoweredDesk (view_of S.state desk.now) (S.leaves desk.now.store) (on_record p) }
-    ensures in_save { (who : Role) (landed : Bool) (p : PoweredDesk) →
+    ensures in_save { (who : Role) (committed : Bool) (p : PoweredDesk) →
         IsPoweredDesk (view_of S.state desk.now) (S.leaves desk.now.store) p → IsReadAgain many_sides desk.now.live →
         AreLeft (λ left. S.leaves desk.now.store left ⊎ (left ≡ Some (many_sides.encoding desk.now.live)))
-        (leaves_after p.desk p.leaves (SaveFault who landed)) }
-    ensures after_save { (who : Role) (landed : Bool) (p : PoweredDesk) (answer : Result (Unit {0}) DeskFault) →
+        (leaves_after p.desk p.leaves (SaveFault who committed)) }
+    ensures after_save { (who : Role) (committed : Bool) (p : PoweredDesk) (answer : Result (Unit {0}) DeskFault) →
         IsPoweredDesk (view_of S.state desk.now) (S.leaves desk.now.store) p → IsReadAgain many_sides desk.now.live →
         DeskSaves (many_sides.encoding desk.now.live) (S.state desk.now.store) answer (S.state after.now) →
-        OnOk answer (LeavesLanded (S.state after.now).landed (S.leaves after.now)) →
+        OnOk answer (LeavesCommitted (S.state after.now).committed (S.leaves after.now)) →
         LeavesBeforeOr (Some (many_sides.encoding desk.now.live)) (S.leaves desk.now.store) (S.leaves after.now) →
-        AreLeft (S.leaves after.now) (leaves_after p.desk p.leaves (save_event who landed answer)) }
+        AreLeft (S.leaves after.now) (leaves_after p.desk p.leaves (save_event who committed answer)) }
     ensures lost { (p : PoweredDesk) (left : Option (List ℕ)) →
         IsPoweredDesk (view_of S.state desk.now) (S.leaves desk.now.store) p → S.leaves desk.now.store left →
         (sides : SidesOf) × IsAmong sides p.leaves × StartsAs left (started_from p.desk sides).desk }
@@ -99,8 +99,8 @@ pub fn each_run_through_losses_of_power_is_safe()
     ill_world::desk_laws::every_desk_run_is_safe();
 }
 
-/// A command in which a library loses its power is a command of `Commands`: a shorter one, or one whose save failed. It may
-/// lose its power at any moment: in a save or after one that failed, between two saves, or when its messages leave.
+/// A command in which a library loses its power is a command of `Commands`: a shorter one, or one whose save failed. It
+/// may lose its power at any moment: in a save or after one that failed, between two saves, or when its messages leave.
 pub fn a_command_that_loses_power_is_a_command()
     ensures { (others : List Apdu) (before after : Library) → LosesPower others before after →
         Commands others before after }
@@ -108,8 +108,8 @@ pub fn a_command_that_loses_power_is_a_command()
     ill_der::laws::longest();
 }
 
-/// A history in which libraries lose their power is a history, of shelves too. So its libraries are safe, and each file has
-/// what has left.
+/// A history in which libraries lose their power is a history, of shelves too. So its libraries are safe, and each file
+/// has what has left.
 pub fn each_history_through_losses_of_power_is_a_history()
     ensures history { (now : Libraries) (later : List Libraries) → IsPoweredHistory now later → IsHistory now later }
     ensures shelves { (w : ShelfLibraries) (visits : List GroupVisit) →
@@ -139,16 +139,16 @@ pub fn no_bad_loss_of_power_passes()
     ill_world::desk_laws::desks_stand();
 }
 
-/// A loss of power may leave each record that it might have left before a save that failed, and the new one. After a save
-/// that is done it may leave the saved record, and after a restart the landed one.
+/// A loss of power may leave each record that it might have left before a save that failed, and the new one. After a
+/// save that is done it may leave the saved record, and after a restart the committed one.
 #[tactic(auto, unfolding(crate::specs::Power::IsAmong))]
 pub fn each_record_may_be_left()
-    ensures old { (who : Role) (landed : Bool) (sent : List Sending) (p : PoweredDesk) (sides : SidesOf) →
-        IsAmong sides p.leaves → IsAmong sides (powered_after p sent (SaveFault who landed)).leaves }
-    ensures new { (who : Role) (landed : Bool) (sent : List Sending) (p : PoweredDesk) →
-        IsAmong (sides_held p.desk.live) (powered_after p sent (SaveFault who landed)).leaves }
+    ensures old { (who : Role) (committed : Bool) (sent : List Sending) (p : PoweredDesk) (sides : SidesOf) →
+        IsAmong sides p.leaves → IsAmong sides (powered_after p sent (SaveFault who committed)).leaves }
+    ensures new { (who : Role) (committed : Bool) (sent : List Sending) (p : PoweredDesk) →
+        IsAmong (sides_held p.desk.live) (powered_after p sent (SaveFault who committed)).leaves }
     ensures saved { (who : Role) (sent : List Sending) (p : PoweredDesk) →
         IsAmong (sides_held p.desk.live) (powered_after p sent (Save who)).leaves }
     ensures restarted { (who : Role) (sent : List Sending) (p : PoweredDesk) →
-        IsAmong p.desk.landed (powered_after p sent (Restart who)).leaves }
+        IsAmong p.desk.committed (powered_after p sent (Restart who)).leaves }
 {}

@@ -8,8 +8,8 @@ ghost use Rattle.ill_runs.specs.ShelfLibraries.{GroupVisit, IsShelfHistory, Shel
 
 use crate::laws;
 
-/// The desks of a group have a history of their own: the visits of this group, in order. A visit of another group changes
-/// nothing there.
+/// The desks of a group have a history of their own: the visits of this group, in order. A visit of another group
+/// changes nothing there.
 #[tactic(auto, using(crate::proofs::ShelfLemmas::group_history, crate::proofs::ShelfLemmas::group_after))]
 pub fn each_group_has_its_history()
     ensures history { (w : ShelfLibraries) (group : List ℕ) (visits : List GroupVisit) →
@@ -18,8 +18,8 @@ pub fn each_group_has_its_history()
         shelves_after w visits group ≡ libraries_after (w group) (visits_of group visits) }
 {}
 
-/// After any commands on two shelves the files of both desks of each group can be read, and their sides do not contradict
-/// each other. Each file has what has left its desk.
+/// After any commands on two shelves the files of both desks of each group can be read, and their sides do not
+/// contradict each other. Each file has what has left its desk.
 pub fn each_shelf_history_is_safe()
     ensures safe { (group : List ℕ) (visits : List GroupVisit) → IsShelfHistory first_shelf_libraries visits →
         AreSafe (shelves_after first_shelf_libraries visits group) }

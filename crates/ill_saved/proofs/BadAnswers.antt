@@ -7,13 +7,14 @@ use Rattle.ill_store.specs.declared.store.NextCall.TheVariants.{Works, FailsOld,
 use Rattle.ill_saved.specs.declared.fault.DeskFault.{DeskFault}
 use Rattle.ill_saved.specs.declared.fault.DeskFault.TheVariants.{OutOfMemory}
 use Rattle.ill_saved.specs.Holdings.{IsReadFault}
-use Rattle.ill_store.specs.Store.{LandsAtFailure}
-use Rattle.ill_saved.specs.Desk.{IsSaveFault, IsCreateAnswer, IsLoadFault, LeavesBeforeOr, LeavesLanded, SaveLands, PlanAfter}
+use Rattle.ill_store.specs.Store.{CommitsAtFailure}
+use Rattle.ill_saved.specs.Desk.{IsSaveFault, IsCreateAnswer, IsLoadFault, LeavesBeforeOr, LeavesCommitted, SaveCommits}
+use Rattle.ill_saved.specs.Desk.{PlanAfter}
 use Rattle.ill_saved.specs.BadAnswers.{IsOfNoRecord, core, bytes, trailing, no_such_message, not_saved, no_such_transaction}
 use Rattle.ill_saved.specs.BadAnswers.{desk_full, store_memory, CannotSave, save_other, save_exists, save_no_record, save_record}
 use Rattle.ill_saved.specs.BadAnswers.{save_too_large, CannotCreate, create_other, create_no_record, create_record, CannotLoad}
 use Rattle.ill_saved.specs.BadAnswers.{load_other, load_exists, load_no_record, load_memory, load_digest, CannotRead}
-use Rattle.ill_saved.specs.BadAnswers.{read_other, read_store, LandsWrong, done, failed, memory, PlansWrong, plan_other}
+use Rattle.ill_saved.specs.BadAnswers.{read_other, read_store, CommitsWrong, done, failed, memory, PlansWrong, plan_other}
 
 -- ---- faults
 
@@ -98,9 +99,9 @@ none_reads has_digest _ (read_store fault) is = is
 
 -- ---- changes
 
--- A save that failed leaves the old bytes or lands the new ones.
+-- A save that failed leaves the old bytes or commits the new ones.
 old_or_new : (plan : Option NextCall) (record_bytes : List ℕ) (old new : Option (List ℕ))
-    → LandsAtFailure plan record_bytes old new → (new ≡ old) ⊎ (new ≡ Some record_bytes)
+    → CommitsAtFailure plan record_bytes old new → (new ≡ old) ⊎ (new ≡ Some record_bytes)
 old_or_new None record_bytes old new is = is
 old_or_new (Some Works) record_bytes old new is = is
 old_or_new (Some FailsOld) record_bytes old new is = inl is
@@ -111,13 +112,13 @@ neither : {A B : Type 0} → (A → ⊥) → (B → ⊥) → A ⊎ B → ⊥
 neither not_a not_b (inl a) = not_a a
 neither not_a not_b (inr b) = not_b b
 
--- If a save may land `new`, as `SaveLands` says, `LandsWrong` does not exclude it.
-pub none_lands : (plan : Option NextCall) (record_bytes : List ℕ) (answer : Result (Unit {0}) DeskFault)
-    (old new : Option (List ℕ)) → LandsWrong record_bytes old new answer → SaveLands plan record_bytes answer old new → ⊥
-none_lands plan record_bytes _ old new (done other) is = other is.0
-none_lands plan record_bytes _ old new (failed not_old not_new) is =
+-- If a save may commit `new`, as `SaveCommits` says, `CommitsWrong` does not exclude it.
+pub none_commits : (plan : Option NextCall) (record_bytes : List ℕ) (answer : Result (Unit {0}) DeskFault)
+    (old new : Option (List ℕ)) → CommitsWrong record_bytes old new answer → SaveCommits plan record_bytes answer old new → ⊥
+none_commits plan record_bytes _ old new (done other) is = other is.0
+none_commits plan record_bytes _ old new (failed not_old not_new) is =
     neither not_old not_new (old_or_new plan record_bytes old new is.0)
-none_lands plan record_bytes _ old new (memory other) is = other is
+none_commits plan record_bytes _ old new (memory other) is = other is
 
 -- If memory ran out and a save may leave the plan `new`, `PlansWrong` does not exclude it.
 pub none_plans : (old new : Option NextCall) → PlansWrong old new → PlanAfter (Err OutOfMemory) old new → ⊥
@@ -125,10 +126,10 @@ none_plans old new (plan_other not_spent not_old) is = neither not_spent not_old
 
 -- ---- what a loss of power leaves
 
--- If the landed record alone may be left, no other record is left.
-pub none_outlasts : (landed : Option (List ℕ)) (leaves : Option (List ℕ) → Type 0) (left : Option (List ℕ))
-    → LeavesLanded landed leaves → leaves left → (left ≡ landed → ⊥) → ⊥
-none_outlasts landed leaves left lasts is differ = differ (lasts left is)
+-- If the committed record alone may be left, no other record is left.
+pub none_outlasts : (committed : Option (List ℕ)) (leaves : Option (List ℕ) → Type 0) (left : Option (List ℕ))
+    → LeavesCommitted committed leaves → leaves left → (left ≡ committed → ⊥) → ⊥
+none_outlasts committed leaves left lasts is differ = differ (lasts left is)
 
 -- If only `other` and the records of `before` may be left after a call, no third record is left.
 pub none_outlasts_either : (other : Option (List ℕ)) (before after : Option (List ℕ) → Type 0) (left : Option (List ℕ))

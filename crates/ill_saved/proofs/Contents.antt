@@ -47,7 +47,7 @@ use Rattle.ill_der.specs.Laws.{IsBytes}
 use Rattle.ill_record.specs.Records.{record_at, record_encoding}
 use Rattle.ill_record.specs.RecordsV2.{AreSides, alone, read_alone, is_version_1, unsealed, sides_at, sides_encoding, records_at}
 use Rattle.ill_saved.specs.Holdings.{DeskEntry, DeskActs, DeskTakesApdu, IsBacked, IsBackedBy, IsBackedByRead, IsRecordOf}
-use Rattle.ill_saved.specs.Holdings.{StaysBacked, landed_live, map_ok, whole}
+use Rattle.ill_saved.specs.Holdings.{StaysBacked, committed_live, map_ok, whole}
 use Rattle.ill_saved.specs.ManySides.{DeskContents, held_of, counts, txn_held, idle_held, found_or, held_for, with_held}
 use Rattle.ill_saved.specs.ManySides.{sides_held, whole_of, no_sides, is_own, held_or_begun, side_for_call, acted as acted_by}
 use Rattle.ill_saved.specs.ManySides.{acts_reached, desk_acts, contents_after_message as took_by, takes_reached, desk_takes}
@@ -244,16 +244,16 @@ pub none_held_there : (live : DeskContents) (txn : Qualifiers) → side_with txn
 unfolding side_with
 none_held_there live txn none = none_mapped _ (sym none ∙ found_mapped txn_held txn_of side_of (λ held. refl) txn live.held)
 
--- ---- landed sides that back the contents of a desk
+-- ---- committed sides that back the contents of a desk
 
 -- The idle side of `txn` is of transaction `txn`.
 pub idle_of_txn : (role : Role) (txn : Qualifiers) → txn_of (idle_side role txn) ≡ txn
 idle_of_txn role txn = search rules
 
--- If `landed` backs a side, it backs the side after a transition.
-backed_on : (landed old new : Side) (released : ℕ) → IsSideTransition old new → IsBackedBy landed old released
-    → IsBackedBy landed new released
-backed_on landed old new released row backed =
+-- If `committed` backs a side, it backs the side after a transition.
+backed_on : (committed old new : Side) (released : ℕ) → IsSideTransition old new → IsBackedBy committed old released
+    → IsBackedBy committed new released
+backed_on committed old new released row backed =
     record {
       consistent = backed.consistent;
       follows = one_further old new backed.follows row;
@@ -261,48 +261,48 @@ backed_on landed old new released row backed =
           backed.has-released;
     }
 
--- Let `landed` back the entry that is found, or `idle`, and back `new` if `new` has the transaction (`same`). Then it
--- backs the entry that is found after `new` is put.
-found_backs : (landed : Side) (idle new old : DeskEntry) (found : Option DeskEntry) (same : Bool)
-    → (same ≡ true → IsBackedBy landed new.side new.released)
-    → IsBackedBy landed (found_or idle found).side (found_or idle found).released
-    → IsBackedBy landed (found_or idle (cond same (Some new) found)).side (found_or idle (cond same (Some new) found)).released
-found_backs landed idle new old found true backs backed = backs refl
-found_backs landed idle new old found false backs backed = backed
+-- Let `committed` back the entry that is found, or `idle`, and back `new` if `new` has the transaction (`same`). Then
+-- it backs the entry that is found after `new` is put.
+found_backs : (committed : Side) (idle new old : DeskEntry) (found : Option DeskEntry) (same : Bool)
+    → (same ≡ true → IsBackedBy committed new.side new.released)
+    → IsBackedBy committed (found_or idle found).side (found_or idle found).released
+    → IsBackedBy committed (found_or idle (cond same (Some new) found)).side (found_or idle (cond same (Some new) found)).released
+found_backs committed idle new old found true backs backed = backs refl
+found_backs committed idle new old found false backs backed = backed
 
--- If landed sides back the desk's contents, they back them after a transition of one side. In the transaction of `new`
--- they back `new` (`here`), and all other entries are unchanged.
-pub row_backs_held : (landed : SidesOf) (live : DeskContents) (held : DeskEntry) (new : Side)
-    → held_for (txn_of new) live ≡ held → IsSideTransition held.side new → AreBackedBy landed live
-    → AreBackedBy landed (with_held live (record { side = new; released = held.released }))
-row_backs_held landed live held new is row backed = record {
+-- If committed sides back the desk's contents, they back them after a transition of one side. In the transaction of
+-- `new` they back `new` (`here`), and all other entries are unchanged.
+pub row_backs_held : (committed : SidesOf) (live : DeskContents) (held : DeskEntry) (new : Side)
+    → held_for (txn_of new) live ≡ held → IsSideTransition held.side new → AreBackedBy committed live
+    → AreBackedBy committed (with_held live (record { side = new; released = held.released }))
+row_backs_held committed live held new is row backed = record {
   role = backed.role;
   each = λ txn.
       let after : DeskEntry = record { side = new; released = held.released } in
-      let here : is_same_txn txn (txn_of new) ≡ true → IsBackedBy (side_for txn landed) new held.released =
+      let here : is_same_txn txn (txn_of new) ≡ true → IsBackedBy (side_for txn committed) new held.released =
       λ same.
       let of : txn ≡ txn_of new = same_is txn (txn_of new) same in
       let there : held_for txn live ≡ held = ap (λ t. held_for t live) of ∙ is in
-      backed_on (side_for txn landed) held.side new held.released row
-      (subst (λ (h : DeskEntry). IsBackedBy (side_for txn landed) h.side h.released) there (backed.each txn)) in
-      subst (λ found. IsBackedBy (side_for txn landed) (found_or (idle_held live.role txn) found).side
+      backed_on (side_for txn committed) held.side new held.released row
+      (subst (λ (h : DeskEntry). IsBackedBy (side_for txn committed) h.side h.released) there (backed.each txn)) in
+      subst (λ found. IsBackedBy (side_for txn committed) (found_or (idle_held live.role txn) found).side
       (found_or (idle_held live.role txn) found).released) (sym (found_put txn_held txn after live.held))
-      (found_backs (side_for txn landed) (idle_held live.role txn) after held (found_by txn_held txn live.held)
+      (found_backs (side_for txn committed) (idle_held live.role txn) after held (found_by txn_held txn live.held)
       (is_same_txn txn (txn_of new)) here (backed.each txn));
 }
 
 -- If the sides that were read back the desk's contents, they back them after a transition of one side.
-pub row_backs_all : (landed : Result DeskContents RecordFault) (live : DeskContents) (held : DeskEntry) (new : Side)
-    → held_for (txn_of new) live ≡ held → IsSideTransition held.side new → IsBackedByRead ManyBack landed live
-    → IsBackedByRead ManyBack landed (with_held live (record { side = new; released = held.released }))
-row_backs_all (Ok landed) live held new is row backed = row_backs_held (sides_held landed) live held new is row backed
+pub row_backs_all : (committed : Result DeskContents RecordFault) (live : DeskContents) (held : DeskEntry) (new : Side)
+    → held_for (txn_of new) live ≡ held → IsSideTransition held.side new → IsBackedByRead ManyBack committed live
+    → IsBackedByRead ManyBack committed (with_held live (record { side = new; released = held.released }))
+row_backs_all (Ok committed) live held new is row backed = row_backs_held (sides_held committed) live held new is row backed
 row_backs_all (Err fault) live held new is row backed = backed
 
--- If `old` and `new` have one role, the bytes `landed` give equal landed sides for both.
-same_landed : (landed : Option (List ℕ)) (old new : DeskContents) → new.role ≡ old.role
-    → landed_live many_sides landed old ≡ landed_live many_sides landed new
-same_landed None old new role = ap (λ r. Ok (no_sides r)) (sym role)
-same_landed (Some bytes) old new role = refl
+-- If `old` and `new` have one role, the bytes `committed` give equal committed sides for both.
+same_committed : (committed : Option (List ℕ)) (old new : DeskContents) → new.role ≡ old.role
+    → committed_live many_sides committed old ≡ committed_live many_sides committed new
+same_committed None old new role = ap (λ r. Ok (no_sides r)) (sym role)
+same_committed (Some bytes) old new role = refl
 
 -- ---- actions and messages of a held side
 
@@ -559,43 +559,43 @@ module _ (role : Role) (sides : List Side) (counted : List ℕ) (as_many : lengt
         )
 
     -- If the sides that were read back the contents, they back them after a held side's call that `Does` describes.
-    changed_backs : (landed : Result DeskContents RecordFault) (held : DeskEntry) (after : Side) (answer : A)
+    changed_backs : (committed : Result DeskContents RecordFault) (held : DeskEntry) (after : Side) (answer : A)
         → found_by txn_held txn (held_of sides counted) ≡ Some held → Does held.side answer after → txn ≡ txn_of after
-        → IsBackedByRead ManyBack landed desk_with
-        → IsBackedByRead ManyBack landed (with_held desk_with (record { side = after; released = held.released }))
-    changed_backs landed held after answer found does of backed = by (rows held.side after answer does)
+        → IsBackedByRead ManyBack committed desk_with
+        → IsBackedByRead ManyBack committed (with_held desk_with (record { side = after; released = held.released }))
+    changed_backs committed held after answer found does of backed = by (rows held.side after answer does)
       where
         -- The contents are backed after a transition of the side, and if it is unchanged.
         by : IsSideTransition held.side after ⊎ (after ≡ held.side)
-            → IsBackedByRead ManyBack landed (with_held desk_with (record { side = after; released = held.released }))
-        by (inl row) = row_backs_all landed desk_with held after
+            → IsBackedByRead ManyBack committed (with_held desk_with (record { side = after; released = held.released }))
+        by (inl row) = row_backs_all committed desk_with held after
             (ap (λ t. held_for t desk_with) (sym of) ∙ ap (found_or (idle_held role txn)) found) row backed
-        by (inr same) = subst (IsBackedByRead ManyBack landed) (sym (unchanged desk_with held txn after found same)) backed
+        by (inr same) = subst (IsBackedByRead ManyBack committed) (sym (unchanged desk_with held txn after found same)) backed
 
-    -- If `landed` backs the desk's contents, it backs them after a held side's call that `Does` describes.
-    changed_backs_by : (landed : SidesOf) (held : DeskEntry) (after : Side) (answer : A)
+    -- If `committed` backs the desk's contents, it backs them after a held side's call that `Does` describes.
+    changed_backs_by : (committed : SidesOf) (held : DeskEntry) (after : Side) (answer : A)
         → found_by txn_held txn (held_of sides counted) ≡ Some held → Does held.side answer after → txn ≡ txn_of after
-        → AreBackedBy landed desk_with
-        → AreBackedBy landed (with_held desk_with (record { side = after; released = held.released }))
-    changed_backs_by landed held after answer found does of backed = by (rows held.side after answer does)
+        → AreBackedBy committed desk_with
+        → AreBackedBy committed (with_held desk_with (record { side = after; released = held.released }))
+    changed_backs_by committed held after answer found does of backed = by (rows held.side after answer does)
       where
         -- The contents are backed after a transition of the side, and if it is unchanged.
         by : IsSideTransition held.side after ⊎ (after ≡ held.side)
-            → AreBackedBy landed (with_held desk_with (record { side = after; released = held.released }))
-        by (inl row) = row_backs_held landed desk_with held after
+            → AreBackedBy committed (with_held desk_with (record { side = after; released = held.released }))
+        by (inl row) = row_backs_held committed desk_with held after
             (ap (λ t. held_for t desk_with) (sym of) ∙ ap (found_or (idle_held role txn)) found) row backed
-        by (inr same) = subst (AreBackedBy landed) (sym (unchanged desk_with held txn after found same)) backed
+        by (inr same) = subst (AreBackedBy committed) (sym (unchanged desk_with held txn after found same)) backed
 
     -- All bytes that back the desk's contents back them after a call of one side that `Does` describes.
     pub still_backed : (answer : A) (new : SidesOf)
         → ChangesOnlySideOf Does txn (record { role = role; sides = sides }) (Some answer) new
         → StaysBacked many_sides ManyBack desk_with (record { role = new.role; held = held_of new.sides counted })
-    still_backed answer new only landed backed =
+    still_backed answer new only committed backed =
         let to = changed_held answer new only in
         let next = with_held desk_with (record { side = to.1; released = to.0.released }) in
-        subst (IsBacked many_sides ManyBack landed) (sym to.5)
-        (subst (λ read. IsBackedByRead ManyBack read next) (same_landed landed desk_with next refl)
-        (changed_backs (landed_live many_sides landed desk_with) to.0 to.1 answer to.2 to.3 to.4 backed))
+        subst (IsBacked many_sides ManyBack committed) (sym to.5)
+        (subst (λ read. IsBackedByRead ManyBack read next) (same_committed committed desk_with next refl)
+        (changed_backs (committed_live many_sides committed desk_with) to.0 to.1 answer to.2 to.3 to.4 backed))
 
     -- If some sides back the desk's contents, they back them after a call of one side that `Does` describes.
     pub still_backable : (answer : A) (new : SidesOf)
@@ -654,12 +654,12 @@ module _ (role : Role) (sides : List Side) (counted : List ℕ) (as_many : lengt
       → new ≡ put_side (record { role = role; sides = sides }) side → IsSideTransition (idle_side role (txn_of side)) side
       → StaysBacked many_sides ManyBack (desk_with role sides counted as_many)
       (record { role = new.role; held = held_of new.sides (counted ++ 0 ∷ []) })
-  more_backed grows new put row landed backed =
+  more_backed grows new put row committed backed =
       let old = desk_with role sides counted as_many in
       let next = with_held old (record { side = side; released = 0 }) in
-      subst (IsBacked many_sides ManyBack landed) (sym (held_more new put))
-      (subst (λ read. IsBackedByRead ManyBack read next) (same_landed landed old next refl)
-      (row_backs_all (landed_live many_sides landed old) old (idle_held role (txn_of side)) side
+      subst (IsBacked many_sides ManyBack committed) (sym (held_more new put))
+      (subst (λ read. IsBackedByRead ManyBack read next) (same_committed committed old next refl)
+      (row_backs_all (committed_live many_sides committed old) old (idle_held role (txn_of side)) side
       (ap (found_or (idle_held role (txn_of side))) none_before) row backed))
 
   -- If some sides back the desk's contents, they back them with a side that began by a transition.
@@ -730,7 +730,7 @@ sides_of_whole all = ap sides_held (sym (whole_held all (counts all.sides) refl)
 
 -- Consistent sides that are held with all messages released back themselves.
 pub whole_back : (all : SidesOf) → Each IsConsistent all.sides → ManyBack (whole_of all) (whole_of all)
-whole_back all each = subst (λ landed. AreBackedBy landed (whole_of all)) (sym (sides_of_whole all)) (whole_backed all each)
+whole_back all each = subst (λ committed. AreBackedBy committed (whole_of all)) (sym (sides_of_whole all)) (whole_backed all each)
 
 -- Consistent sides with all messages released are backed by some sides.
 pub whole_backable : (all : SidesOf) (counted : List ℕ) → Each IsConsistent all.sides → counted ≡ counts all.sides
@@ -791,12 +791,12 @@ module _ (follows : FollowsIssues) (all : SidesOf) (counted : List ℕ) (as_many
   same_or txn (Some held) = refl
   same_or txn None = refl
 
-  -- If landed sides back the desk's contents, the sides `all` of the desk back them, too. The sides `all` have all
-  -- messages of the landed ones (`few`), and the landed ones have each released message (`was`).
-  self_backed : (landed : SidesOf) → AreBackedBy landed (record { role = all.role; held = held_of all.sides counted })
+  -- If committed sides back the desk's contents, the sides `all` of the desk back them, too. The sides `all` have all
+  -- messages of the committed ones (`few`), and the committed ones have each released message (`was`).
+  self_backed : (committed : SidesOf) → AreBackedBy committed (record { role = all.role; held = held_of all.sides counted })
       → AreBackedBy all (record { role = all.role; held = held_of all.sides counted })
   unfolding side_with
-  self_backed landed backed = record {
+  self_backed committed backed = record {
     role = refl;
     each = λ txn.
         let live : DeskContents = record { role = all.role; held = held_of all.sides counted } in
@@ -822,10 +822,10 @@ module _ (follows : FollowsIssues) (all : SidesOf) (counted : List ℕ) (as_many
       record {
         encoded = encoded ∙ ap sides_encoding seen;
         read = ap many_sides.read encoded ∙ ap (map_ok whole_of) (again all are) ∙ ap Ok saved;
-        backed = subst (λ landed. ManyBack landed live) saved
-            (subst (λ landed. AreBackedBy landed live) (sym (sides_of_whole all))
+        backed = subst (λ committed. ManyBack committed live) saved
+            (subst (λ committed. AreBackedBy committed live) (sym (sides_of_whole all))
             (subst (AreBackedBy all) is (self_backed backable.0 (subst (AreBackedBy backable.0) (sym is) backable.1))));
-        saved = subst (λ landed. ManyBack landed landed) saved (whole_back all each);
+        saved = subst (λ committed. ManyBack committed committed) saved (whole_back all each);
       }
 
 -- If `Ok x` is `Ok y`, `x` is `y`.

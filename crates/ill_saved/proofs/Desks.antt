@@ -41,9 +41,9 @@ use Rattle.ill_record.proofs.Records.{no_digest}
 use Rattle.ill_record.specs.Records.{record_at, record_encoding, Decodes}
 use Rattle.ill_record.specs.Ranges.{Each, IsSide}
 use Rattle.ill_store.specs.Store.{Allows, StoreState, StoreLoads}
-use Rattle.ill_saved.specs.LandedBytes.{LandedBytes, IsLandedRecord, HoldsReleased, GoesBackTo}
-use Rattle.ill_saved.specs.Holdings.{DeskEntry, Effects, DeskActs, DeskTakesApdu, GoesBackToLanded, IsBacked, IsBackedBy}
-use Rattle.ill_saved.specs.Holdings.{IsBackedByRead, IsReadFault, IsRecordOf, ReadsRecord, Sends, StaysBacked, landed_live}
+use Rattle.ill_saved.specs.CommittedBytes.{CommittedBytes, IsCommittedRecord, HoldsReleased, GoesBackTo}
+use Rattle.ill_saved.specs.Holdings.{DeskEntry, Effects, DeskActs, DeskTakesApdu, GoesBackToCommitted, IsBacked, IsBackedBy}
+use Rattle.ill_saved.specs.Holdings.{IsBackedByRead, IsReadFault, IsRecordOf, ReadsRecord, Sends, StaysBacked, committed_live}
 use Rattle.ill_saved.specs.Holdings.{map_ok, whole}
 use Rattle.ill_saved.specs.OneSide.{OneBacks, alone, one_acts, one_answers, one_side, with_side}
 use Rattle.ill_saved.specs.Desk.{IsOneApdu, Restarts}
@@ -51,25 +51,25 @@ use Rattle.ill_record.proofs.Rules.{responder_asked}
 use Rattle.ill_record.proofs.Transitions.{none_more, no_less, RowsGrow, RowsKeepRequest, prefix_of_prefix, idle_twice}
 use Rattle.ill_record.proofs.Transitions.{idle_consistent, nothing_issued}
 
--- ---- the landed side, the rules and the answers after a call of the live side
+-- ---- the committed side, the rules and the answers after a call of the live side
 
 -- Returns a held side with its released count.
 abbrev entry : Side → ℕ → DeskEntry
 entry side released = record { side = side; released = released }
 
--- If a landed side backs the live one, it backs it after a transition.
-step_backed : (landed : DeskEntry) (old new : Side) (released : ℕ) → IsSideTransition old new
-    → OneBacks landed (entry old released) → OneBacks landed (entry new released)
-step_backed landed old new released row backed =
+-- If a committed side backs the live one, it backs it after a transition.
+step_backed : (committed : DeskEntry) (old new : Side) (released : ℕ) → IsSideTransition old new
+    → OneBacks committed (entry old released) → OneBacks committed (entry new released)
+step_backed committed old new released row backed =
     record { consistent = backed.consistent; follows = further old new backed.follows row; has-released = backed.has-released }
 
 -- If the side that was read backs the live one, it backs it after a transition.
 read_backs : (read : Result DeskEntry RecordFault) (old new : Side) (released : ℕ) → IsSideTransition old new
     → IsBackedByRead OneBacks read (entry old released) → IsBackedByRead OneBacks read (entry new released)
-read_backs (Ok landed) old new released row backed = step_backed landed old new released row backed
+read_backs (Ok committed) old new released row backed = step_backed committed old new released row backed
 read_backs (Err fault) old new released row backed = backed
 
--- All landed bytes that back the live side back it after a transition.
+-- All committed bytes that back the live side back it after a transition.
 row_backs : RowsGrow → (old new : Side) (released : ℕ) → IsSideTransition old new
     → StaysBacked one_side OneBacks (entry old released) (entry new released)
 row_backs grows old new released row None backed =
@@ -130,12 +130,12 @@ back_on (standings.Responder s) count (sides.Requester x) new side grows keeps f
 back_on (standings.Requester s) count (sides.Requester x) (sides.Responder new) side grows keeps few asked e = absurd cc
 back_on (standings.Responder s) count (sides.Responder y) (sides.Requester new) side grows keeps few asked e = absurd cc
 
--- If the live side grows and keeps its request, `HoldsReleased` remains true. `is` says that the landed record is that
--- of `side`, and `of` that `side` has issued exactly the released messages.
-keeps_on : (landed_record : LandedBytes) (old new : Side) (released : ℕ) → released ≤ length (issued_of old) → Grows old new
-    → KeepsRequest old new → HoldsReleased landed_record old released → HoldsReleased landed_record new released
-keeps_on landed_record old new released few grows keeps (inl none) = inl none
-keeps_on landed_record old new released few grows keeps (inr (side, is, of)) =
+-- If the live side grows and keeps its request, `HoldsReleased` remains true. `is` says that the committed record is
+-- that of `side`, and `of` that `side` has issued exactly the released messages.
+keeps_on : (committed_record : CommittedBytes) (old new : Side) (released : ℕ) → released ≤ length (issued_of old) → Grows old new
+    → KeepsRequest old new → HoldsReleased committed_record old released → HoldsReleased committed_record new released
+keeps_on committed_record old new released few grows keeps (inl none) = inl none
+keeps_on committed_record old new released few grows keeps (inr (side, is, of)) =
     inr (
       side,
       is,
@@ -147,52 +147,52 @@ keeps_on landed_record old new released few grows keeps (inr (side, is, of)) =
       },
     )
 
--- The rules of a held side: at most the issued messages are released, and its landed record has the released ones.
-abbrev pub Rules : LandedBytes → Side → ℕ → Type 0
-Rules landed_record live released = (released ≤ length (issued_of live)) × HoldsReleased landed_record live released
+-- The rules of a held side: at most the issued messages are released, and its committed record has the released ones.
+abbrev pub Rules : CommittedBytes → Side → ℕ → Type 0
+Rules committed_record live released = (released ≤ length (issued_of live)) × HoldsReleased committed_record live released
 
 -- The new side satisfies the rules, and all bytes that back the old side back it.
-abbrev pub SatisfiesRulesAfter : LandedBytes → Side → Side → ℕ → Type 0
-SatisfiesRulesAfter landed_record old new released =
-    Rules landed_record new released × StaysBacked one_side OneBacks (entry old released) (entry new released)
+abbrev pub SatisfiesRulesAfter : CommittedBytes → Side → Side → ℕ → Type 0
+SatisfiesRulesAfter committed_record old new released =
+    Rules committed_record new released × StaysBacked one_side OneBacks (entry old released) (entry new released)
 
 -- A held side satisfies `SatisfiesRulesAfter` after a transition.
-row_rules : RowsGrow → RowsKeepRequest → (landed_record : LandedBytes) (old new : Side) (released : ℕ)
-    → IsSideTransition old new → Rules landed_record old released → SatisfiesRulesAfter landed_record old new released
-row_rules grows keeps landed_record old new released row rules =
+row_rules : RowsGrow → RowsKeepRequest → (committed_record : CommittedBytes) (old new : Side) (released : ℕ)
+    → IsSideTransition old new → Rules committed_record old released → SatisfiesRulesAfter committed_record old new released
+row_rules grows keeps committed_record old new released row rules =
     let more = grows old new row in (
       (
         omega (arith, rules.0, no_less _ _ more.1),
-        keeps_on landed_record old new released rules.0 more (keeps old new row) rules.1,
+        keeps_on committed_record old new released rules.0 more (keeps old new row) rules.1,
       ),
       row_backs grows old new released row,
     )
 
 -- A held side satisfies `SatisfiesRulesAfter` if it does not change.
-same_rules : (landed_record : LandedBytes) (old new : Side) (released : ℕ) → new ≡ old
-    → Rules landed_record old released → SatisfiesRulesAfter landed_record old new released
-same_rules landed_record old new released e rules =
-    subst (λ side. SatisfiesRulesAfter landed_record old side released) (sym e) (rules, λ landed backed. backed)
+same_rules : (committed_record : CommittedBytes) (old new : Side) (released : ℕ) → new ≡ old
+    → Rules committed_record old released → SatisfiesRulesAfter committed_record old new released
+same_rules committed_record old new released e rules =
+    subst (λ side. SatisfiesRulesAfter committed_record old side released) (sym e) (rules, λ committed backed. backed)
 
 -- A held side satisfies `SatisfiesRulesAfter` after an action, whatever the answer is.
 pub acts_rules : RowsGrow → RowsKeepRequest
-    → (landed_record : LandedBytes) (old new : Side) (released : ℕ) (action : Action) (answer : Result (Unit {0}) Refusal)
-    → Acts old action answer new → Rules landed_record old released → SatisfiesRulesAfter landed_record old new released
-acts_rules grows keeps landed_record old new released action (Ok done) acts rules =
-    row_rules grows keeps landed_record old new released (acted action acts) rules
-acts_rules grows keeps landed_record old new released action (Err refusals.OutOfMemory) acts rules =
-    same_rules landed_record old new released acts.1 rules
-acts_rules grows keeps landed_record old new released action (Err refusal) acts rules =
-    same_rules landed_record old new released acts.1 rules
+    → (committed_record : CommittedBytes) (old new : Side) (released : ℕ) (action : Action) (answer : Result (Unit {0}) Refusal)
+    → Acts old action answer new → Rules committed_record old released → SatisfiesRulesAfter committed_record old new released
+acts_rules grows keeps committed_record old new released action (Ok done) acts rules =
+    row_rules grows keeps committed_record old new released (acted action acts) rules
+acts_rules grows keeps committed_record old new released action (Err refusals.OutOfMemory) acts rules =
+    same_rules committed_record old new released acts.1 rules
+acts_rules grows keeps committed_record old new released action (Err refusal) acts rules =
+    same_rules committed_record old new released acts.1 rules
 
 -- A held side satisfies `SatisfiesRulesAfter` after an APDU, whatever the answer is.
 pub takes_rules : RowsGrow → RowsKeepRequest
-    → (landed_record : LandedBytes) (old new : Side) (released : ℕ) (a : Apdu) (answer : Result Taking Refusal)
-    → Takes old a answer new → Rules landed_record old released → SatisfiesRulesAfter landed_record old new released
-takes_rules grows keeps landed_record old new released a (Err refusals.OutOfMemory) takes rules =
-    same_rules landed_record old new released takes.2 rules
-takes_rules grows keeps landed_record old new released a answer takes rules =
-    row_rules grows keeps landed_record old new released (took a (ap (λ (r : Result Taking Refusal × Side). r.1) takes)) rules
+    → (committed_record : CommittedBytes) (old new : Side) (released : ℕ) (a : Apdu) (answer : Result Taking Refusal)
+    → Takes old a answer new → Rules committed_record old released → SatisfiesRulesAfter committed_record old new released
+takes_rules grows keeps committed_record old new released a (Err refusals.OutOfMemory) takes rules =
+    same_rules committed_record old new released takes.2 rules
+takes_rules grows keeps committed_record old new released a answer takes rules =
+    row_rules grows keeps committed_record old new released (took a (ap (λ (r : Result Taking Refusal × Side). r.1) takes)) rules
 
 -- Returns the answer of a desk for the answer of its side.
 abbrev pub core_answer : {A : Type 0} → Result A Refusal → Result A DeskFault
@@ -261,11 +261,11 @@ back_to_itself (sides.Responder y) count is all =
     ∙ ap (λ l. Some (sides.Responder (responder_of y.txn y.state y.accepted y.last_cancel y.last_renew y.received y.request l)))
     (take_all count y.issued (omega (arith, all)))
 
--- If the landed record is that of the side and all its messages are released, `HoldsReleased` is true.
-pub keeps_whole : (landed_record : LandedBytes) (side : Side) (count : ℕ) → IsLandedRecord landed_record side
+-- If the committed record is that of the side and all its messages are released, `HoldsReleased` is true.
+pub keeps_whole : (committed_record : CommittedBytes) (side : Side) (count : ℕ) → IsCommittedRecord committed_record side
     → count ≡ length (issued_of side)
-    → HoldsReleased landed_record side count
-keeps_whole landed_record side count is all =
+    → HoldsReleased committed_record side count
+keeps_whole committed_record side count is all =
     inr (
       side,
       is,
@@ -281,11 +281,12 @@ keeps_whole landed_record side count is all =
 pub itself_backs : (side : Side) (count : ℕ) → IsConsistent side → count ≤ length (issued_of side) → IsBackedBy side side count
 itself_backs side count is few = record { consistent = is; follows = same; has-released = few }
 
--- If `landed_record` is that of the side `live`, its bytes are the record of `live`, as `IsRecordOf` says.
-pub record_of : ReadsAgain → (landed_record : LandedBytes) (live : Side) (released : ℕ) → IsLandedRecord landed_record live
-    → released ≤ length (issued_of live) → IsRecordOf one_side OneBacks landed_record.bytes (entry live released)
-record_of again landed_record live released is few =
-    let encoded : landed_record.bytes ≡ record_encoding live = ap (λ (k : LandedBytes). k.bytes) is.1 in
+-- If `committed_record` is that of the side `live`, its bytes are the record of `live`, as `IsRecordOf` says.
+pub record_of : ReadsAgain → (committed_record : CommittedBytes) (live : Side) (released : ℕ)
+    → IsCommittedRecord committed_record live
+    → released ≤ length (issued_of live) → IsRecordOf one_side OneBacks committed_record.bytes (entry live released)
+record_of again committed_record live released is few =
+    let encoded : committed_record.bytes ≡ record_encoding live = ap (λ (k : CommittedBytes). k.bytes) is.1 in
     record {
       encoded = encoded;
       read = ap one_side.read encoded ∙ ap (map_ok whole) (again live is.0);
@@ -293,11 +294,11 @@ record_of again landed_record live released is few =
       saved = itself_backs live (length (issued_of live)) is.0.0 (omega arith);
     }
 
--- If `result` is a landed record of the side `live`, its bytes are the record of `live`, as `IsRecordOf` says.
-pub next_record : {E : Type 0} → ReadsAgain → (live : Side) (released : ℕ) (result : Result LandedBytes E)
-    → IfOk result (λ landed_record. IsLandedRecord landed_record live) → released ≤ length (issued_of live)
-    → IfOk result (λ landed_record. IsRecordOf one_side OneBacks landed_record.bytes (entry live released))
-next_record again live released (Ok landed_record) is few = record_of again landed_record live released is few
+-- If `result` is a committed record of the side `live`, its bytes are the record of `live`, as `IsRecordOf` says.
+pub next_record : {E : Type 0} → ReadsAgain → (live : Side) (released : ℕ) (result : Result CommittedBytes E)
+    → IfOk result (λ committed_record. IsCommittedRecord committed_record live) → released ≤ length (issued_of live)
+    → IfOk result (λ committed_record. IsRecordOf one_side OneBacks committed_record.bytes (entry live released))
+next_record again live released (Ok committed_record) is few = record_of again committed_record live released is few
 next_record again live released (Err fault) is few = tt
 
 -- ---- beginning, reading a record, and restarting
@@ -308,7 +309,7 @@ idle_backs first idle =
     subst (λ side. IsBackedBy side first 0) idle
     (itself_backs first 0 (subst IsConsistent (sym idle) (idle_consistent first)) (omega arith))
 
--- If nothing has landed, the idle side of `live` is backed with all of its messages released.
+-- If nothing is committed, the idle side of `live` is backed with all of its messages released.
 pub idle_again_backs : (live : Side) → IsBacked one_side OneBacks None (whole (idle_of live))
 idle_again_backs live =
     subst (λ side. OneBacks (whole side) (whole (idle_of live))) (sym (idle_twice live))
@@ -324,21 +325,22 @@ pub read_is_backed : {L K : Type 0} (effects : Effects L K) (backs : L → L →
 read_is_backed effects backs bytes live read backed = subst (λ r. IsBackedByRead backs r live) (sym read) backed
 
 -- If the live side goes back to `new`, the loaded `bytes` are read as `new` with all its messages released.
-pub back_is : ReadsAgain → (landed_record : LandedBytes) (released : ℕ) (bytes : List ℕ) (old new : Side)
-    → GoesBackTo landed_record released bytes true old new → one_side.read bytes ≡ Ok (whole new)
-back_is again landed_record released bytes old new (encoded, is, of) =
-    ap one_side.read (encoded ∙ ap (λ (k : LandedBytes). k.bytes) is.1)
+pub back_is : ReadsAgain → (committed_record : CommittedBytes) (released : ℕ) (bytes : List ℕ) (old new : Side)
+    → GoesBackTo committed_record released bytes true old new → one_side.read bytes ≡ Ok (whole new)
+back_is again committed_record released bytes old new (encoded, is, of) =
+    ap one_side.read (encoded ∙ ap (λ (k : CommittedBytes). k.bytes) is.1)
     ∙ ap (map_ok whole) (again new is.0)
 
 -- If the live side goes back to `new`, `new` satisfies its rules, and the loaded `bytes` back it. All its messages are
--- released. `encoded` says that `bytes` are those of `landed_record`, and `is` that this is the record of `new`.
-pub back_rules : ReadsAgain → (landed_record : LandedBytes) (released : ℕ) (bytes : List ℕ) (old new : Side)
-    → GoesBackTo landed_record released bytes true old new
-    → Rules landed_record new released × IsBacked one_side OneBacks (Some bytes) (entry new released)
+-- released. `encoded` says that `bytes` are those of `committed_record`, and `is` that this is the record of `new`.
+pub back_rules : ReadsAgain → (committed_record : CommittedBytes) (released : ℕ) (bytes : List ℕ) (old new : Side)
+    → GoesBackTo committed_record released bytes true old new
+    → Rules committed_record new released × IsBacked one_side OneBacks (Some bytes) (entry new released)
     × (entry new released ≡ whole new)
-back_rules again landed_record released bytes old new (encoded, is, of) = (
-  (omega (arith, of.all), keeps_whole landed_record new released is of.all),
-  subst (λ b. IsBacked one_side OneBacks (Some b) (entry new released)) (sym (encoded ∙ ap (λ (k : LandedBytes). k.bytes) is.1))
+back_rules again committed_record released bytes old new (encoded, is, of) = (
+  (omega (arith, of.all), keeps_whole committed_record new released is of.all),
+  subst (λ b. IsBacked one_side OneBacks (Some b) (entry new released))
+      (sym (encoded ∙ ap (λ (k : CommittedBytes). k.bytes) is.1))
       (read_is_backed one_side OneBacks (record_encoding new) (entry new released)
       (ap (map_ok whole) (again new is.0) ∙ ap (λ n. Ok (entry new n)) (sym of.all))
       (itself_backs new released is.0.0 (omega (arith, of.all)))),
@@ -387,39 +389,40 @@ allows_done (Some plans.Works) value allows = tt
 allows_done (Some plans.FailsOld) value allows = allows
 allows_done (Some plans.FailsNew) value allows = allows
 
--- If the landed bytes back the live sides, reading them gives no fault of the record.
+-- If the committed bytes back the live sides, reading them gives no fault of the record.
 no_fault : {L : Type 0} (backs : L → L → Type 0) (read : Result L RecordFault) (begins : Bool) (live : L) (has_digest : Bool)
     (fault : RecordFault)
     → IsBackedByRead backs read live → Decodes read begins (Err fault) → IsReadFault has_digest (faults.Saved fault) → ⊥
-no_fault backs (Ok landed) begins live has_digest records.OutOfMemory backed decodes is = is
-no_fault backs (Ok landed) begins live has_digest records.Short backed decodes is = search rules
-no_fault backs (Ok landed) begins live has_digest (records.Bad at) backed decodes is = search rules
-no_fault backs (Ok landed) begins live has_digest records.Inconsistent backed decodes is = search rules
-no_fault backs (Ok landed) begins live has_digest records.Digest backed decodes is = search rules
+no_fault backs (Ok committed) begins live has_digest records.OutOfMemory backed decodes is = is
+no_fault backs (Ok committed) begins live has_digest records.Short backed decodes is = search rules
+no_fault backs (Ok committed) begins live has_digest (records.Bad at) backed decodes is = search rules
+no_fault backs (Ok committed) begins live has_digest records.Inconsistent backed decodes is = search rules
+no_fault backs (Ok committed) begins live has_digest records.Digest backed decodes is = search rules
 no_fault backs (Err other) begins live has_digest fault backed decodes is = backed
 
 -- If the loaded bytes back the live sides, going back to them is a restart.
 restarts_so : {L K : Type 0} (effects : Effects L K) (backs : L → L → Type 0) (bytes : Option (List ℕ)) (plan : Option NextCall)
     (old new : L) (answer : Result (Unit {0}) DeskFault)
-    → Allows {X = Unit {0}} plan (Ok tt) → IsBacked effects backs bytes old → GoesBackToLanded effects bytes old answer new
-    → IfErr answer (IsReadFault effects.has_digest) → Restarts (landed_live effects bytes old) plan answer new
+    → Allows {X = Unit {0}} plan (Ok tt) → IsBacked effects backs bytes old → GoesBackToCommitted effects bytes old answer new
+    → IfErr answer (IsReadFault effects.has_digest) → Restarts (committed_live effects bytes old) plan answer new
 restarts_so effects backs bytes plan old new (Ok done) allows backed goes is = (goes, allows)
 restarts_so effects backs (Some bytes) plan old new (Err (faults.Saved fault)) allows backed goes is =
     absurd (no_fault backs (effects.read bytes) (effects.begins bytes) old effects.has_digest fault backed goes.0 is)
 restarts_so effects backs (Some bytes) plan old new (Err faults.OutOfMemory) allows backed goes is = tt
 restarts_so effects backs bytes plan old new (Err other) allows backed goes is = absurd goes
 
--- If an honest store backs the live sides, going back to the bytes that it loads is a restart.
+-- If a correct store backs the live sides, going back to the bytes that it loads is a restart.
 pub restarts_to : {L K X : Type 0} (effects : Effects L K) (backs : L → L → Type 0) {bytes_of : X → List ℕ}
     {before after : StoreState} {found : Option X} (old new : L) (answer : Result (Unit {0}) DeskFault)
     → StoreLoads bytes_of before (Ok found) after
-    → (before.is_honest ≡ true → IsBacked effects backs before.landed old)
-    → GoesBackToLanded effects (option_map bytes_of found) old answer new → IfErr answer (IsReadFault effects.has_digest)
-    → before.is_honest ≡ true → Restarts (landed_live effects before.landed old) before.plan answer new
-restarts_to effects backs {bytes_of} {before} {after} {found} old new answer store backed goes is honest =
-    subst (λ o. IsBacked effects backs o old → Restarts (landed_live effects o old) before.plan answer new) (store.loaded honest)
+    → (before.is_correct ≡ true → IsBacked effects backs before.committed old)
+    → GoesBackToCommitted effects (option_map bytes_of found) old answer new → IfErr answer (IsReadFault effects.has_digest)
+    → before.is_correct ≡ true → Restarts (committed_live effects before.committed old) before.plan answer new
+restarts_to effects backs {bytes_of} {before} {after} {found} old new answer store backed goes is correct =
+    subst (λ o. IsBacked effects backs o old → Restarts (committed_live effects o old) before.plan answer new)
+    (store.loaded correct)
     (λ backs_old. restarts_so effects backs (option_map bytes_of found) before.plan old new answer
-    (allows_done before.plan found (store.planned honest)) backs_old goes is) (backed honest)
+    (allows_done before.plan found (store.planned correct)) backs_old goes is) (backed correct)
 
 -- ---- sending
 
@@ -432,29 +435,30 @@ message_stays [] more n bytes are e = absurd cc
 message_stays (a ∷ issued) more zero bytes are e = (a, refl, are.0, cc)
 message_stays (a ∷ issued) more (suc n) bytes are e = message_stays issued more n bytes are.1 e
 
--- If the landed record has `bytes` as message `number`, they encode message `number` of the live side. A desk without a
--- landed record has no such message (`inl`). Otherwise the landed messages are a prefix of the live ones (`inr`).
-pub message_released : (landed_record : LandedBytes) (live : Side) (released number : ℕ) (bytes : List ℕ)
-    → HoldsReleased landed_record live released → 1 ≤ number → slice_get landed_record.pieces (number - 1) ≡ Some bytes
+-- If the committed record has `bytes` as message `number`, they encode message `number` of the live side. A desk
+-- without a committed record has no such message (`inl`). Otherwise the committed messages are a prefix of the live
+-- ones (`inr`).
+pub message_released : (committed_record : CommittedBytes) (live : Side) (released number : ℕ) (bytes : List ℕ)
+    → HoldsReleased committed_record live released → 1 ≤ number → slice_get committed_record.pieces (number - 1) ≡ Some bytes
     → (a : Apdu) × (message (issued_of live) number ≡ Some a) × IsApdu a × (bytes ≡ encoding a)
-message_released landed_record live released zero bytes keeps first e = absurd (omega (arith, first))
-message_released landed_record live released (suc n) bytes (inl none) first e =
-    absurd (subst (λ (k : LandedBytes). slice_get k.pieces (suc n - 1) ≡ Some bytes → ⊥) (sym none.0) (λ found. cc) e)
-message_released landed_record live released (suc n) bytes (inr (side, is, of)) first e =
+message_released committed_record live released zero bytes keeps first e = absurd (omega (arith, first))
+message_released committed_record live released (suc n) bytes (inl none) first e =
+    absurd (subst (λ (k : CommittedBytes). slice_get k.pieces (suc n - 1) ≡ Some bytes → ⊥) (sym none.0) (λ found. cc) e)
+message_released committed_record live released (suc n) bytes (inr (side, is, of)) first e =
     let at : suc n - 1 ≡ n = omega arith in
     let piece : slice_get (map encoding (issued_of side)) n ≡ Some bytes =
     ap (slice_get (map encoding (issued_of side))) (sym at)
-    ∙ subst (λ (k : LandedBytes). slice_get k.pieces (suc n - 1) ≡ Some bytes) is.1 e in
+    ∙ subst (λ (k : CommittedBytes). slice_get k.pieces (suc n - 1) ≡ Some bytes) is.1 e in
     let found = message_stays (issued_of side) of.prefix.0 n bytes is.0.1.issued piece in
     (found.0, subst (λ apdus. slice_get apdus n ≡ Some found.0) (sym of.prefix.1) found.1, found.2, found.3)
 
--- If a released message is taken from the landed record, the answer with its bytes is as `Sends` says.
-pub sends_released : {X : Type 0} (view : X → List ℕ) (value : X) (landed_record : LandedBytes) (live : Side)
+-- If a released message is taken from the committed record, the answer with its bytes is as `Sends` says.
+pub sends_released : {X : Type 0} (view : X → List ℕ) (value : X) (committed_record : CommittedBytes) (live : Side)
     (released number : ℕ) (bytes : List ℕ)
-    → HoldsReleased landed_record live released → 1 ≤ number → number ≤ released
-    → slice_get landed_record.pieces (number - 1) ≡ Some bytes → view value ≡ bytes
+    → HoldsReleased committed_record live released → 1 ≤ number → number ≤ released
+    → slice_get committed_record.pieces (number - 1) ≡ Some bytes → view value ≡ bytes
     → Sends view (message (issued_of live) number) (nat_le number released) (Ok value)
-sends_released view value landed_record live released number bytes keeps first few e are =
-    let found = message_released landed_record live released number bytes keeps first e in
+sends_released view value committed_record live released number bytes keeps first few e are =
+    let found = message_released committed_record live released number bytes keeps first e in
     subst (λ m. Sends view m (nat_le number released) (Ok value)) (sym found.1)
     (subst (λ b. Sends view (Some found.0) b (Ok value)) (sym (le-leb number released few)) (found.2, are ∙ found.3))

@@ -2,4 +2,4 @@ pub mod Desks
 pub mod Contents
 pub mod Places
 pub mod BadAnswers
-pub mod LandedMessages
+pub mod CommittedMessages

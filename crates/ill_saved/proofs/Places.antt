@@ -6,7 +6,7 @@ use Rattle.std.proofs.lemmas.List.{map-append, take_at, drop_at, drop-drop, take
 use Rattle.std.proofs.lemmas.List.Elements.{All-head, All-tail, All-push, All-weaker}
 use Rattle.ill_values.specs.declared.apdu.Apdu.{Apdu}
 use Rattle.ill_der.specs.ShortForm.{encoding}
-use Rattle.ill_saved.specs.declared.landed_record.Place.{Place}
+use Rattle.ill_saved.specs.declared.committed_record.Place.{Place}
 use Rattle.ill_record.specs.declared.role.Role.TheVariants as roles
 use Rattle.ill_record.specs.declared.side.Side.{Side}
 use Rattle.ill_record.specs.declared.side.Side.TheVariants as sides
@@ -15,8 +15,9 @@ use Rattle.ill_record.specs.Records.{due_octets, heading, requester_states, resp
 use Rattle.ill_record.specs.Records.{encode_start, record_encoding}
 use Rattle.ill_record.specs.declared.side.Standing.{Standing}
 use Rattle.ill_record.specs.Side.{issued_of, standing_of}
-use Rattle.ill_saved.specs.LandedBytes.{LandedBytes, no_landed_record, IsLandedRecord, HoldsReleased, piece_at, IsWithin}
-use Rattle.ill_saved.specs.LandedBytes.{EndsWith}
+use Rattle.ill_saved.specs.CommittedBytes.{CommittedBytes, no_committed_record, IsCommittedRecord, HoldsReleased, piece_at}
+use Rattle.ill_saved.specs.CommittedBytes.{IsWithin}
+use Rattle.ill_saved.specs.CommittedBytes.{EndsWith}
 use Rattle.std.specs.Prelude.{IfOk}
 use Rattle.ill_record.specs.Ranges.{Each, IsSide}
 use Rattle.ill_values.specs.Apdu.{IsApdu}
@@ -153,62 +154,63 @@ ends_with_messages (sides.Responder y) =
     request after_request in
     ends_after (encode_start roles.Responder) messages (head ++ rest) (ends_after head messages rest after_numbers)
 
--- ---- a side that begins with the messages of the landed record
+-- ---- a side that begins with the messages of the committed record
 
--- The messages of the landed record, followed by `others`, are the issued messages of a side.
-pub record Continues (landed_record : LandedBytes) (issued others : List Apdu) : Type 0 where
-  pub messages : landed_record.messages ++ encode_all encoding others ≡ encode_all encoding issued
-  pub pieces : landed_record.pieces ++ map encoding others ≡ map encoding issued
+-- The messages of the committed record, followed by `others`, are the issued messages of a side.
+pub record Continues (committed_record : CommittedBytes) (issued others : List Apdu) : Type 0 where
+  pub messages : committed_record.messages ++ encode_all encoding others ≡ encode_all encoding issued
+  pub pieces : committed_record.pieces ++ map encoding others ≡ map encoding issued
   pub range : Each IsApdu others → Each IsApdu issued
 
--- If `landed_record` is that of `side`, its messages followed by `more` are those of `side` followed by `more`.
-continues_prefix : (landed_record : LandedBytes) (side : Side) (more : List Apdu) → IsLandedRecord landed_record side
-    → Continues landed_record (issued_of side ++ more) more
-continues_prefix landed_record side more is = record {
-  messages = ap (λ (k : LandedBytes). k.messages ++ encode_all encoding more) is.1
+-- If `committed_record` is that of `side`, its messages followed by `more` are those of `side` followed by `more`.
+continues_prefix : (committed_record : CommittedBytes) (side : Side) (more : List Apdu) → IsCommittedRecord committed_record side
+    → Continues committed_record (issued_of side ++ more) more
+continues_prefix committed_record side more is = record {
+  messages = ap (λ (k : CommittedBytes). k.messages ++ encode_all encoding more) is.1
       ∙ sym (encode_both encoding (issued_of side) more);
-  pieces = ap (λ (k : LandedBytes). k.pieces ++ map encoding more) is.1 ∙ sym (map-append encoding (issued_of side) more);
+  pieces = ap (λ (k : CommittedBytes). k.pieces ++ map encoding more) is.1 ∙ sym (map-append encoding (issued_of side) more);
   range = λ others. each_both IsApdu (issued_of side) more is.0.1.issued others;
 }
 
--- If there is no landed record, `others` are all messages.
-continues_none : (landed_record : LandedBytes) (issued : List Apdu) → landed_record ≡ no_landed_record
-    → Continues landed_record issued issued
-continues_none landed_record issued none = record {
-  messages = ap (λ (k : LandedBytes). k.messages ++ encode_all encoding issued) none;
-  pieces = ap (λ (k : LandedBytes). k.pieces ++ map encoding issued) none;
+-- If there is no committed record, `others` are all messages.
+continues_none : (committed_record : CommittedBytes) (issued : List Apdu) → committed_record ≡ no_committed_record
+    → Continues committed_record issued issued
+continues_none committed_record issued none = record {
+  messages = ap (λ (k : CommittedBytes). k.messages ++ encode_all encoding issued) none;
+  pieces = ap (λ (k : CommittedBytes). k.pieces ++ map encoding issued) none;
   range = λ all. all;
 }
 
--- The messages of the landed record, followed by the messages that are not released, are those of the live side.
-pub landed_continues : (landed_record : LandedBytes) (live : Side) (released : ℕ) (others : List Apdu)
-    → HoldsReleased landed_record live released
-    → others ≡ drop released (issued_of live) → Continues landed_record (issued_of live) others
-landed_continues landed_record live released others (inl none) e =
-    subst (λ more. Continues landed_record (issued_of live) more) (sym (e ∙ ap (λ n. drop n (issued_of live)) none.1))
-    (continues_none landed_record (issued_of live) none.0)
-landed_continues landed_record live released others (inr (side, is, of)) e =
+-- The messages of the committed record, followed by the messages that are not released, are those of the live side.
+pub committed_continues : (committed_record : CommittedBytes) (live : Side) (released : ℕ) (others : List Apdu)
+    → HoldsReleased committed_record live released
+    → others ≡ drop released (issued_of live) → Continues committed_record (issued_of live) others
+committed_continues committed_record live released others (inl none) e =
+    subst (λ more. Continues committed_record (issued_of live) more) (sym (e ∙ ap (λ n. drop n (issued_of live)) none.1))
+    (continues_none committed_record (issued_of live) none.0)
+committed_continues committed_record live released others (inr (side, is, of)) e =
     let same : others ≡ of.prefix.0 =
     e ∙ (ap (drop released) of.prefix.1 ∙ drop_at (issued_of side) of.prefix.0 released (sym of.all)) in
-    subst (λ more. Continues landed_record (issued_of live) more) (sym same)
-    (subst (λ issued. Continues landed_record issued of.prefix.0) (sym of.prefix.1)
-    (continues_prefix landed_record side of.prefix.0 is))
+    subst (λ more. Continues committed_record (issued_of live) more) (sym same)
+    (subst (λ issued. Continues committed_record issued of.prefix.0) (sym of.prefix.1)
+    (continues_prefix committed_record side of.prefix.0 is))
 
--- Let the encodings of `others` be added to `landed_record`, with the standing and the record of `side`.
--- Then the result is the landed record of `side`.
-pub next_landed : {E : Type 0} (result : Result LandedBytes E) (landed_record : LandedBytes) (side : Side) (standing : Standing)
+-- Let the encodings of `others` be added to `committed_record`, with the standing and the record of `side`.
+-- Then the result is the committed record of `side`.
+pub next_committed : {E : Type 0} (result : Result CommittedBytes E) (committed_record : CommittedBytes) (side : Side)
+    (standing : Standing)
     (others : List Apdu) (bytes : List ℕ)
-    → Continues landed_record (issued_of side) others → IsSide side
+    → Continues committed_record (issued_of side) others → IsSide side
     → standing ≡ standing_of side → bytes ≡ record_encoding side
     → IfOk result (λ next. next ≡ record {
       standing = Some standing;
       bytes = bytes;
-      messages = landed_record.messages ++ encode_all encoding others;
-      pieces = landed_record.pieces ++ map encoding others;
+      messages = committed_record.messages ++ encode_all encoding others;
+      pieces = committed_record.pieces ++ map encoding others;
     })
-    → IfOk result (λ next. IsLandedRecord next side)
-next_landed (Ok next) landed_record side standing others bytes more is stands encoded e =
+    → IfOk result (λ next. IsCommittedRecord next side)
+next_committed (Ok next) committed_record side standing others bytes more is stands encoded e =
     let messages = more.messages in
     let pieces = more.pieces in
     (is, cc)
-next_landed (Err fault) landed_record side standing others bytes more is stands encoded e = tt
+next_committed (Err fault) committed_record side standing others bytes more is stands encoded e = tt

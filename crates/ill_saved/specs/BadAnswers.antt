@@ -1,5 +1,5 @@
--- These are answers that a call of a desk or of its store may not give, and changes that it may not make. By the laws the
--- definitions of the calls exclude them all.
+-- These are answers that a call of a desk or of its store may not give, and changes that it may not make. By the laws
+-- the definitions of the calls exclude them all.
 use Rattle.std.specs.Prelude.{◌≡◌, ℕ, Bool, false, List, Option, Some, Result, Ok, Err}
 use Rattle.ill_der.specs.declared.fault.DerFault.{DerFault}
 use Rattle.ill_core.specs.declared.refusal.Refusal.{Refusal}
@@ -58,11 +58,11 @@ pub data CannotRead (has_digest : Bool) : DeskFault → Type 0 where
 
 -- ---- changes
 
--- A save of `bytes` over the landed `old` may not land `new`. Each case gives the answer, and why `new` is wrong.
-pub data LandsWrong (bytes : List ℕ) (old new : Option (List ℕ)) : Result (Unit {0}) DeskFault → Type 0 where
-  done : (new ≡ Some bytes → ⊥) → LandsWrong bytes old new (Ok tt)
-  failed : (new ≡ old → ⊥) → (new ≡ Some bytes → ⊥) → LandsWrong bytes old new (Err (Store stores.Failed))
-  memory : (new ≡ old → ⊥) → LandsWrong bytes old new (Err OutOfMemory)
+-- A save of `bytes` over the committed `old` may not commit `new`. Each case gives the answer, and why `new` is wrong.
+pub data CommitsWrong (bytes : List ℕ) (old new : Option (List ℕ)) : Result (Unit {0}) DeskFault → Type 0 where
+  done : (new ≡ Some bytes → ⊥) → CommitsWrong bytes old new (Ok tt)
+  failed : (new ≡ old → ⊥) → (new ≡ Some bytes → ⊥) → CommitsWrong bytes old new (Err (Store stores.Failed))
+  memory : (new ≡ old → ⊥) → CommitsWrong bytes old new (Err OutOfMemory)
 
 -- A save may not leave the plan `new`: it is neither the plan `old` nor the plan after a call.
 pub data PlansWrong (old new : Option NextCall) : Type 0 where

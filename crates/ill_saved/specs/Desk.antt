@@ -10,7 +10,7 @@ use Rattle.ill_saved.specs.declared.fault.DeskFault.{DeskFault}
 use Rattle.ill_saved.specs.declared.fault.DeskFault.TheVariants.{Bytes, Trailing, Exists, NoRecord, Store, Saved, OutOfMemory}
 use Rattle.ill_saved.specs.Holdings.{Effects, DeskTakesApdu, IsReadFault}
 use Rattle.ill_record.specs.Records.{Decodes}
-use Rattle.ill_store.specs.Store.{Allows, LandsAtFailure, HasRisen, StoreState, plan_after_call}
+use Rattle.ill_store.specs.Store.{Allows, CommitsAtFailure, HasRisen, StoreState, plan_after_call}
 
 -- A desk: the sides that it holds in memory, and their store.
 pub record DeskOf (L S : Type 0) : Type 0 where
@@ -38,16 +38,16 @@ IsOneApdu (Ok (a, [])) (Ok found) = found ≡ a
 IsOneApdu (Ok (a, byte ∷ rest)) (Err Trailing) = Unit {0}
 IsOneApdu (Ok found) answer = ⊥
 
--- A desk with an honest store has saved `bytes`, and `new` are the landed bytes.
--- If the save is done, `bytes` have landed. If memory ran out, nothing has changed.
--- After `Failed`, the old or the new bytes have landed. Unless memory ran out, `plan` allows the store's answer.
-abbrev pub SaveLands : Option NextCall → List ℕ → Result (Unit {0}) DeskFault → Option (List ℕ) →
+-- A desk with a correct store has saved `bytes`, and `new` are the committed bytes. If the save is done, `bytes` are
+-- committed. If memory ran out, nothing has changed. After `Failed`, the old or the new bytes are committed. Unless
+-- memory ran out, `plan` allows the store's answer.
+abbrev pub SaveCommits : Option NextCall → List ℕ → Result (Unit {0}) DeskFault → Option (List ℕ) →
     Option (List ℕ) → Type 0
-SaveLands plan bytes (Ok done) old new = (new ≡ Some bytes) × Allows {X = Unit {0}} plan (Ok tt)
-SaveLands plan bytes (Err (Store stores.Failed)) old new =
-    LandsAtFailure plan bytes old new × Allows {X = Unit {0}} plan (Err stores.Failed)
-SaveLands plan bytes (Err OutOfMemory) old new = new ≡ old
-SaveLands plan bytes (Err other) old new = ⊥
+SaveCommits plan bytes (Ok done) old new = (new ≡ Some bytes) × Allows {X = Unit {0}} plan (Ok tt)
+SaveCommits plan bytes (Err (Store stores.Failed)) old new =
+    CommitsAtFailure plan bytes old new × Allows {X = Unit {0}} plan (Err stores.Failed)
+SaveCommits plan bytes (Err OutOfMemory) old new = new ≡ old
+SaveCommits plan bytes (Err other) old new = ⊥
 
 -- If the answer to a save is not `OutOfMemory`, the live sides were encoded, and `Holds` holds of them.
 abbrev pub IfEncoded : {L : Type 0} → (L → Type 0) → Result (Unit {0}) DeskFault → L → Type 0
@@ -68,23 +68,23 @@ IsSaveFault (Err other) = ⊥
 
 -- ---- loading
 
--- The answer of a load from an honest store is the landed value, `None` if nothing has landed, or a fault.
--- The fault comes from the store as planned, from reading the bytes, or from a lack of memory.
--- `read` decodes bytes. `begins` is true of bytes if decoding them may take memory.
+-- The answer of a load from a correct store is the committed value, `None` if nothing is committed, or a fault. The
+-- fault comes from the store as planned, from reading the bytes, or from a lack of memory. `read` decodes bytes.
+-- `begins` is true of bytes if decoding them may take memory.
 abbrev pub Loads : {V : Type 0} → (List ℕ → Result V RecordFault) → (List ℕ → Bool) → Option (List ℕ) →
     Option NextCall → Result (Option V) DeskFault → Type 0
 Loads read begins None plan (Ok None) = Allows {X = Unit {0}} plan (Ok tt)
 Loads read begins (Some bytes) plan (Ok (Some value)) =
     (read bytes ≡ Ok value) × Allows {X = Unit {0}} plan (Ok tt)
-Loads read begins landed plan (Err (Store fault)) = Allows {X = Unit {0}} plan (Err fault)
+Loads read begins committed plan (Err (Store fault)) = Allows {X = Unit {0}} plan (Err fault)
 Loads read begins (Some bytes) plan (Err (Saved fault)) =
     Decodes (read bytes) (begins bytes) (Err fault) × Allows {X = Unit {0}} plan (Ok tt)
-Loads read begins landed plan (Err OutOfMemory) = Unit {0}
-Loads read begins landed plan answer = ⊥
+Loads read begins committed plan (Err OutOfMemory) = Unit {0}
+Loads read begins committed plan answer = ⊥
 
--- `leaves` holds of each record that a loss of power may leave. Each of these records is `landed`.
-abbrev pub LeavesLanded : Option (List ℕ) → (Option (List ℕ) → Type 0) → Type 0
-LeavesLanded landed leaves = (left : Option (List ℕ)) → leaves left → left ≡ landed
+-- `leaves` holds of each record that a loss of power may leave. Each of these records is `committed`.
+abbrev pub LeavesCommitted : Option (List ℕ) → (Option (List ℕ) → Type 0) → Type 0
+LeavesCommitted committed leaves = (left : Option (List ℕ)) → leaves left → left ≡ committed
 
 -- `before` holds of each record that a loss of power might have left before a call. `after` holds of each that it may
 -- leave after the call. Each record of `after` is `other`, or one of `before`.
@@ -98,14 +98,14 @@ IsLoadFault has_digest (Store stores.Failed) = Unit {0}
 IsLoadFault has_digest (Store stores.TooLarge) = Unit {0}
 IsLoadFault has_digest fault = IsReadFault has_digest fault
 
--- A desk restarts from an honest store. If the restart is done, the live value is the landed one.
--- It can fail as the store plans, or if memory runs out.
+-- A desk restarts from a correct store. If the restart is done, the live value is the committed one. It can fail as the
+-- store plans, or if memory runs out.
 abbrev pub Restarts : {V : Type 0} → Result V RecordFault → Option NextCall → Result (Unit {0}) DeskFault →
     V → Type 0
-Restarts landed plan (Ok done) new = (landed ≡ Ok new) × Allows {X = Unit {0}} plan (Ok tt)
-Restarts landed plan (Err (Store fault)) new = Allows {X = Unit {0}} plan (Err fault)
-Restarts landed plan (Err OutOfMemory) new = Unit {0}
-Restarts landed plan (Err other) new = ⊥
+Restarts committed plan (Ok done) new = (committed ≡ Ok new) × Allows {X = Unit {0}} plan (Ok tt)
+Restarts committed plan (Err (Store fault)) new = Allows {X = Unit {0}} plan (Err fault)
+Restarts committed plan (Err OutOfMemory) new = Unit {0}
+Restarts committed plan (Err other) new = ⊥
 
 -- If memory ran out, the load of the store takes memory: `takes_memory` is true.
 abbrev pub RunsOutInLoad : {X : Type 0} → Bool → Result X DeskFault → Type 0
@@ -113,10 +113,10 @@ RunsOutInLoad true answer = Unit {0}
 RunsOutInLoad false (Err OutOfMemory) = ⊥
 RunsOutInLoad false answer = Unit {0}
 
--- If nothing has landed in an honest store, memory runs out only in its load.
+-- If nothing is committed in a correct store, memory runs out only in its load.
 abbrev pub NothingTakesMemory : {X : Type 0} → StoreState → Bool → Result X DeskFault → Type 0
 NothingTakesMemory old takes_memory answer =
-    old.is_honest ≡ true → old.landed ≡ None → RunsOutInLoad takes_memory answer
+    old.is_correct ≡ true → old.committed ≡ None → RunsOutInLoad takes_memory answer
 
 -- All messages that the live sides have issued are released.
 abbrev pub AreAllReleased : {L K : Type 0} → Effects L K → L → Type 0
@@ -139,23 +139,24 @@ CountsDeskFailure answer old new = (old ≤ new) × DeskFailsCounted answer old 
 
 -- ---- the store of a desk
 
--- The store of a desk is in state `new` after a call that only loads. Its path and its honesty stay, its failures are
--- counted, and its plan is spent. If it is honest, its landed bytes are unchanged.
+-- The store of a desk is in state `new` after a call that only loads. It has the same path, is as
+-- correct as before, counts its failures, and has spent its plan. If it is correct, its committed bytes are unchanged.
 pub record DeskLoads {X : Type 0} (old : StoreState) (answer : Result X DeskFault) (new : StoreState) : Type 0 where
   pub path : new.path ≡ old.path
-  pub landed : old.is_honest ≡ true → new.landed ≡ old.landed
+  pub committed : old.is_correct ≡ true → new.committed ≡ old.committed
   pub counted : CountsDeskFailure answer old.failures new.failures
-  pub honest : new.is_honest ≡ old.is_honest
+  pub correct : new.is_correct ≡ old.is_correct
   pub plan : new.plan ≡ plan_after_call old.plan
 
--- The store of a desk is in state `new` after a save of `bytes`. Its path and its honesty stay, its failures are
--- counted, and its plan is as `PlanAfter` says. If it is honest, `SaveLands` gives its landed bytes.
+-- The store of a desk is in state `new` after a save of `bytes`. It has the same path, is as
+-- correct as before, and counts its failures. Its plan is as `PlanAfter` says. If it is correct, `SaveCommits` gives
+-- its committed bytes.
 pub record DeskSaves (bytes : List ℕ) (old : StoreState) (answer : Result (Unit {0}) DeskFault) (new : StoreState)
     : Type 0 where
   pub path : new.path ≡ old.path
-  pub landed : old.is_honest ≡ true → SaveLands old.plan bytes answer old.landed new.landed
+  pub committed : old.is_correct ≡ true → SaveCommits old.plan bytes answer old.committed new.committed
   pub counted : CountsDeskFailure answer old.failures new.failures
-  pub honest : new.is_honest ≡ old.is_honest
+  pub correct : new.is_correct ≡ old.is_correct
   pub plan : PlanAfter answer old.plan new.plan
 
 -- ---- beginning
@@ -174,14 +175,14 @@ store_after store (Err fault) = fault.1
 abbrev pub store_of : {L S F : Type 0} → Result (DeskOf L S) (F × S) → S
 store_of answer = store_after (λ desk. desk.store) answer
 
--- The answer of creating a desk over an honest store: done if nothing has landed, and otherwise `Exists`.
--- The store may also fail as planned, and memory can run out.
+-- The answer of creating a desk over a correct store: done if nothing is committed, and otherwise `Exists`. The store
+-- may also fail as planned, and memory can run out.
 abbrev pub Creates : Option (List ℕ) → Option NextCall → Result (Unit {0}) DeskFault → Type 0
 Creates None plan (Ok done) = Allows {X = Unit {0}} plan (Ok tt)
 Creates (Some bytes) plan (Err Exists) = Allows {X = Unit {0}} plan (Ok tt)
-Creates landed plan (Err (Store fault)) = Allows {X = Unit {0}} plan (Err fault)
-Creates landed plan (Err OutOfMemory) = Unit {0}
-Creates landed plan answer = ⊥
+Creates committed plan (Err (Store fault)) = Allows {X = Unit {0}} plan (Err fault)
+Creates committed plan (Err OutOfMemory) = Unit {0}
+Creates committed plan answer = ⊥
 
 -- The answer of creating a desk is that it is done, `Exists`, a fault of the store, or that memory ran out.
 abbrev pub IsCreateAnswer : Result (Unit {0}) DeskFault → Type 0
@@ -192,19 +193,19 @@ IsCreateAnswer (Err (Store stores.TooLarge)) = Unit {0}
 IsCreateAnswer (Err OutOfMemory) = Unit {0}
 IsCreateAnswer (Err other) = ⊥
 
--- A desk that starts over an honest store has the live value that is read from the landed bytes.
--- If nothing has landed, the answer is `NoRecord`. Other faults come from the store, the bytes or a lack of memory.
--- `read` decodes bytes, `begins` says if that may take memory, and `live` gives the live value of a desk.
+-- A desk that starts over a correct store has the live value that is read from the committed bytes. If nothing is
+-- committed, the answer is `NoRecord`. Other faults come from the store, the bytes or a lack of memory. `read` decodes
+-- bytes, `begins` says if that may take memory, and `live` gives the live value of a desk.
 abbrev pub Begins : {V D S : Type 0} → (List ℕ → Result V RecordFault) → (List ℕ → Bool) → (D → V) →
     Option (List ℕ) → Option NextCall → Result D (DeskFault × S) → Type 0
 Begins read begins live (Some bytes) plan (Ok desk) =
     (read bytes ≡ Ok (live desk)) × Allows {X = Unit {0}} plan (Ok tt)
 Begins read begins live None plan (Err (NoRecord, store)) = Allows {X = Unit {0}} plan (Ok tt)
-Begins read begins live landed plan (Err (Store fault, store)) = Allows {X = Unit {0}} plan (Err fault)
+Begins read begins live committed plan (Err (Store fault, store)) = Allows {X = Unit {0}} plan (Err fault)
 Begins read begins live (Some bytes) plan (Err (Saved fault, store)) =
     Decodes (read bytes) (begins bytes) (Err fault) × Allows {X = Unit {0}} plan (Ok tt)
-Begins read begins live landed plan (Err (OutOfMemory, store)) = Unit {0}
-Begins read begins live landed plan answer = ⊥
+Begins read begins live committed plan (Err (OutOfMemory, store)) = Unit {0}
+Begins read begins live committed plan answer = ⊥
 
 -- The answer of starting a desk is that it is done, `NoRecord`, or a fault of loading. `has_digest` is true if a record
 -- ends with a digest.

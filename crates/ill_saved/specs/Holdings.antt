@@ -46,7 +46,7 @@ pub record Effects (L K : Type 0) : Type 0 where
   pub first_key : Option K
   -- Returns the sides with all of their messages released.
   pub saves : L → L
-  -- Returns the sides to which the desk goes back if nothing has landed.
+  -- Returns the sides to which the desk goes back if nothing is committed.
   pub unsaved : L → L
   -- Returns the bytes of the record of the sides.
   pub encoding : L → List ℕ
@@ -80,15 +80,15 @@ DeskActs effects old key action (Err fault) new =
     (effects.acts old key action ≡ Err fault) × (is_refusal fault ≡ true) × (new ≡ old)
 
 -- The desk would take the APDU `a`, and the side of `a` needs memory for it.
-abbrev pub WantsMemory : {L K : Type 0} → Effects L K → L → Apdu → Type 0
-WantsMemory effects live a =
+abbrev pub RunsOutOfMemory : {L K : Type 0} → Effects L K → L → Apdu → Type 0
+RunsOutOfMemory effects live a =
     ((effects.takes live a).0 ≡ Ok Taken) × (takes_memory (effects.side_for (effects.key_of a) live).side a ≡ true)
 
 -- The desk with the sides `old` answers the APDU `a`, and has the sides `new` after it.
 -- Memory can run out only if the side needs memory for `a`, and then nothing changes.
 abbrev pub DeskTakesApdu : {L K : Type 0} → Effects L K → L → Apdu → Result Taking DeskFault → L → Type 0
 DeskTakesApdu effects old a (Ok taking) new = effects.takes old a ≡ (Ok taking, new)
-DeskTakesApdu effects old a (Err OutOfMemory) new = WantsMemory effects old a × (new ≡ old)
+DeskTakesApdu effects old a (Err OutOfMemory) new = RunsOutOfMemory effects old a × (new ≡ old)
 DeskTakesApdu effects old a (Err fault) new = (effects.takes old a ≡ (Err fault, new)) × (is_refusal fault ≡ true)
 
 -- Returns the sides after a save. If the save failed, they are unchanged.
@@ -112,7 +112,7 @@ SendsHeld view None number answer = answer ≡ Err NoSuchTransaction
 SendsHeld view (Some held) number answer =
     Sends view (message (issued_of held.side) number) (nat_le number held.released) answer
 
--- ---- landed sides that back live ones
+-- ---- committed sides that back live ones
 
 -- `side` backs the live side: it is consistent and has issued at least the `released` messages.
 -- Transitions lead from `side` to the live side.
@@ -121,24 +121,25 @@ pub record IsBackedBy (side live : Side) (released : ℕ) : Type 0 where
   pub follows : IsAfterTransitions side live
   pub has-released : released ≤ length (issued_of side)
 
--- Returns the sides that the landed bytes encode, or a fault. If nothing has landed, it returns the `unsaved` sides.
-abbrev pub landed_live : {L K : Type 0} → Effects L K → Option (List ℕ) → L → Result L RecordFault
-landed_live effects None live = Ok (effects.unsaved live)
-landed_live effects (Some bytes) live = effects.read bytes
+-- Returns the sides that the committed bytes encode, or a fault. If nothing is committed, it returns the `unsaved`
+-- sides.
+abbrev pub committed_live : {L K : Type 0} → Effects L K → Option (List ℕ) → L → Result L RecordFault
+committed_live effects None live = Ok (effects.unsaved live)
+committed_live effects (Some bytes) live = effects.read bytes
 
 -- Reading gave sides that back the live ones, and no fault.
 abbrev pub IsBackedByRead : {L : Type 0} → (L → L → Type 0) → Result L RecordFault → L → Type 0
-IsBackedByRead backs (Ok landed) live = backs landed live
+IsBackedByRead backs (Ok committed) live = backs committed live
 IsBackedByRead backs (Err fault) live = ⊥
 
--- The landed bytes back the live sides.
+-- The committed bytes back the live sides.
 abbrev pub IsBacked : {L K : Type 0} → Effects L K → (L → L → Type 0) → Option (List ℕ) → L → Type 0
-IsBacked effects backs landed live = IsBackedByRead backs (landed_live effects landed live) live
+IsBacked effects backs committed live = IsBackedByRead backs (committed_live effects committed live) live
 
--- The record that has landed backs the live sides. So does each record that a loss of power may leave.
-pub record IsDurablyBacked {L K : Type 0} (effects : Effects L K) (backs : L → L → Type 0) (landed : Option (List ℕ))
+-- The record that is committed backs the live sides. So does each record that a loss of power may leave.
+pub record IsDurablyBacked {L K : Type 0} (effects : Effects L K) (backs : L → L → Type 0) (committed : Option (List ℕ))
     (leaves : Option (List ℕ) → Type 0) (live : L) : Type 0 where
-  pub now : IsBacked effects backs landed live
+  pub now : IsBacked effects backs committed live
   pub later : (left : Option (List ℕ)) → leaves left → IsBacked effects backs left live
 
 -- A loss of power during a save of the live sides leaves their record, or what it might have left before. Each of these
@@ -158,10 +159,10 @@ abbrev pub ReadHas : {L K : Type 0} → Effects L K → Result L RecordFault →
 ReadHas effects (Ok read) key number a = message (issued_of (effects.side_for key read).side) number ≡ Some a
 ReadHas effects (Err fault) key number a = ⊥
 
--- All landed bytes that back the old sides back the new ones.
+-- All committed bytes that back the old sides back the new ones.
 abbrev pub StaysBacked : {L K : Type 0} → Effects L K → (L → L → Type 0) → L → L → Type 0
 StaysBacked effects backs old new =
-    (landed : Option (List ℕ)) → IsBacked effects backs landed old → IsBacked effects backs landed new
+    (committed : Option (List ℕ)) → IsBacked effects backs committed old → IsBacked effects backs committed new
 
 -- ---- records
 
@@ -194,12 +195,12 @@ ReadsRecord effects bytes (Err (Saved fault)) = Decodes (effects.read bytes) (ef
 ReadsRecord effects bytes (Err OutOfMemory) = Unit {0}
 ReadsRecord effects bytes (Err other) = ⊥
 
--- If the answer is done, `new` are the sides that the landed bytes encode. If nothing has landed, `new` are the
+-- If the answer is done, `new` are the sides that the committed bytes encode. If nothing is committed, `new` are the
 -- `unsaved` sides.
--- A fault of the bytes or a lack of memory changes nothing. Memory can run out only for bytes that have landed.
-abbrev pub GoesBackToLanded : {L K : Type 0} → Effects L K → Option (List ℕ) → L → Result (Unit {0}) DeskFault → L → Type 0
-GoesBackToLanded effects landed old (Ok done) new = landed_live effects landed old ≡ Ok new
-GoesBackToLanded effects (Some bytes) old (Err (Saved fault)) new =
+-- A fault of the bytes or a lack of memory changes nothing. Memory can run out only for bytes that are committed.
+abbrev pub GoesBackToCommitted : {L K : Type 0} → Effects L K → Option (List ℕ) → L → Result (Unit {0}) DeskFault → L → Type 0
+GoesBackToCommitted effects committed old (Ok done) new = committed_live effects committed old ≡ Ok new
+GoesBackToCommitted effects (Some bytes) old (Err (Saved fault)) new =
     Decodes (effects.read bytes) (effects.begins bytes) (Err fault) × (new ≡ old)
-GoesBackToLanded effects (Some bytes) old (Err OutOfMemory) new = new ≡ old
-GoesBackToLanded effects landed old (Err other) new = ⊥
+GoesBackToCommitted effects (Some bytes) old (Err OutOfMemory) new = new ≡ old
+GoesBackToCommitted effects committed old (Err other) new = ⊥

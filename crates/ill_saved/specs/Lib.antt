@@ -1,6 +1,6 @@
 pub mod Faults
 pub mod Shown
-pub mod LandedBytes
+pub mod CommittedBytes
 pub mod Holdings
 pub mod OneSide
 pub mod Desk

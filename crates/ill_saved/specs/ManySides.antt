@@ -125,24 +125,24 @@ desk_takes live a =
     if is_own live.role a.body then (Err (Core WrongRole), live)
     else takes_reached live a (side_for_call live a.txn (is_ill_request a.body))
 
--- ---- the sides that have landed
+-- ---- the sides that are committed
 
 -- Returns the side of `txn` among the sides, or an idle one if there is none.
 abbrev pub side_for : Qualifiers → SidesOf → Side
 side_for txn all = found_or (idle_side all.role txn) (side_with txn all.sides)
 
--- In each transaction, the landed side has each released message, and transitions lead from it to the live side.
-pub record AreBackedBy (landed : SidesOf) (live : DeskContents) : Type 0 where
-  pub role : landed.role ≡ live.role
-  pub each : (txn : Qualifiers) → IsBackedBy (side_for txn landed) (held_for txn live).side (held_for txn live).released
+-- In each transaction, the committed side has each released message, and transitions lead from it to the live side.
+pub record AreBackedBy (committed : SidesOf) (live : DeskContents) : Type 0 where
+  pub role : committed.role ≡ live.role
+  pub each : (txn : Qualifiers) → IsBackedBy (side_for txn committed) (held_for txn live).side (held_for txn live).released
 
--- Some sides back the contents of the desk. They need not have landed.
+-- Some sides back the contents of the desk. They need not are committed.
 abbrev pub AreBackable : DeskContents → Type 0
-AreBackable live = (landed : SidesOf) × AreBackedBy landed live
+AreBackable live = (committed : SidesOf) × AreBackedBy committed live
 
--- The sides of `landed` back the contents `live`.
+-- The sides of `committed` back the contents `live`.
 abbrev pub ManyBack : DeskContents → DeskContents → Type 0
-ManyBack landed live = AreBackedBy (sides_held landed) live
+ManyBack committed live = AreBackedBy (sides_held committed) live
 
 -- ---- the effects of the calls
 

@@ -45,6 +45,6 @@ one_side = record {
   has_digest = false;
 }
 
--- The landed side backs the live one and its released messages.
+-- The committed side backs the live one and its released messages.
 abbrev pub OneBacks : DeskEntry → DeskEntry → Type 0
-OneBacks landed live = IsBackedBy landed.side live.side live.released
+OneBacks committed live = IsBackedBy committed.side live.side live.released

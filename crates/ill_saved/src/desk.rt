@@ -8,10 +8,10 @@ ghost use Rattle.ill_der.specs.ShortForm.{apdu_at};
 ghost use Rattle.ill_record.specs.Side.{issued_of, idle_of};
 ghost use Rattle.ill_saved.specs.Shown.{shown_of};
 ghost use Rattle.ill_record.specs.Sides.{found_by};
-ghost use Rattle.ill_saved.specs.Holdings.{DeskActs, DeskTakesApdu, SendsHeld, IsBackedInSave, IsDurablyBacked, IsReadAgain, held_after, landed_live};
+ghost use Rattle.ill_saved.specs.Holdings.{DeskActs, DeskTakesApdu, SendsHeld, IsBackedInSave, IsDurablyBacked, IsReadAgain, held_after, committed_live};
 ghost use Rattle.ill_saved.specs.OneSide.{OneBacks, alone, one_side};
 ghost use Rattle.ill_saved.specs.ManySides.{ManyBack, held_for, many_sides, no_sides, sides_held, txn_held};
-ghost use Rattle.ill_saved.specs.Desk.{DeskOf, DeskTakes, IsOneApdu, DeskSaves, IsSaveFault, IsLoadFault, Loads, Restarts, RestartLeaves, RunsOutInLoad, NothingTakesMemory, answer_of, store_of, Creates, IsCreateAnswer, Begins, IsStartAnswer, AreAllReleased, DeskLoads, IfEncoded, LeavesLanded, LeavesBeforeOr};
+ghost use Rattle.ill_saved.specs.Desk.{DeskOf, DeskTakes, IsOneApdu, DeskSaves, IsSaveFault, IsLoadFault, Loads, Restarts, RestartLeaves, RunsOutInLoad, NothingTakesMemory, answer_of, store_of, Creates, IsCreateAnswer, Begins, IsStartAnswer, AreAllReleased, DeskLoads, IfEncoded, LeavesCommitted, LeavesBeforeOr};
 
 use crate::fault::DeskFault;
 use crate::holdings::Holdings;
@@ -43,30 +43,30 @@ pub type Desk1<S> = AnyDesk<OneSide, S>;
 /// The sides of one library in many transactions, in memory and in a store. No side that is held is idle.
 pub type Desk<S> = AnyDesk<ManySides, S>;
 
-/// If the store is honest, the landed record backs the sides. So does each record that a loss of power may leave.
+/// If the store is correct, the committed record backs the sides. So does each record that a loss of power may leave.
 impl<H: Holdings, S: Store> Model for AnyDesk<H, S> {
     ghost Value = { DeskOf H S };
 
     ghost view = { λ desk. record { live = desk.held; store = desk.store } };
 
-    ghost invariant = { λ desk. (S.state desk.store).is_honest ≡ true →
-        IsDurablyBacked H.effects H.backs (S.state desk.store).landed (S.leaves desk.store) desk.held };
+    ghost invariant = { λ desk. (S.state desk.store).is_correct ≡ true →
+        IsDurablyBacked H.effects H.backs (S.state desk.store).committed (S.leaves desk.store) desk.held };
 }
 
 impl<H: Holdings, S: Store> AnyDesk<H, S> {
     /// Begins a desk with the sides that `first` gives, over a store without a record (otherwise `Exists`). Saves
     /// nothing. A fault returns the store. Once the desk has begun, a loss of power leaves no record.
     pub fn begin(alloc: Global, store: S, first: H::First) -> Result<AnyDesk<H, S>, (DeskFault, S)>
-        ensures creates { (S.state store).is_honest ≡ true →
-            Creates (S.state store).landed (S.state store).plan (answer_of result) }
+        ensures creates { (S.state store).is_correct ≡ true →
+            Creates (S.state store).committed (S.state store).plan (answer_of result) }
         ensures begins { IfOk result (λ desk. desk.live ≡ H.begun first) }
         ensures faults { IsCreateAnswer (answer_of result) }
         ensures memory { RunsOutInLoad (S.load_takes_memory store) (answer_of result) }
         ensures store { DeskLoads (S.state store) (answer_of result) (S.state (store_of result)) }
-        ensures lasts { (S.state store).is_honest ≡ true →
-            IfOk result (λ desk. LeavesLanded (S.state desk.store).landed (S.leaves desk.store)) }
-        ensures left { (S.state store).is_honest ≡ true →
-            LeavesBeforeOr (S.state store).landed (S.leaves store) (S.leaves (store_of result)) }
+        ensures lasts { (S.state store).is_correct ≡ true →
+            IfOk result (λ desk. LeavesCommitted (S.state desk.store).committed (S.leaves desk.store)) }
+        ensures left { (S.state store).is_correct ≡ true →
+            LeavesBeforeOr (S.state store).committed (S.leaves store) (S.leaves (store_of result)) }
     {
         AnyDesk::over(alloc, store, H::begin(alloc, first))
     }
@@ -75,16 +75,16 @@ impl<H: Holdings, S: Store> AnyDesk<H, S> {
     /// store.
     fn over(alloc: Global, store: S, held: H) -> Result<AnyDesk<H, S>, (DeskFault, S)>
         requires backed { H.backs (H.effects.unsaved held) held }
-        ensures creates { (S.state store).is_honest ≡ true →
-            Creates (S.state store).landed (S.state store).plan (answer_of result) }
+        ensures creates { (S.state store).is_correct ≡ true →
+            Creates (S.state store).committed (S.state store).plan (answer_of result) }
         ensures begins { IfOk result (λ desk. desk.live ≡ held) }
         ensures faults { IsCreateAnswer (answer_of result) }
         ensures memory { RunsOutInLoad (S.load_takes_memory store) (answer_of result) }
         ensures store { DeskLoads (S.state store) (answer_of result) (S.state (store_of result)) }
-        ensures lasts { (S.state store).is_honest ≡ true →
-            IfOk result (λ desk. LeavesLanded (S.state desk.store).landed (S.leaves desk.store)) }
-        ensures left { (S.state store).is_honest ≡ true →
-            LeavesBeforeOr (S.state store).landed (S.leaves store) (S.leaves (store_of result)) }
+        ensures lasts { (S.state store).is_correct ≡ true →
+            IfOk result (λ desk. LeavesCommitted (S.state desk.store).committed (S.leaves desk.store)) }
+        ensures left { (S.state store).is_correct ≡ true →
+            LeavesBeforeOr (S.state store).committed (S.leaves store) (S.leaves (store_of result)) }
     {
         let mut store = store;
         match store.load(alloc) {
@@ -97,17 +97,17 @@ impl<H: Holdings, S: Store> AnyDesk<H, S> {
     /// Starts a desk with the sides whose record `store` has (otherwise `NoRecord`). All their messages may be sent.
     /// A fault returns the store. Once the desk has started, a loss of power leaves this record.
     pub fn start(alloc: Global, store: S) -> Result<AnyDesk<H, S>, (DeskFault, S)>
-        ensures starts { (S.state store).is_honest ≡ true →
-            Begins H.effects.read H.effects.begins (λ desk. desk.live) (S.state store).landed (S.state store).plan result }
+        ensures starts { (S.state store).is_correct ≡ true →
+            Begins H.effects.read H.effects.begins (λ desk. desk.live) (S.state store).committed (S.state store).plan result }
         ensures whole { IfOk result (λ desk. AreAllReleased H.effects desk.live) }
         ensures rules { IfOk result (λ desk. H.backs desk.live desk.live) }
         ensures faults { IsStartAnswer H.effects.has_digest (answer_of result) }
         ensures memory { NothingTakesMemory (S.state store) (S.load_takes_memory store) (answer_of result) }
         ensures store { DeskLoads (S.state store) (answer_of result) (S.state (store_of result)) }
-        ensures lasts { (S.state store).is_honest ≡ true →
-            IfOk result (λ desk. LeavesLanded (S.state desk.store).landed (S.leaves desk.store)) }
-        ensures left { (S.state store).is_honest ≡ true →
-            LeavesBeforeOr (S.state store).landed (S.leaves store) (S.leaves (store_of result)) }
+        ensures lasts { (S.state store).is_correct ≡ true →
+            IfOk result (λ desk. LeavesCommitted (S.state desk.store).committed (S.leaves desk.store)) }
+        ensures left { (S.state store).is_correct ≡ true →
+            LeavesBeforeOr (S.state store).committed (S.leaves store) (S.leaves (store_of result)) }
     {
         let mut store = store;
         match load::<H, S>(alloc, &mut store) {
@@ -153,11 +153,11 @@ impl<H: Holdings, S: Store> AnyDesk<H, S> {
             (S.state self.new.store) }
         ensures sides { IfEncoded H.in_range result self.old.live }
         ensures reads { IfEncoded (IsReadAgain H.effects) result self.old.live }
-        ensures meanwhile { (S.state self.old.store).is_honest ≡ true →
+        ensures meanwhile { (S.state self.old.store).is_correct ≡ true →
             IfEncoded (IsBackedInSave H.effects H.backs (S.leaves self.old.store)) result self.old.live }
-        ensures lasts { (S.state self.old.store).is_honest ≡ true →
-            OnOk result (LeavesLanded (S.state self.new.store).landed (S.leaves self.new.store)) }
-        ensures left { (S.state self.old.store).is_honest ≡ true →
+        ensures lasts { (S.state self.old.store).is_correct ≡ true →
+            OnOk result (LeavesCommitted (S.state self.new.store).committed (S.leaves self.new.store)) }
+        ensures left { (S.state self.old.store).is_correct ≡ true →
             LeavesBeforeOr (Some (H.effects.encoding self.old.live)) (S.leaves self.old.store)
             (S.leaves self.new.store) }
         ensures faults { IsSaveFault result }
@@ -169,19 +169,19 @@ impl<H: Holdings, S: Store> AnyDesk<H, S> {
     }
 
     /// Goes back to the sides in the store, or to those of a new desk if the store has no record. All their messages
-    /// may be sent. A fault changes neither the sides nor the released messages. If nothing has landed,
-    /// memory runs out only in the load of the store. Once the restart is done, a loss of power leaves what has landed.
+    /// may be sent. A fault changes neither the sides nor the released messages. If nothing is committed, memory runs
+    /// out only in the load of the store. Once the restart is done, a loss of power leaves what is committed.
     pub fn restart(&mut self, alloc: Global) -> Result<(), DeskFault>
-        ensures restarts { (S.state self.old.store).is_honest ≡ true →
-            Restarts (landed_live H.effects (S.state self.old.store).landed self.old.live)
+        ensures restarts { (S.state self.old.store).is_correct ≡ true →
+            Restarts (committed_live H.effects (S.state self.old.store).committed self.old.live)
             (S.state self.old.store).plan result self.new.live }
         ensures leaves { RestartLeaves H.effects result self.old.live self.new.live }
         ensures memory { NothingTakesMemory (S.state self.old.store) (S.load_takes_memory self.old.store) result }
         ensures store { DeskLoads (S.state self.old.store) result (S.state self.new.store) }
-        ensures lasts { (S.state self.old.store).is_honest ≡ true →
-            OnOk result (LeavesLanded (S.state self.new.store).landed (S.leaves self.new.store)) }
-        ensures left { (S.state self.old.store).is_honest ≡ true →
-            LeavesBeforeOr (S.state self.old.store).landed (S.leaves self.old.store) (S.leaves self.new.store) }
+        ensures lasts { (S.state self.old.store).is_correct ≡ true →
+            OnOk result (LeavesCommitted (S.state self.new.store).committed (S.leaves self.new.store)) }
+        ensures left { (S.state self.old.store).is_correct ≡ true →
+            LeavesBeforeOr (S.state self.old.store).committed (S.leaves self.old.store) (S.leaves self.new.store) }
     {
         let bytes = self.store.load(alloc)?;
         self.held.go_back(alloc, bytes, StoreOk(()))
@@ -222,7 +222,7 @@ impl<H: Holdings, S: Store> AnyDesk<H, S> {
         self.held.shown(key)
     }
 
-    /// Returns the store with its landed bytes. Drops the sides in memory.
+    /// Returns the store with its committed bytes. Drops the sides in memory.
     pub fn close(self) -> S
         ensures { result ≡ self.store }
     {
@@ -244,16 +244,16 @@ impl<S: Store> Desk1<S> {
     /// A fault returns the store. Once it is done, a loss of power leaves no record.
     pub fn create(alloc: Global, store: S, first: Side) -> Result<Desk1<S>, (DeskFault, S)>
         requires idle { first ≡ idle_of first }
-        ensures creates { (S.state store).is_honest ≡ true →
-            Creates (S.state store).landed (S.state store).plan (answer_of result) }
+        ensures creates { (S.state store).is_correct ≡ true →
+            Creates (S.state store).committed (S.state store).plan (answer_of result) }
         ensures begins { IfOk result (λ desk. desk.live ≡ alone first) }
         ensures faults { IsCreateAnswer (answer_of result) }
         ensures memory { RunsOutInLoad (S.load_takes_memory store) (answer_of result) }
         ensures store { DeskLoads (S.state store) (answer_of result) (S.state (store_of result)) }
-        ensures lasts { (S.state store).is_honest ≡ true →
-            IfOk result (λ desk. LeavesLanded (S.state desk.store).landed (S.leaves desk.store)) }
-        ensures left { (S.state store).is_honest ≡ true →
-            LeavesBeforeOr (S.state store).landed (S.leaves store) (S.leaves (store_of result)) }
+        ensures lasts { (S.state store).is_correct ≡ true →
+            IfOk result (λ desk. LeavesCommitted (S.state desk.store).committed (S.leaves desk.store)) }
+        ensures left { (S.state store).is_correct ≡ true →
+            LeavesBeforeOr (S.state store).committed (S.leaves store) (S.leaves (store_of result)) }
     {
         AnyDesk::over(alloc, store, OneSide::alone(alloc, first))
     }
@@ -266,7 +266,7 @@ impl<S: Store> Desk1<S> {
         self.act_on(alloc, &(), action)
     }
 
-    /// Returns the bytes of message `number`, to send it: a copy of those in the landed record. The message must
+    /// Returns the bytes of message `number`, to send it: a copy of those in the committed record. The message must
     /// be issued (otherwise `NoSuchMessage`) and saved (otherwise `NotSaved`).
     pub fn message(&self, alloc: Global, number: Number) -> Result<Vec<u8>, DeskFault>
         ensures { SendsHeld (λ bytes. bytes.items) (one_side.found tt self.now.live) number result }
@@ -278,8 +278,8 @@ impl<S: Store> Desk1<S> {
     pub fn side(&self) -> &Side
         ensures value { result.now ≡ self.now.live.side }
         ensures issued { self.now.live.released ≤ length (issued_of self.now.live.side) }
-        ensures backed { (S.state self.now.store).is_honest ≡ true →
-            IsDurablyBacked one_side OneBacks (S.state self.now.store).landed (S.leaves self.now.store) self.now.live }
+        ensures backed { (S.state self.now.store).is_correct ≡ true →
+            IsDurablyBacked one_side OneBacks (S.state self.now.store).committed (S.leaves self.now.store) self.now.live }
     {
         self.held.side()
     }
@@ -296,16 +296,16 @@ impl<S: Store> Desk<S> {
     /// Creates a desk of this role that holds no side, over a store without a record (otherwise `Exists`). Saves
     /// nothing. A fault returns the store. Once it is done, a loss of power leaves no record.
     pub fn create(alloc: Global, store: S, role: Role) -> Result<Desk<S>, (DeskFault, S)>
-        ensures creates { (S.state store).is_honest ≡ true →
-            Creates (S.state store).landed (S.state store).plan (answer_of result) }
+        ensures creates { (S.state store).is_correct ≡ true →
+            Creates (S.state store).committed (S.state store).plan (answer_of result) }
         ensures begins { IfOk result (λ desk. desk.live ≡ no_sides role) }
         ensures faults { IsCreateAnswer (answer_of result) }
         ensures memory { RunsOutInLoad (S.load_takes_memory store) (answer_of result) }
         ensures store { DeskLoads (S.state store) (answer_of result) (S.state (store_of result)) }
-        ensures lasts { (S.state store).is_honest ≡ true →
-            IfOk result (λ desk. LeavesLanded (S.state desk.store).landed (S.leaves desk.store)) }
-        ensures left { (S.state store).is_honest ≡ true →
-            LeavesBeforeOr (S.state store).landed (S.leaves store) (S.leaves (store_of result)) }
+        ensures lasts { (S.state store).is_correct ≡ true →
+            IfOk result (λ desk. LeavesCommitted (S.state desk.store).committed (S.leaves desk.store)) }
+        ensures left { (S.state store).is_correct ≡ true →
+            LeavesBeforeOr (S.state store).committed (S.leaves store) (S.leaves (store_of result)) }
     {
         AnyDesk::begin(alloc, store, role)
     }
@@ -331,8 +331,8 @@ impl<S: Store> Desk<S> {
     /// Returns the sides in memory.
     pub fn sides(&self) -> &Sides
         ensures value { result.now ≡ sides_held self.now.live }
-        ensures backed { (S.state self.now.store).is_honest ≡ true →
-            IsDurablyBacked many_sides ManyBack (S.state self.now.store).landed (S.leaves self.now.store) self.now.live }
+        ensures backed { (S.state self.now.store).is_correct ≡ true →
+            IsDurablyBacked many_sides ManyBack (S.state self.now.store).committed (S.leaves self.now.store) self.now.live }
     {
         self.held.sides()
     }
@@ -347,20 +347,20 @@ impl<S: Store> Desk<S> {
     }
 }
 
-/// Loads the sides whose record has landed in `store`, or returns `None` if there is no record.
+/// Loads the sides whose record is committed in `store`, or returns `None` if there is no record.
 fn load<H: Holdings, S: Store>(alloc: Global, store: &mut S) -> Result<Option<H>, DeskFault>
-    ensures loads { (S.state store.old).is_honest ≡ true →
-        Loads H.effects.read H.effects.begins (S.state store.old).landed (S.state store.old).plan
+    ensures loads { (S.state store.old).is_correct ≡ true →
+        Loads H.effects.read H.effects.begins (S.state store.old).committed (S.state store.old).plan
         result }
     ensures whole { IfOk result (λ found. IfSome found (λ held. AreAllReleased H.effects held)) }
     ensures backed { IfOk result (λ found. IfSome found (λ held. H.backs held held)) }
     ensures faults { IfErr result (IsLoadFault H.effects.has_digest) }
     ensures memory { NothingTakesMemory (S.state store.old) (S.load_takes_memory store.old) result }
     ensures store { DeskLoads (S.state store.old) result (S.state store.new) }
-    ensures lasts { (S.state store.old).is_honest ≡ true →
-        OnOk result (LeavesLanded (S.state store.old).landed (S.leaves store.new)) }
-    ensures left { (S.state store.old).is_honest ≡ true →
-        LeavesBeforeOr (S.state store.old).landed (S.leaves store.old) (S.leaves store.new) }
+    ensures lasts { (S.state store.old).is_correct ≡ true →
+        OnOk result (LeavesCommitted (S.state store.old).committed (S.leaves store.new)) }
+    ensures left { (S.state store.old).is_correct ≡ true →
+        LeavesBeforeOr (S.state store.old).committed (S.leaves store.old) (S.leaves store.new) }
 {
     match store.load(alloc)? {
         Some(bytes) => Ok(Some(H::read(alloc, bytes, StoreOk(()))?)),

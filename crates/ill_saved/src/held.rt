@@ -2,7 +2,7 @@
 //! desk can make. So no other code releases a message that was not saved.
 
 ghost use Rattle.std.specs.Prelude.{◌≡◌, List, ℕ, option_map, IfOk, IfErr, OnOk};
-ghost use Rattle.ill_saved.specs.Holdings.{Effects, DeskActs, DeskTakesApdu, SendsHeld, StaysBacked, IsBacked, IsRecordOf, IsReadFault, ReadsRecord, GoesBackToLanded};
+ghost use Rattle.ill_saved.specs.Holdings.{Effects, DeskActs, DeskTakesApdu, SendsHeld, StaysBacked, IsBacked, IsRecordOf, IsReadFault, ReadsRecord, GoesBackToCommitted};
 ghost use Rattle.ill_saved.specs.Desk.{AreAllReleased};
 
 use crate::desk::StoreOk;
@@ -13,7 +13,7 @@ use ill_values::{Apdu, Number, OutOfMemory};
 use std::alloc::Global;
 
 /// The calls by which a desk changes the sides that it holds in memory, and their released messages. Only a desk makes
-/// them. It releases messages only after their record has landed.
+/// them. It releases messages only after their record is committed.
 pub trait Held: Drop {
     /// The name of a side.
     type Key;
@@ -27,8 +27,8 @@ pub trait Held: Drop {
     /// The effects of a desk's calls on the sides.
     ghost effects: { Effects Self Self.Key };
 
-    /// The landed sides back the live ones. Transitions lead from each landed side to its live side, and the landed
-    /// side has each released message.
+    /// The committed sides back the live ones. Transitions lead from each committed side to its live side, and the
+    /// committed side has each released message.
     ghost backs: { Self → Self → Type 0 };
 
     /// The sides are consistent, and each fits into a record.
@@ -81,12 +81,12 @@ pub trait Held: Drop {
     fn bytes(made: &Self::Record) -> &[u8]
         ensures { result.now ≡ encoded made.now };
 
-    /// Releases all messages. Their record `landed` has landed.
-    fn release(&mut self, landed: Self::Record, ok: StoreOk)
-        requires fits { fits landed self.old }
+    /// Releases all messages. Their record `committed` is committed.
+    fn release(&mut self, committed: Self::Record, ok: StoreOk)
+        requires fits { fits committed self.old }
         ensures { self.new ≡ effects.saves self.old };
 
-    /// Goes back to the sides that the landed `bytes` encode, or to those of a new desk if there are no bytes. All
+    /// Goes back to the sides that the committed `bytes` encode, or to those of a new desk if there are no bytes. All
     /// their messages may be sent. A fault changes nothing. Allocates nothing if there are no bytes.
     fn go_back(
         &mut self,
@@ -94,7 +94,7 @@ pub trait Held: Drop {
         bytes: Option<Vec<u8>>,
         ok: StoreOk,
     ) -> Result<(), DeskFault>
-        ensures goes { GoesBackToLanded effects (option_map (λ b. b.items) bytes) self.old result
+        ensures goes { GoesBackToCommitted effects (option_map (λ b. b.items) bytes) self.old result
             self.new }
         ensures whole { OnOk result (AreAllReleased effects self.new) }
         ensures backed { OnOk result (IsBacked effects backs (option_map (λ b. b.items) bytes) self.new) }

@@ -2,12 +2,12 @@
 //! stores for them.
 #![tactic(auto)]
 
+mod committed_record;
 mod desk;
 mod fault;
 mod file_lock;
 mod held;
 mod holdings;
-mod landed_record;
 pub mod laws;
 mod locked_desk;
 mod many_sides;

@@ -238,8 +238,8 @@ impl Held for ManySides {
     }
 
     /// Releases all messages: the counts in the record become the released counts.
-    fn release(&mut self, landed: SidesRecord, _ok: StoreOk) {
-        self.released = landed.counts;
+    fn release(&mut self, committed: SidesRecord, _ok: StoreOk) {
+        self.released = committed.counts;
     }
 
     /// Decodes the sides, or holds none if there are no bytes.

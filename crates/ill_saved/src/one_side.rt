@@ -6,13 +6,13 @@ ghost use Rattle.ill_record.specs.Records.{record_encoding, record_at, begins_as
 ghost use Rattle.ill_record.specs.Ranges.{IsSide};
 ghost use Rattle.ill_saved.specs.Holdings.{DeskEntry};
 ghost use Rattle.ill_saved.specs.OneSide.{OneBacks, alone, one_side};
-ghost use Rattle.ill_saved.specs.LandedBytes.{HoldsReleased, IsLandedRecord};
+ghost use Rattle.ill_saved.specs.CommittedBytes.{HoldsReleased, IsCommittedRecord};
 
+use crate::committed_record::CommittedRecord;
 use crate::desk::StoreOk;
 use crate::fault::DeskFault;
 use crate::held::Held;
 use crate::holdings::Holdings;
-use crate::landed_record::LandedRecord;
 use crate::shown::Shown;
 use ill_core::Taking;
 use ill_record::{Action, RecordFault, Role, Side, decode_record, laws};
@@ -22,23 +22,23 @@ use std::marker::Model;
 
 /// One side of a transaction, with the number of its released messages.
 ///
-/// It has a copy of the last record that is known to have landed. Messages are sent from this copy, and the next
+/// It has a copy of the last record that is known to be committed. Messages are sent from this copy, and the next
 /// record copies them from it.
 #[derive(Debug, Drop)]
 pub struct OneSide {
     side: Side,
     released: u8,
-    landed_record: LandedRecord,
+    committed_record: CommittedRecord,
 }
 
-/// At most the issued messages are released, and the copy of the landed record has the released ones.
+/// At most the issued messages are released, and the copy of the committed record has the released ones.
 impl Model for OneSide {
     ghost Value = { DeskEntry };
 
     ghost view = { λ held. record { side = held.side; released = held.released } };
 
     ghost invariant = { λ held. (held.released ≤ length (issued_of held.side))
-        × HoldsReleased held.landed_record held.side held.released };
+        × HoldsReleased held.committed_record held.side held.released };
 }
 
 impl OneSide {
@@ -49,7 +49,7 @@ impl OneSide {
         OneSide {
             side,
             released: 0,
-            landed_record: LandedRecord::none(alloc),
+            committed_record: CommittedRecord::none(alloc),
         }
     }
 
@@ -59,7 +59,7 @@ impl OneSide {
     {
         self.side.become_idle();
         self.released = 0;
-        self.landed_record = LandedRecord::none(alloc);
+        self.committed_record = CommittedRecord::none(alloc);
     }
 
     /// Returns the side in memory.
@@ -87,7 +87,7 @@ impl Held for OneSide {
 
     type First = (Role, TxnId);
 
-    type Record = LandedRecord;
+    type Record = CommittedRecord;
 
     ghost effects = { one_side };
 
@@ -99,22 +99,22 @@ impl Held for OneSide {
 
     ghost encoded = { λ made. made.bytes };
 
-    ghost fits = { λ made held. IsLandedRecord made held.side };
+    ghost fits = { λ made held. IsCommittedRecord made held.side };
 
     fn begin(alloc: Global, first: (Role, TxnId)) -> OneSide {
         let (role, txn) = first;
         OneSide::alone(alloc, Side::idle(alloc, role, txn))
     }
 
-    /// Decodes the side, and keeps `bytes` as the copy of the landed record.
+    /// Decodes the side, and keeps `bytes` as the copy of the committed record.
     fn read(alloc: Global, bytes: Vec<u8>, _ok: StoreOk) -> Result<OneSide, DeskFault> {
         let side = read_side(alloc, &bytes)?;
-        let landed_record = LandedRecord::of(alloc, bytes, &side)?;
+        let committed_record = CommittedRecord::of(alloc, bytes, &side)?;
         let released = side.issued_count();
         Ok(OneSide {
             side,
             released,
-            landed_record,
+            committed_record,
         })
     }
 
@@ -130,7 +130,7 @@ impl Held for OneSide {
         Ok(self.side.take(alloc, apdu)?)
     }
 
-    /// Copies the bytes of the message from the copy of the landed record.
+    /// Copies the bytes of the message from the copy of the committed record.
     fn message(&self, alloc: Global, _key: &(), number: Number) -> Result<Vec<u8>, DeskFault> {
         if self.side.issued(number).is_none() {
             return Err(DeskFault::NoSuchMessage);
@@ -138,26 +138,26 @@ impl Held for OneSide {
         if number.get() > self.released {
             return Err(DeskFault::NotSaved);
         }
-        Ok(Vec::from_slice(alloc, self.landed_record.message(number))?)
+        Ok(Vec::from_slice(alloc, self.committed_record.message(number))?)
     }
 
-    /// Makes the next record. It copies the released messages from the landed one.
-    fn record(&self, alloc: Global) -> Result<LandedRecord, OutOfMemory> {
+    /// Makes the next record. It copies the released messages from the committed one.
+    fn record(&self, alloc: Global) -> Result<CommittedRecord, OutOfMemory> {
         laws::read_again();
-        self.landed_record.next(alloc, &self.side, self.released)
+        self.committed_record.next(alloc, &self.side, self.released)
     }
 
-    fn bytes(made: &LandedRecord) -> &[u8] {
+    fn bytes(made: &CommittedRecord) -> &[u8] {
         made.bytes()
     }
 
-    /// Releases all messages. The record `landed` becomes the copy.
-    fn release(&mut self, landed: LandedRecord, _ok: StoreOk) {
+    /// Releases all messages. The record `committed` becomes the copy.
+    fn release(&mut self, committed: CommittedRecord, _ok: StoreOk) {
         self.released = self.side.issued_count();
-        self.landed_record = landed;
+        self.committed_record = committed;
     }
 
-    /// If `bytes` are the copy of the landed record, takes the live side back to it. Otherwise decodes them.
+    /// If `bytes` are the copy of the committed record, takes the live side back to it. Otherwise decodes them.
     fn go_back(
         &mut self,
         alloc: Global,
@@ -170,7 +170,7 @@ impl Held for OneSide {
             return Ok(());
         };
         if self
-            .landed_record
+            .committed_record
             .take_back(&bytes, self.released, &mut self.side)
         {
             return Ok(());

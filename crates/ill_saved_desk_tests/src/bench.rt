@@ -196,7 +196,7 @@ impl<'a> Bench<'a> {
         )
     }
 
-    /// Performs `close`: puts the store of the desk on the bench, with all that has landed in it.
+    /// Performs `close`: puts the store of the desk on the bench, with all that is committed in it.
     fn close(&mut self, line: &mut Line) -> Option<()> {
         let store = match self.many.take() {
             Some(desk) => desk.close(),

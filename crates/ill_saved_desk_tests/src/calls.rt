@@ -41,7 +41,7 @@ pub enum WordsCall {
     Next,
     /// Creates a desk of one transaction.
     Create,
-    /// Starts a desk of one transaction from the landed record.
+    /// Starts a desk of one transaction from the committed record.
     Start,
     /// Closes the desk, and gets its store back.
     Close,
@@ -49,7 +49,7 @@ pub enum WordsCall {
     Act,
     /// Gives one message of the desk.
     Message,
-    /// Restarts the desk from the landed record.
+    /// Restarts the desk from the committed record.
     Restart,
     /// Saves under a plan, and restarts.
     Landing,
@@ -62,7 +62,7 @@ pub enum WordsCall {
 pub enum ManyCall {
     /// Creates a desk of many transactions.
     Create,
-    /// Starts a desk of many transactions from the landed record.
+    /// Starts a desk of many transactions from the committed record.
     Start,
     /// Begins many transactions.
     Begin,

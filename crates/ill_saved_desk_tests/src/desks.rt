@@ -25,7 +25,7 @@ pub enum DeskCall<'a> {
     Take(&'a Apdu),
     /// The desk is saved.
     Save,
-    /// The desk is restarted from the landed record.
+    /// The desk is restarted from the committed record.
     Restart,
     /// The message with this number in this transaction is encoded.
     Message(&'a TxnId, Number),

@@ -18,7 +18,7 @@ type Fused = FuseStore<MemoryStore>;
 type Begun<H, S> = Result<AnyDesk<H, S>, (DeskFault, S)>;
 
 /// Performs `fuse CALLS`: a requester asks, saves, cancels and saves again. Its store passes this many calls on, and
-/// then fails. Then a new desk starts from the landed record.
+/// then fails. Then a new desk starts from the committed record.
 pub fn fuse(alloc: Global, line: &mut Line, words: &str) -> Option<()> {
     fuse_with::<OneSide>(alloc, line, words, ["request none Maps", "cancel"])
 }

@@ -1,4 +1,4 @@
-//! Tests what a save lands, and that a save without memory lands nothing.
+//! Tests what a save commits, and that a save without memory commits nothing.
 
 use crate::actions::action;
 use crate::desk_kind::DeskKind;
@@ -17,7 +17,7 @@ use std::alloc::Global;
 const REQUEST: &[u8] = b"\x61\x16\x80\x01\x01\xA1\x08\x81\x02G1\x82\x02T1\x82\x01\x01\x86\x04Maps";
 
 /// Performs `landing ROLE PLAN`. A requester with a saved request cancels, or a responder with a saved request answers.
-/// Then it saves under this plan, and restarts from the landed record.
+/// Then it saves under this plan, and restarts from the committed record.
 pub fn write<H: DeskKind>(alloc: Global, line: &mut Line, words: &str) -> Option<()> {
     let (role, plan) = words.split_once(' ')?;
     let (role, plan) = (role_of(role)?, plan_of(plan)?);
@@ -40,7 +40,7 @@ fn created<H: DeskKind>(alloc: Global, role: Role) -> Option<MemoryDesk<H>> {
 }
 
 /// Saves the desk twice, the second time under `plan`. Returns true if a growth of the second save was refused, and it
-/// has landed nothing. Returns None if it has landed something. Else writes the answers, and returns false.
+/// commits nothing. Returns None if it commits something. Else writes the answers, and returns false.
 fn save<H: DeskKind>(
     alloc: Global,
     line: &mut Line,
@@ -49,14 +49,14 @@ fn save<H: DeskKind>(
     plan: NextCall,
 ) -> Option<bool> {
     begin(alloc, desk, txn)?;
-    let landed = DeskView::of(alloc, desk, Some(txn));
+    let committed = DeskView::of(alloc, desk, Some(txn));
     act_again(alloc, desk, txn)?;
     let before = DeskView::of(alloc, desk, Some(txn));
     desk.set_next(plan);
     marks::begin(alloc);
     let answer = answer_of(alloc, desk, &DeskCall::Save);
     if marks::is_refused(alloc, is_memory(&answer)) {
-        return has_landed(alloc, desk, &before, &landed).then_some(true);
+        return is_committed(alloc, desk, &before, &committed).then_some(true);
     }
     write_answer(
         line,
@@ -75,16 +75,16 @@ fn save<H: DeskKind>(
     Some(false)
 }
 
-/// Returns true if the desk equals `before`, and after a restart equals `landed`.
-fn has_landed<H: DeskKind>(
+/// Returns true if the desk equals `before`, and after a restart equals `committed`.
+fn is_committed<H: DeskKind>(
     alloc: Global,
     desk: &mut MemoryDesk<H>,
     before: &DeskView,
-    landed: &DeskView,
+    committed: &DeskView,
 ) -> bool {
     let is_kept = before.is_of(alloc, desk);
     desk.set_next(NextCall::Works);
-    is_kept && desk.restart(alloc).is_ok() && landed.is_of(alloc, desk)
+    is_kept && desk.restart(alloc).is_ok() && committed.is_of(alloc, desk)
 }
 
 /// Makes the desk ask or take a request, and saves it.

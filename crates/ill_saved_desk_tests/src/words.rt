@@ -44,7 +44,7 @@ fn refusal_word(refusal: Refusal, state: State) -> &'static str {
     match refusal {
         Refusal::OtherTransaction => "other-transaction",
         Refusal::WrongRole => "wrong-role",
-        Refusal::NotNow(told) => word_in(told, state, "not-now"),
+        Refusal::NotNow(printed) => word_in(printed, state, "not-now"),
         Refusal::DateEarlier => "date-earlier",
         Refusal::DateNotLater => "date-not-later",
         Refusal::NotDue => "not-due",
@@ -60,11 +60,15 @@ pub fn taking_word(taking: Taking, state: State) -> &'static str {
         Taking::Taken => "taken",
         Taking::Repeat => "repeat",
         Taking::Stale => "stale",
-        Taking::Conflict(told) => word_in(told, state, "conflict"),
+        Taking::Conflict(printed) => word_in(printed, state, "conflict"),
     }
 }
 
-/// Returns `word` if the named state `told` is the state of the side, and else `ANOTHER STATE`.
-fn word_in(told: State, state: State, word: &'static str) -> &'static str {
-    if told == state { word } else { "ANOTHER STATE" }
+/// Returns `word` if the named state `printed` is the state of the side, and else `ANOTHER STATE`.
+fn word_in(printed: State, state: State, word: &'static str) -> &'static str {
+    if printed == state {
+        word
+    } else {
+        "ANOTHER STATE"
+    }
 }

@@ -65,7 +65,7 @@ impl StoreBench {
     }
 }
 
-/// Returns the text of a store: the landed bytes, its failures and its plan. Returns `None` if memory runs out.
+/// Returns the text of a store: the committed bytes, its failures and its plan. Returns `None` if memory runs out.
 pub fn seen(alloc: Global, store: &MemoryStore) -> Option<String> {
     format!(in alloc; "{store:?}").ok()
 }
@@ -75,7 +75,7 @@ pub fn is_as_seen(alloc: Global, store: &MemoryStore, before: &Option<String>) -
     before.is_some() && seen(alloc, store) == *before
 }
 
-/// Returns a store in which nothing has landed. This takes no memory.
+/// Returns a store in which nothing is committed. This takes no memory.
 fn new(alloc: Global) -> MemoryStore {
     marks::begin_quiet(alloc);
     let store = MemoryStore::new(alloc);

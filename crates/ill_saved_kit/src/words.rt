@@ -26,7 +26,7 @@ pub fn store_words(fault: StoreFault) -> &'static str {
     }
 }
 
-/// Writes the result of a load: the bytes, `none` if nothing has landed, or the words of the fault.
+/// Writes the result of a load: the bytes, `none` if nothing is committed, or the words of the fault.
 pub fn write_loaded(line: &mut Line, loaded: Result<Option<Vec<u8>>, StoreFault>) {
     match loaded {
         Ok(Some(bytes)) => line.octets(&bytes),

@@ -117,13 +117,14 @@ impl<'a> FileBench<'a> {
     fn held(&self, line: &mut Line, path: &str) -> Option<()> {
         let holder = FileLock::take(self.folder.rt, self.folder.alloc, path).ok()?;
         let files = self.failing_files("4294967295", "fault")?;
-        let told = self.lock(line, &files, path);
+        let printed = self.lock(line, &files, path);
         drop(holder);
-        told
+        printed
     }
 
-    /// Performs `failing NAME COUNT FAULT load`, `failing NAME COUNT FAULT save BYTES` or `failing NAME COUNT FAULT lock`.
-    /// The call has a new store or lock, over files of which one call fails with this fault, after COUNT others.
+    /// Performs `failing NAME COUNT FAULT load`, `failing NAME COUNT FAULT save BYTES` or
+    /// `failing NAME COUNT FAULT lock`. The call has a new store or lock, over files of which one call fails with this
+    /// fault, after COUNT others.
     fn failing(&self, line: &mut Line, names: &Names, call: &FileCall<'_>) -> Option<()> {
         let (count, words) = call.words.split_once(' ')?;
         let (fault, words) = words.split_once(' ')?;

@@ -5,7 +5,7 @@ use Rattle.std.proofs.Common.{◌∷◌, ◌++◌, length, take, drop, Option, S
 use Rattle.std.proofs.Common.{take_all, take-append-drop, drop_of_length-le, length-append, length-take}
 use Rattle.std.specs.List.{onto_first, position_from}
 use Rattle.ill_script.specs.declared.lines.Found.TheVariants as found
-use Rattle.ill_script.specs.Play.{lines_in}
+use Rattle.ill_script.specs.Replay.{lines_in}
 use Rattle.ill_script.specs.Simulating.{has_lf, lf_place, TakesPart}
 
 -- ---- the first LF

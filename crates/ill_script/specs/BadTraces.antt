@@ -2,7 +2,7 @@
 use Rattle.std.specs.Prelude.{◌≡◌, ℕ, List, [], ◌∷◌, ◌++◌, length, Some, None, Result, Ok, Err}
 use Rattle.ill_script.specs.declared.fault.SimFault.{SimFault}
 use Rattle.ill_script.specs.declared.fault.SimFault.TheVariants.{Script, Read}
-use Rattle.ill_script.specs.Play.{Said, Streams}
+use Rattle.ill_script.specs.Replay.{Said, Streams}
 
 -- Returns the streams before a simulation that reads `text`.
 abbrev pub before_reading : List ℕ → Streams
@@ -24,8 +24,8 @@ IsOfNoPrefix {E = E} result_of events result =
     (prefix more : List E) → events ≡ prefix ++ more → result ≡ result_of prefix → ⊥
 
 -- The result of a simulation of `text` is wrong. The simulation has left the bytes `ends.0` of the text in the reader,
--- and has written the bytes `ends.1`. `script` gives the reading of a whole text, and `script_read` if the reader failed
--- at the end of the text.
+-- and has written the bytes `ends.1`. `script` gives the reading of a whole text, and `script_read` if the reader
+-- failed at the end of the text.
 pub data Misreports {E : Type 0} (trace_of : List E → List ℕ) (script script_read : List ℕ → Said E) (text : List ℕ)
     (ends : List ℕ × List ℕ) : Result ℕ SimFault → Type 0 where
   -- The result is a count of events. But bytes are left, a line is bad, or the count or the trace is another.

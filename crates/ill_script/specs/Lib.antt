@@ -1,3 +1,3 @@
 pub mod BadTraces
-pub mod Play
+pub mod Replay
 pub mod Simulating

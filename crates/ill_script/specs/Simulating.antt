@@ -12,7 +12,7 @@ use Rattle.ill_script.specs.declared.lines.Found.{Found}
 use Rattle.ill_script.specs.declared.lines.Found.TheVariants as found
 use Rattle.ill_script.specs.declared.fault.SimFault.{SimFault}
 use Rattle.ill_script.specs.declared.fault.SimFault.TheVariants.{Script, Read, Write, OutOfMemory}
-use Rattle.ill_script.specs.Play.{Play, Progress, Streams, line_at, Plays}
+use Rattle.ill_script.specs.Replay.{Replay, Progress, Streams, line_at, Replays}
 
 -- ---- reading ahead
 
@@ -84,18 +84,19 @@ pub record Stage (W C : Type 0) : Type 0 where
 
 -- The effect fits a line with this meaning. A skipped line changes nothing. The event of a line has happened, and its
 -- text was appended. Or the line is bad.
-abbrev pub PerformsOne : {W E C : Type 0} → Play W E C → ScriptLine E → ℕ → Stage W C → LineEffect → Stage W C → Type 0
-PerformsOne play lines.Skipped number old effects.Nothing new = new.world ≡ old.world
-PerformsOne play (lines.Event event) number old effects.Event new =
-    (new.world ≡ play.next old.world event) × (new.shown ≡ old.shown ++ play.text number old.world event)
-PerformsOne play lines.Bad number old effects.BadLine new = Unit {0}
-PerformsOne play says number old effect new = ⊥
+abbrev pub PerformsOne : {W E C : Type 0} → Replay W E C → ScriptLine E → ℕ → Stage W C → LineEffect → Stage W C → Type 0
+PerformsOne replay lines.Skipped number old effects.Nothing new = new.world ≡ old.world
+PerformsOne replay (lines.Event event) number old effects.Event new =
+    (new.world ≡ replay.next old.world event) × (new.shown ≡ old.shown ++ replay.text number old.world event)
+PerformsOne replay lines.Bad number old effects.BadLine new = Unit {0}
+PerformsOne replay says number old effect new = ⊥
 
--- The effect fits the line, and the value for the next line is that of the play. If memory ran out, nothing is claimed.
-abbrev pub TellsLine : {W E C M : Type 0} → Play W E C → List ℕ → ℕ → Stage W C → Result LineEffect M → Stage W C → Type 0
-TellsLine play line number old (Ok effect) new =
-    PerformsOne play (play.says old.carried line).0 number old effect new × (new.carried ≡ (play.says old.carried line).1)
-TellsLine play line number old (Err memory) new = Unit {0}
+-- The effect fits the line, and the value for the next line is that of the replay. If memory ran out, nothing is
+-- claimed.
+abbrev pub PrintsLine : {W E C M : Type 0} → Replay W E C → List ℕ → ℕ → Stage W C → Result LineEffect M → Stage W C → Type 0
+PrintsLine replay line number old (Ok effect) new =
+    PerformsOne replay (replay.says old.carried line).0 number old effect new × (new.carried ≡ (replay.says old.carried line).1)
+PrintsLine replay line number old (Err memory) new = Unit {0}
 
 -- The events of a script so far have this history: the world after them, their count, and the bytes that were written.
 pub record History (W : Type 0) : Type 0 where
@@ -105,18 +106,18 @@ pub record History (W : Type 0) : Type 0 where
 
 -- A line with this meaning was performed as line n, and its text was written. If the writer failed, a prefix of the
 -- text was written. If memory ran out, no byte was written.
-abbrev pub PerformsLine : {W E C : Type 0} → Play W E C → ScriptLine E → ℕ → History W →
+abbrev pub PerformsLine : {W E C : Type 0} → Replay W E C → ScriptLine E → ℕ → History W →
     Result (Unit {0}) SimFault → History W → Type 0
-PerformsLine play says n old (Err OutOfMemory) new = Appends old.written new.written []
-PerformsLine play lines.Skipped n old (Ok done) new =
+PerformsLine replay says n old (Err OutOfMemory) new = Appends old.written new.written []
+PerformsLine replay lines.Skipped n old (Ok done) new =
     (new.world ≡ old.world) × (new.count ≡ old.count) × Appends old.written new.written []
-PerformsLine play (lines.Event event) n old (Ok done) new =
-    (new.world ≡ play.next old.world event) × (new.count ≡ old.count + 1)
-    × Appends old.written new.written (play.text (old.count + 1) old.world event)
-PerformsLine play (lines.Event event) n old (Err Write) new =
-    (size : ℕ) × Appends old.written new.written (take size (play.text (old.count + 1) old.world event))
-PerformsLine play lines.Bad n old (Err (Script m)) new = (m ≡ n) × Appends old.written new.written []
-PerformsLine play says n old result new = ⊥
+PerformsLine replay (lines.Event event) n old (Ok done) new =
+    (new.world ≡ replay.next old.world event) × (new.count ≡ old.count + 1)
+    × Appends old.written new.written (replay.text (old.count + 1) old.world event)
+PerformsLine replay (lines.Event event) n old (Err Write) new =
+    (size : ℕ) × Appends old.written new.written (take size (replay.text (old.count + 1) old.world event))
+PerformsLine replay lines.Bad n old (Err (Script m)) new = (m ≡ n) × Appends old.written new.written []
+PerformsLine replay says n old result new = ⊥
 
 -- ---- the rest of a script
 
@@ -126,15 +127,15 @@ history_at progress streams = record { world = progress.world; count = progress.
 
 -- The next line of `from` was performed. If the result is true, more lines may follow from `now` on. If it is false or
 -- a fault, the script was performed to its end.
-abbrev pub StepsLine : {W E C : Type 0} → Play W E C → Progress W C → Streams → Result Bool SimFault →
+abbrev pub StepsLine : {W E C : Type 0} → Replay W E C → Progress W C → Streams → Result Bool SimFault →
     Progress W C → Streams → Type 0
-StepsLine play from old (Ok true) now new =
+StepsLine replay from old (Ok true) now new =
     (bytes : List ℕ) × IsLine bytes × Consumes old.left new.left (bytes ++ 10 ∷ [])
-    × PerformsLine play (line_at play from.carried from.number bytes).0 from.number (history_at from old) (Ok tt)
+    × PerformsLine replay (line_at replay from.carried from.number bytes).0 from.number (history_at from old) (Ok tt)
     (history_at now new)
-    × (now.carried ≡ (line_at play from.carried from.number bytes).1) × (now.number ≡ from.number + 1)
-StepsLine play from old (Ok false) now new = Plays play from old (Ok now.count) new
-StepsLine play from old (Err fault) now new = Plays play from old (Err fault) new
+    × (now.carried ≡ (line_at replay from.carried from.number bytes).1) × (now.number ≡ from.number + 1)
+StepsLine replay from old (Ok false) now new = Replays replay from old (Ok now.count) new
+StepsLine replay from old (Err fault) now new = Replays replay from old (Err fault) new
 
 -- At least one byte is left, if the bytes left are known.
 abbrev pub IsBeforeEnd : Option (List ℕ) → Type 0

@@ -1,7 +1,7 @@
 //! Defines a performer of the lines of a script, for any language of lines.
 
-ghost use Rattle.ill_script.specs.Play.{Play};
-ghost use Rattle.ill_script.specs.Simulating.{TellsLine};
+ghost use Rattle.ill_script.specs.Replay.{Replay};
+ghost use Rattle.ill_script.specs.Simulating.{PrintsLine};
 
 use crate::trace_line::TraceLine;
 use ill_values::OutOfMemory;
@@ -26,8 +26,8 @@ pub trait Performer: Drop {
     /// The type of the events.
     ghost Event: { Type 0 };
 
-    /// The play: the meaning of lines, the worlds to which events lead, and the texts that show them.
-    ghost play: { Play Self Self.Event Self.Carried };
+    /// The replay: the meaning of lines, the worlds to which events lead, and the texts that show them.
+    ghost replay: { Replay Self Self.Event Self.Carried };
 
     /// Performs `line`, and returns its effect. If the line says an event, the event has the number in `shown`, and its
     /// text is appended to `shown`. `carried` becomes the value for the next line. Fails if memory runs out.
@@ -38,7 +38,7 @@ pub trait Performer: Drop {
         line: &[u8],
         shown: &mut TraceLine,
     ) -> Result<LineEffect, OutOfMemory>
-        ensures { TellsLine Self.play line.now shown.old.number
+        ensures { PrintsLine Self.replay line.now shown.old.number
             (record { world = self.old; carried = carried.old; shown = shown.old.text.items }) result
             (record { world = self.new; carried = carried.new; shown = shown.new.text.items }) };
 }

@@ -2,7 +2,7 @@
 
 ghost use Rattle.std.specs.Prelude.{◌≡◌, ◌≤◌, ◌+◌, [], IfOk};
 ghost use Rattle.std.specs.Io.KnownBytes.{prepend_known};
-ghost use Rattle.ill_script.specs.Play.{Plays, before_first};
+ghost use Rattle.ill_script.specs.Replay.{Replays, before_first};
 ghost use Rattle.ill_script.specs.Simulating.{PerformsLine, StepsLine, FindsEnd, IsUsedUp};
 
 use crate::ahead::Ahead;
@@ -65,7 +65,7 @@ impl<T: Performer> Simulation<T> {
     ) -> Result<u32, SimFault>
         requires begins { self.count ≡ 0 }
         requires unread { self.ahead ≡ [] }
-        ensures { Plays T.play (before_first self.carried self.performer)
+        ensures { Replays T.replay (before_first self.carried self.performer)
             (record { left = R.remaining reader.old; written = W.contents writer.old }) result
             (record { left = R.remaining reader.new; written = W.contents writer.new }) }
     {
@@ -90,7 +90,7 @@ impl<T: Performer> Simulation<T> {
     ) -> Result<bool, SimFault>
         requires few { self.old.count + 1 ≤ number }
         requires number { number ≤ 100000 }
-        ensures steps { StepsLine T.play
+        ensures steps { StepsLine T.replay
             (record { number = number; carried = self.old.carried; world = self.old.performer; count = self.old.count })
             (record { left = prepend_known self.old.ahead (R.remaining reader.old); written = W.contents writer.old })
             result
@@ -122,12 +122,12 @@ impl<T: Performer> Simulation<T> {
         number: u32,
     ) -> Result<(), SimFault>
         requires few { self.old.count ≤ 100000 }
-        ensures performs { PerformsLine T.play (T.play.says self.old.carried self.old.line.items).0 number
+        ensures performs { PerformsLine T.replay (T.replay.says self.old.carried self.old.line.items).0 number
             (record { world = self.old.performer; count = self.old.count; written = W.contents writer.old })
             result
             (record { world = self.new.performer; count = self.new.count; written = W.contents writer.new }) }
         ensures carried { IfOk result (λ done.
-            self.new.carried ≡ (T.play.says self.old.carried self.old.line.items).1) }
+            self.new.carried ≡ (T.replay.says self.old.carried self.old.line.items).1) }
         ensures ahead { self.new.ahead ≡ self.old.ahead }
         ensures few { self.new.count ≤ self.old.count + 1 }
     {

@@ -2,7 +2,7 @@
 
 use crate::names::{Names, Phrase};
 use crate::streams::{bytes_of, reader_of, writer_of};
-use crate::telling::{Telling, tell_reader, tell_value, tell_writer};
+use crate::telling::{Telling, print_reader, print_value, print_writer};
 use crate::words::{Word, cut};
 use ill_test_kit::{Page, TestReader, TestWriter, marks};
 use std::alloc::Global;
@@ -75,7 +75,7 @@ impl<'a> Call<'a> {
         let output = writer_of(alloc, phrase.names, parts.output);
         let errors = writer_of(alloc, phrase.names, parts.errors);
         match (source, output, errors) {
-            (Some(source), Some((output, told)), Some((errors, told_errors))) => Some(Call {
+            (Some(source), Some((output, printed)), Some((errors, printed_errors))) => Some(Call {
                 words: parts.words,
                 names: phrase.names,
                 source,
@@ -85,7 +85,7 @@ impl<'a> Call<'a> {
                 was_refused: false,
                 is_marked: false,
                 input: parts.input.unwrap_or(&[]),
-                tellings: (told, told_errors),
+                tellings: (printed, printed_errors),
             }),
             _ => None,
         }
@@ -139,9 +139,9 @@ impl<'a> Call<'a> {
 
     /// Prints the output, the faults and the rest of the input.
     pub fn tell(&self, page: &mut Page) {
-        tell_writer(page, self.names, ">", &self.output, &self.tellings.0);
-        tell_writer(page, self.names, "!", &self.errors, &self.tellings.1);
-        tell_reader(page, self.names, &self.source);
+        print_writer(page, self.names, ">", &self.output, &self.tellings.0);
+        print_writer(page, self.names, "!", &self.errors, &self.tellings.1);
+        print_reader(page, self.names, &self.source);
     }
 
     /// Returns true if the call has written nothing.
@@ -150,9 +150,9 @@ impl<'a> Call<'a> {
     }
 
     /// Prints the output, the faults, the rest of the input, and `answer`.
-    pub fn tell_answer<T: Debug>(&self, page: &mut Page, answer: &T) {
+    pub fn print_answer<T: Debug>(&self, page: &mut Page, answer: &T) {
         self.tell(page);
-        tell_value(page, answer);
+        print_value(page, answer);
     }
 }
 

@@ -54,7 +54,7 @@ fn try_often<'a, E: Engine>(
         let done = perform_once(alloc, engine, phrase, &mut seen);
         if !seen.call.was_refused {
             page.page(&seen.answer);
-            tell_faults(page, tries, &seen);
+            print_faults(page, tries, &seen);
             drop(seen);
             return done;
         }
@@ -79,7 +79,7 @@ fn perform_once<E: Engine>(
 
 /// Prints each refused try with a wrong result. A try that answers out of memory must write only first lines of what
 /// `last` wrote. Any other try must give the answer of `last`.
-fn tell_faults(page: &mut Page, tries: &[Try<'_>], last: &Try<'_>) {
+fn print_faults(page: &mut Page, tries: &[Try<'_>], last: &Try<'_>) {
     for seen in tries {
         let is_fine = if seen.call.says_memory {
             is_prefix(&seen.call.output.taken, &last.call.output.taken)
@@ -87,7 +87,7 @@ fn tell_faults(page: &mut Page, tries: &[Try<'_>], last: &Try<'_>) {
             seen.answer.bytes() == last.answer.bytes()
         };
         if !is_fine {
-            tell_fault(page, "its answer");
+            print_fault(page, "its answer");
         }
     }
 }
@@ -99,7 +99,7 @@ fn is_prefix(prefix: &[u8], whole: &[u8]) -> bool {
 }
 
 /// Prints the words of the wrong part of a refused try.
-pub fn tell_fault(page: &mut Page, words: &str) {
+pub fn print_fault(page: &mut Page, words: &str) {
     page.text("  = a refused try: ");
     page.line(words);
 }

@@ -18,7 +18,7 @@ pub(crate) enum Telling {
 }
 
 /// Prints the bytes that a writer took, after `mark`.
-pub(crate) fn tell_writer(
+pub(crate) fn print_writer(
     page: &mut Page,
     names: &Names,
     mark: &str,
@@ -27,57 +27,57 @@ pub(crate) fn tell_writer(
 ) {
     let taken = writer.taken.as_slice();
     match telling {
-        Telling::Whole => tell_bytes(page, names, mark, taken),
-        Telling::Any => tell_any(page, mark, taken),
+        Telling::Whole => print_bytes(page, names, mark, taken),
+        Telling::Any => print_any(page, mark, taken),
         Telling::First(count) => {
             let prefix = taken.get(..*count).unwrap_or(taken);
-            tell_bytes(page, names, mark, prefix);
+            print_bytes(page, names, mark, prefix);
         }
-        Telling::Just(wanted) => tell_compared(page, names, mark, taken, wanted),
+        Telling::Just(wanted) => print_compared(page, names, mark, taken, wanted),
     }
-    tell_again(page, mark, writer.was_called_again());
+    print_again(page, mark, writer.was_called_again());
 }
 
 /// Prints the bytes that were never read from a slow reader or one with a bar.
-pub fn tell_reader(page: &mut Page, names: &Names, reader: &TestReader) {
-    tell_bytes(page, names, "<", reader.unread());
-    tell_again(page, "<", reader.was_called_again());
+pub fn print_reader(page: &mut Page, names: &Names, reader: &TestReader) {
+    print_bytes(page, names, "<", reader.unread());
+    print_again(page, "<", reader.was_called_again());
 }
 
 /// Prints that a stream was called after it had failed.
-fn tell_again(page: &mut Page, mark: &str, is_again: bool) {
+fn print_again(page: &mut Page, mark: &str, is_again: bool) {
     if is_again {
-        tell_line(page, mark, "CALLED AGAIN AFTER IT HAD FAILED");
+        print_line(page, mark, "CALLED AGAIN AFTER IT HAD FAILED");
     }
 }
 
 /// Prints two dots if there are any bytes.
-fn tell_any(page: &mut Page, mark: &str, bytes: &[u8]) {
+fn print_any(page: &mut Page, mark: &str, bytes: &[u8]) {
     if !bytes.is_empty() {
-        tell_line(page, mark, "..");
+        print_line(page, mark, "..");
     }
 }
 
 /// Prints `just these` if `bytes` are `wanted`, or else prints the bytes.
-pub fn tell_compared(page: &mut Page, names: &Names, mark: &str, bytes: &[u8], wanted: &[u8]) {
+pub fn print_compared(page: &mut Page, names: &Names, mark: &str, bytes: &[u8], wanted: &[u8]) {
     if bytes == wanted {
-        tell_line(page, mark, "just these");
+        print_line(page, mark, "just these");
     } else {
-        tell_bytes(page, names, mark, bytes);
+        print_bytes(page, names, mark, bytes);
     }
 }
 
 /// Prints bytes by their name, or else as text, or else as octets. Prints nothing if there are no bytes.
-pub fn tell_bytes(page: &mut Page, names: &Names, mark: &str, bytes: &[u8]) {
+pub fn print_bytes(page: &mut Page, names: &Names, mark: &str, bytes: &[u8]) {
     if bytes.is_empty() {
         return;
     }
     if let Some((times, name)) = names.name_of(bytes) {
-        return tell_name(page, mark, times, name);
+        return print_name(page, mark, times, name);
     }
     match str::from_utf8(bytes) {
-        Ok(text) if is_plain(bytes) => tell_text(page, mark, text),
-        _ => tell_octets(page, mark, bytes),
+        Ok(text) if is_plain(bytes) => print_text(page, mark, text),
+        _ => print_octets(page, mark, bytes),
     }
 }
 
@@ -87,7 +87,7 @@ fn is_plain(bytes: &[u8]) -> bool {
 }
 
 /// Prints a name, and the count of its repetitions.
-fn tell_name(page: &mut Page, mark: &str, times: u32, name: &str) {
+fn print_name(page: &mut Page, mark: &str, times: u32, name: &str) {
     begin(page, mark);
     page.text("[");
     if times != 1 {
@@ -99,7 +99,7 @@ fn tell_name(page: &mut Page, mark: &str, times: u32, name: &str) {
 }
 
 /// Prints the lines of a text. A last line without end gets a backslash.
-fn tell_text(page: &mut Page, mark: &str, text: &str) {
+fn print_text(page: &mut Page, mark: &str, text: &str) {
     for line in text.split_inclusive('\n') {
         begin(page, mark);
         page.text(line);
@@ -110,7 +110,7 @@ fn tell_text(page: &mut Page, mark: &str, text: &str) {
 }
 
 /// Prints bytes in hexadecimal.
-fn tell_octets(page: &mut Page, mark: &str, bytes: &[u8]) {
+fn print_octets(page: &mut Page, mark: &str, bytes: &[u8]) {
     begin(page, mark);
     page.text("[");
     page.hex(bytes);
@@ -118,7 +118,7 @@ fn tell_octets(page: &mut Page, mark: &str, bytes: &[u8]) {
 }
 
 /// Prints a line after `mark`.
-pub fn tell_line(page: &mut Page, mark: &str, text: &str) {
+pub fn print_line(page: &mut Page, mark: &str, text: &str) {
     begin(page, mark);
     page.line(text);
 }
@@ -131,7 +131,7 @@ pub fn begin(page: &mut Page, mark: &str) {
 }
 
 /// Prints a value as `{:?}` prints it.
-pub fn tell_value<T: Debug>(page: &mut Page, value: &T) {
+pub fn print_value<T: Debug>(page: &mut Page, value: &T) {
     begin(page, "=");
     page.show_parts(value);
     page.text("\n");

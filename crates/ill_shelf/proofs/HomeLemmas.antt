@@ -14,8 +14,8 @@ use Rattle.ill_commands.specs.AtFile.{ActsOn, MessageOf}
 use Rattle.ill_commands.specs.Letters.{SendsWith}
 use Rattle.ill_shelf.specs.Home.{ActsAtHome, IsDeskFor, IsHome, SendsAtHome, ShelfAction, role_to_begin}
 
--- If `path` is that of the desk of `part` in `own`, it is that of the desk of `group` in `folder`. `own` is `folder`, and
--- `part` is `group`.
+-- If `path` is that of the desk of `part` in `own`, it is that of the desk of `group` in `folder`. `own` is `folder`,
+-- and `part` is `group`.
 pub at_home : (folder own : List ℕ) (role : Role) (group part path : List ℕ) → own ≡ folder → part ≡ group
     → path ≡ desk_path own role part → path ≡ desk_path folder role group
 at_home folder own role group part path is_own is_part is =

@@ -26,12 +26,12 @@ retire_faults sides old new (Err faults.TooMany) retires = absurd retires.1
 retire_faults sides old new (Err (faults.Script line)) retires = absurd retires.1
 retire_faults sides old new (Err (faults.Key fault)) retires = absurd retires.1
 retire_faults sides old new (Err faults.NotSealed) retires = absurd retires.1
-retire_faults sides old new (Err faults.Left) retires = absurd retires.1
+retire_faults sides old new (Err faults.Deferred) retires = absurd retires.1
 retire_faults sides old new (Err faults.Read) retires = absurd retires.1
 retire_faults sides old new (Err faults.Write) retires = absurd retires.1
 
--- If `desk` was loaded from `place`, and `store` at the place of its mark answers as `Retires` says, an Ok answer marks the
--- desk of the place (`MarksDesk`).
+-- If `desk` was loaded from `place`, and `store` at the place of its mark answers as `Retires` says, an Ok answer marks
+-- the desk of the place (`MarksDesk`).
 pub marks_desk : {S : Type 0} (place : PlaceOf S) (desk : DeskOf DeskContents S) (store after : S)
     (answer : Result Bool ToolFault) → StartsAt place desk → IsAt (mark_place place) store
     → Retires (sides_held desk.live).sides (known (place.state store)) answer (known (place.state after))
@@ -49,8 +49,8 @@ marks_now place (Err fault) marks = tt
 
 -- If `store`, at the place of the mark, has a record, the group of `place` was marked before.
 pub marked_before : {S : Type 0} (place : PlaceOf S) (store : S) → IsAt (mark_place place) store
-    → ((place.state store).is_honest ≡ true → true ≡ is_some (place.state store).landed) → MarksGroup place true
-marked_before place store at has = inl (store, at, λ honest. sym (has honest))
+    → ((place.state store).is_correct ≡ true → true ≡ is_some (place.state store).committed) → MarksGroup place true
+marked_before place store at has = inl (store, at, λ correct. sym (has correct))
 
 -- If `result` is a fault of opening, and nothing was written, `RetiresAtHome` allows it.
 pub not_retired : {S : Type 0} (shelf : ShelfOf S) (group : List ℕ) (written : Option (List ℕ))

@@ -1,5 +1,5 @@
--- These are groups of whose desks none was loaded, or none that is over. By the laws no command of a shelf ends well for
--- them.
+-- These are groups of whose desks none was loaded, or none that is over. By the laws no command of a shelf ends well
+-- for them.
 use Rattle.std.specs.Prelude.{◌≡◌, ℕ, false, List}
 use Rattle.ill_saved.specs.Desk.{DeskOf}
 use Rattle.ill_saved.specs.ManySides.{DeskContents, sides_held}
@@ -18,13 +18,14 @@ abbrev pub IsTakenNowhere : {S : Type 0} → ShelfOf S → (group : List ℕ) �
 IsTakenNowhere shelf group =
     (path : List ℕ) → IsDeskFor shelf.folder group path → AreElsewhere (place_of shelf.state path)
 
--- The group of the desk of the place was not marked before, and each desk that was loaded from the place has a loan that is
--- not over.
+-- The group of the desk of the place was not marked before, and each desk that was loaded from the place has a loan
+-- that is not over.
 pub record IsOpenAt {S : Type 0} (place : PlaceOf S) : Type 0 where
   pub unmarked : WasMarked (mark_place place) → ⊥
   pub open_loan : (desk : DeskOf DeskContents S) → StartsAt place desk →
       are_all_over (sides_held desk.live).sides ≡ false
 
--- The group was not marked before, and each desk that was loaded from its path has a loan that is not over, in either role.
+-- The group was not marked before, and each desk that was loaded from its path has a loan that is not over, in either
+-- role.
 abbrev pub IsOpenGroup : {S : Type 0} → ShelfOf S → (group : List ℕ) → Type 0
 IsOpenGroup shelf group = (path : List ℕ) → IsHome shelf.folder group path → IsOpenAt (place_of shelf.state path)

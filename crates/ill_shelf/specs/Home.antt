@@ -28,8 +28,8 @@ abbrev pub AtHome : {S : Type 0} → ShelfOf S → (group : List ℕ) → (AtPla
 AtHome shelf group AtPlace =
     (path : List ℕ) × IsHome shelf.folder group path × AtPlace (place_of shelf.state path)
 
--- The arguments of `act` on a shelf. If `is_long`, the item of the loan is written too. If `is_new_group`, the desk of the
--- group may be begun.
+-- The arguments of `act` on a shelf. If `is_long`, the item of the loan is written too. If `is_new_group`, the desk of
+-- the group may be begun.
 pub record ShelfAction : Type 0 where
   pub asking : Asking
   pub is_long : Bool
@@ -40,8 +40,8 @@ abbrev pub role_to_begin : (is_new_group : Bool) → Role → Option Role
 role_to_begin true role = Some role
 role_to_begin false role = None
 
--- The action was performed or tried at the desk of the place. If there is a `role`, the desk may have been begun for it, with
--- this role. Or its file could not be opened.
+-- The action was performed or tried at the desk of the place. If there is a `role`, the desk may have been begun for
+-- it, with this role. Or its file could not be opened.
 abbrev pub ActsAtPlace : {S : Type 0} → (role : Option Role) → PlaceOf S → ShelfAction → Option (List ℕ) → Option (List ℕ) →
     Result Bool ToolFault → Type 0
 ActsAtPlace {S} role place action before after result =
@@ -50,8 +50,8 @@ ActsAtPlace {S} role place action before after result =
     × ActsOn action.asking action.is_long (command_state (view_of place.state old) before) result
     (command_state (view_of place.state new) after))
 
--- The action was performed or tried at the desk of its group. The desk was begun for it only if a new group may be begun, and
--- with the role in its name.
+-- The action was performed or tried at the desk of its group. The desk was begun for it only if a new group may be
+-- begun, and with the role in its name.
 abbrev pub ActsAtHome : {S : Type 0} → ShelfOf S → ShelfAction → Option (List ℕ) → Option (List ℕ) → Result Bool ToolFault →
     Type 0
 ActsAtHome shelf action before after result =

@@ -17,13 +17,13 @@ abbrev pub mark_place : {S : Type 0} → PlaceOf S → PlaceOf S
 mark_place place = place_of place.state (retired_path place.path)
 
 -- A store at the place of a mark has bytes: the group was marked before. No contract says what a store has that is not
--- honest.
+-- correct.
 abbrev pub WasMarked : {S : Type 0} → (mark : PlaceOf S) → Type 0
 WasMarked {S} mark =
-    (store : S) × IsAt mark store × ((mark.state store).is_honest ≡ true → is_some (mark.state store).landed ≡ true)
+    (store : S) × IsAt mark store × ((mark.state store).is_correct ≡ true → is_some (mark.state store).committed ≡ true)
 
--- A desk with `sides` was to be marked as retired, in a store at the place of its mark. The mark was saved if `is_marked`,
--- and all loans are over then. Else a loan is not over, and nothing was saved.
+-- A desk with `sides` was to be marked as retired, in a store at the place of its mark. The mark was saved if
+-- `is_marked`, and all loans are over then. Else a loan is not over, and nothing was saved.
 abbrev pub MarksSides : {S : Type 0} → (mark : PlaceOf S) → List Side → (is_marked : Bool) → Type 0
 MarksSides {S} mark sides is_marked =
     (store : S) × (after : Option (Option (List ℕ))) × IsAt mark store
@@ -35,8 +35,8 @@ MarksDesk {S} place is_marked =
     (desk : DeskOf DeskContents S) × StartsAt place desk
     × MarksSides (mark_place place) (sides_held desk.live).sides is_marked
 
--- The group of the desk of the place is marked as retired if `is_marked`: it was marked before, or is marked now. Else a loan
--- of its desk is not over.
+-- The group of the desk of the place is marked as retired if `is_marked`: it was marked before, or is marked now. Else
+-- a loan of its desk is not over.
 abbrev pub MarksGroup : {S : Type 0} → PlaceOf S → (is_marked : Bool) → Type 0
 MarksGroup place true = WasMarked (mark_place place) ⊎ MarksDesk place true
 MarksGroup place false = MarksDesk place false
@@ -46,17 +46,18 @@ abbrev pub retired_line : Bool → List ℕ
 retired_line true = codes "done\n"
 retired_line false = codes "not-now\n"
 
--- Returns `is_well`, the answer of a command, if its line was written. Else it returns the fault of the writing.
-abbrev pub told_with : Bool → Result (Unit {0}) ToolFault → Result Bool ToolFault
-told_with is_well (Ok done) = Ok is_well
-told_with is_well (Err fault) = Err fault
+-- Returns `is_success`, the answer of a command, if its line was written. Else it returns the fault of the writing.
+abbrev pub printed_with : Bool → Result (Unit {0}) ToolFault → Result Bool ToolFault
+printed_with is_success (Ok done) = Ok is_success
+printed_with is_success (Err fault) = Err fault
 
--- The group of the desk of the place is retired, or is not, and the command wrote its line. Or a file could not be opened.
+-- The group of the desk of the place is retired, or is not, and the command wrote its line. Or a file could not be
+-- opened.
 abbrev pub RetiresAtPlace : {S : Type 0} → PlaceOf S → Option (List ℕ) → Option (List ℕ) → Result Bool ToolFault → Type 0
 RetiresAtPlace place before after result =
     FailsToOpen before after result
-    ⊎ ((is_marked : Bool) × (told : Result (Unit {0}) ToolFault) × MarksGroup place is_marked
-    × WritesPrefix before after (retired_line is_marked) told × (result ≡ told_with is_marked told))
+    ⊎ ((is_marked : Bool) × (printed : Result (Unit {0}) ToolFault) × MarksGroup place is_marked
+    × WritesPrefix before after (retired_line is_marked) printed × (result ≡ printed_with is_marked printed))
 
 -- The group was retired at its desk, as `RetiresAtPlace` says.
 abbrev pub RetiresAtHome : {S : Type 0} → ShelfOf S → (group : List ℕ) → Option (List ℕ) → Option (List ℕ) →

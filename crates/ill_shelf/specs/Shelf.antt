@@ -4,7 +4,7 @@ use Rattle.std.specs.Prelude.{◌≡◌, ◌⊎◌, ℕ, Bool, true, false, ◌&
 use Rattle.std.specs.Prelude.{Err}
 use Rattle.ill_store.specs.Store.{StoreState}
 use Rattle.ill_text.specs.declared.fault.ToolFault.{ToolFault}
-use Rattle.ill_text.specs.declared.fault.ToolFault.TheVariants.{Left}
+use Rattle.ill_text.specs.declared.fault.ToolFault.TheVariants.{Deferred}
 use Rattle.ill_text.specs.declared.form.Form.{Form}
 use Rattle.ill_text.specs.declared.form.Form.TheVariants.{Lines}
 use Rattle.ill_shelf.specs.declared.visit.Visit.{Visit}
@@ -16,7 +16,7 @@ use Rattle.ill_commands.specs.Streams.{Streams, streams_of}
 use Rattle.ill_files.specs.Opening.{FailsToOpen}
 use Rattle.ill_files.specs.ShelfNames.{AreOnShelf}
 use Rattle.ill_place.specs.Place.{PlaceOf, ShelfOf, place_of}
-use Rattle.ill_mail.specs.Nights.{ExchangesAtFile, InboxAtFile, OutboxAtFile, asked_night}
+use Rattle.ill_exchange.specs.Nights.{ExchangesAtFile, InboxAtFile, OutboxAtFile, asked_night}
 use Rattle.ill_text.specs.Input.{ReadsInput}
 use Rattle.ill_desk.specs.Take.{answer_of}
 use Rattle.ill_desk.specs.declared.take.TakeForm.{TakeForm}
@@ -35,8 +35,8 @@ use Rattle.ill_shelf.specs.Home.{IsDeskFor}
 abbrev pub AtDesk : Type 0 → Type 1
 AtDesk S = PlaceOf S → Option (List ℕ) → Option (List ℕ) → Result Bool ToolFault → Type 0
 
--- If the line of the path was written, the command ran at the desk, as `Runs` says. If the line failed, its fault is
--- the answer, and nothing more was written.
+-- If the line of the path was written, the command ran at the desk, as `Runs` says. If the writing of this line failed,
+-- its fault is the answer, and nothing more was written.
 abbrev pub RunsAfter : (Option (List ℕ) → Option (List ℕ) → Result Bool ToolFault → Type 0) → Result (Unit {0}) ToolFault →
     Option (List ℕ) → Option (List ℕ) → Result Bool ToolFault → Type 0
 RunsAfter Runs (Ok done) between after answer = Runs between after answer
@@ -46,9 +46,9 @@ RunsAfter Runs (Err fault) between after answer = (answer ≡ Err fault) × (aft
 -- gives the state of the store of a desk.
 abbrev pub Headed : {S : Type 0} → (state : S → StoreState) → Bool → AtDesk S → Stop → Type 0
 Headed state is_headed Runs stop =
-    (between : Option (List ℕ)) × (told : Result (Unit {0}) ToolFault)
-    × WritesText stop.before between (heading is_headed stop.path) told
-    × RunsAfter (Runs (place_of state stop.path)) told between stop.after stop.answer
+    (between : Option (List ℕ)) × (printed : Result (Unit {0}) ToolFault)
+    × WritesText stop.before between (heading is_headed stop.path) printed
+    × RunsAfter (Runs (place_of state stop.path)) printed between stop.after stop.answer
 
 -- Returns true if the form is that of lines.
 abbrev pub is_lines : Form → Bool
@@ -75,14 +75,14 @@ abbrev pub VisitsAll : (Visits : Stop → Type 0) → (paths : List (List ℕ)) 
     Result Bool ToolFault → Type 0
 VisitsAll Visits paths before after answer = VisitsEach (λ is_first. Visits) paths before after answer
 
--- The result is true, the fault `Left` (mails wait for the next run), or the fault of a file or of memory.
+-- The result is true, the fault `Deferred` (message files wait for the next run), or the fault of a file or of memory.
 abbrev pub IsFurther : Result Bool ToolFault → Type 0
-IsFurther (Ok is_well) = is_well ≡ true
-IsFurther (Err Left) = Unit {0}
+IsFurther (Ok is_success) = is_success ≡ true
+IsFurther (Err Deferred) = Unit {0}
 IsFurther (Err fault) = IsFileFault fault
 
 -- Desks of the shelf in `folder` were visited. The result is the graver of their gravest answer and of `further`. That
--- tells if mails wait, or a file failed. Or the shelf could not be opened.
+-- tells if message files wait, or a file failed. Or the shelf could not be opened.
 abbrev pub VisitsShelf : (folder : List ℕ) → (Visits : Stop → Type 0) → Option (List ℕ) → Option (List ℕ) →
     Result Bool ToolFault → Type 0
 VisitsShelf folder Visits before after result =
@@ -121,10 +121,10 @@ pub record ShelfTaking : Type 0 where
 -- `state` gives the state of the store of a desk. If all went well, `all_fine` stays as it was.
 abbrev pub TakesAtHome : {S : Type 0} → (state : S → StoreState) → Handles ShelfTaking ToolFault
 TakesAtHome state old a (Ok done) new =
-    (path : List ℕ) × IsDeskFor old.folder a.txn.group path × (is_well : Bool) × (rest : Option (List ℕ))
-    × TakesAtFile (place_of state path) old.form (streams_of (Some (encoding a)) old.written) (Ok is_well)
+    (path : List ℕ) × IsDeskFor old.folder a.txn.group path × (is_success : Bool) × (rest : Option (List ℕ))
+    × TakesAtFile (place_of state path) old.form (streams_of (Some (encoding a)) old.written) (Ok is_success)
     (streams_of rest new.written)
-    × (new ≡ record old { all_fine = old.all_fine && is_well; written = new.written })
+    × (new ≡ record old { all_fine = old.all_fine && is_success; written = new.written })
 TakesAtHome state old a (Err fault) new =
     (path : List ℕ) × IsDeskFor old.folder a.txn.group path × (rest : Option (List ℕ))
     × TakesAtFile (place_of state path) old.form (streams_of (Some (encoding a)) old.written) (Err fault)

@@ -1,20 +1,20 @@
-//! The commands on the mails of a shelf, with a key or without one. With a key all messages come and go in sealed
-//! letters.
+//! The commands on the message files of a shelf, with a key or without one. With a key all messages come and go in
+//! sealed letters.
 
 ghost use Rattle.std.specs.Prelude.{true, Some, is_some, option_map};
-ghost use Rattle.ill_mail.specs.Keyed.{WithKey};
-ghost use Rattle.ill_mail.specs.Nights.{ExchangesAtFile, InboxAtFile, OutboxAtFile, asked_night};
+ghost use Rattle.ill_exchange.specs.Keyed.{WithKey};
+ghost use Rattle.ill_exchange.specs.Nights.{ExchangesAtFile, InboxAtFile, OutboxAtFile, asked_night};
 ghost use Rattle.ill_shelf.specs.Shelf.{Headed, OpensShelf, VisitsShelf, VisitsWith, is_lines};
 
 use crate::on_shelf::{
     Way, exchange_at_desks, exchange_of_shelf, inbox_of_shelf, look_at_shelf, outbox_of_shelf,
     take_at_desks,
 };
+use ill_exchange::outlet::Outlet;
 use ill_files::machine::Machine;
 use ill_files::shelf::Shelf;
+use ill_folders::message_file::Incoming;
 use ill_key::key_file::read_key;
-use ill_mail::outlet::Outlet;
-use ill_mailbox::mail::Incoming;
 use ill_night::night::Night;
 use ill_place::place::{DeskFiles, ShelfPlace};
 use ill_saved::LockFiles;
@@ -23,8 +23,8 @@ use ill_text::diary::Stamp;
 use ill_text::fault::{ToolFault, graver};
 use std::io::Write;
 
-/// `ill shelf inbox`: takes the mails of the folder of `incoming`, each at the desk of its group. With `key_file` it
-/// takes sealed letters alone. Returns the gravest answer of the desks and of the sorting.
+/// `ill shelf inbox`: takes the message files of the folder of `incoming`, each at the desk of its group. With
+/// `key_file` it takes sealed letters alone. Returns the gravest answer of the desks and of the sorting.
 pub fn inbox_of_shelf_with<T: LockFiles, D: DeskFiles, W: Write, E: Write>(
     machine: &mut Machine<'_, T, W, E>,
     place: &ShelfPlace<'_, D>,
@@ -62,14 +62,17 @@ fn inbox_sealed<T: LockFiles, D: DeskFiles, W: Write, E: Write>(
         opened: messages.as_str(),
     };
     let opened = open_letters(machine, &shelf, unpacking)?;
-    let mails = mails_in(messages.as_str(), incoming.stamp);
-    let done = take_at_desks(machine, place.files, &shelf, mails, true);
+    let message_files = message_files_in(messages.as_str(), incoming.stamp);
+    let done = take_at_desks(machine, place.files, &shelf, message_files, true);
     graver(done, opened_answer(opened))
 }
 
-/// Returns `folder`, into which the shelf has put messages, as the folder from which mails come. `stamp` begins the
-/// lines of the diary.
-fn mails_in<'a, 'b, 'c>(folder: &'a str, stamp: &'b Option<Stamp<'c>>) -> Incoming<'a, 'b, 'c> {
+/// Returns `folder`, into which the shelf has put messages, as the folder from which message files come. `stamp` begins
+/// the lines of the diary.
+fn message_files_in<'a, 'b, 'c>(
+    folder: &'a str,
+    stamp: &'b Option<Stamp<'c>>,
+) -> Incoming<'a, 'b, 'c> {
     Incoming {
         folder,
         is_sorted: true,
@@ -148,7 +151,7 @@ pub fn exchange_of_shelf_with<T: LockFiles, D: DeskFiles, W: Write, E: Write>(
     }
 }
 
-/// `ill shelf exchange --key`: performs the nights of the desks, whose messages come and go in letters.
+/// `ill shelf exchange --key`: performs the nights of the desks, whose messages come and go in sealed letters.
 #[tactic(auto, using(crate::proofs::ShelfLemmas::not_opened, crate::proofs::ShelfLemmas::no_key))]
 fn exchange_sealed<T: LockFiles, D: DeskFiles, W: Write, E: Write>(
     machine: &mut Machine<'_, T, W, E>,

@@ -3,11 +3,11 @@
 ghost use Rattle.std.specs.Prelude.{◌≡◌, IfErr};
 ghost use Rattle.ill_text.specs.Fault.{IsFileFault};
 
+use ill_exchange::outlet::Outlet;
+use ill_exchange::sending::{SentAll, send_words};
 use ill_files::machine::Machine;
 use ill_files::shelf::Shelf;
-use ill_mail::outlet::Outlet;
-use ill_mail::sending::{SentAll, send_words};
-use ill_mailbox::mail_box::asked_bytes;
+use ill_folders::claiming_folder::asked_bytes;
 use ill_text::fault::ToolFault;
 use ill_text::input::apdus_in;
 use ill_values::Apdu;

@@ -1,4 +1,4 @@
-//! The commands on all desks of a shelf: mails are sorted, desks are made, visited and retired.
+//! The commands on all desks of a shelf: message files are sorted, desks are made, visited and retired.
 #![tactic(auto)]
 
 pub mod keyed;

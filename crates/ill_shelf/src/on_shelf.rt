@@ -7,7 +7,7 @@ ghost use Rattle.ill_commands.specs.AtFile.{ShowsFile, message_of};
 ghost use Rattle.ill_commands.specs.Note.{text_of};
 ghost use Rattle.ill_desk.specs.ActAs.{asking_of};
 ghost use Rattle.ill_place.specs.Place.{OpensAs, place_of, shelf_of};
-ghost use Rattle.ill_mail.specs.Nights.{ExchangesAtFile, InboxAtFile, OutboxAtFile, asked_night};
+ghost use Rattle.ill_exchange.specs.Nights.{ExchangesAtFile, InboxAtFile, OutboxAtFile, asked_night};
 ghost use Rattle.ill_shelf.specs.Home.{ActsAtHome, BeginsShelf, IsHome, LoanAtHome, NotesAtHome, SendsAtHome, SlipAtHome, role_to_begin};
 ghost use Rattle.ill_shelf.specs.Shelf.{Headed, IsFurther, VisitsShelf, is_lines};
 ghost use Rattle.ill_text.specs.Fault.{IsOpenFault};
@@ -18,23 +18,23 @@ use ill_commands::commands::{act_at, loan, new, slip};
 use ill_commands::letters::send_with;
 use ill_commands::note::{NoteView, note};
 use ill_desk::act_as::ActionView;
+use ill_exchange::backup::heartbeat;
+use ill_exchange::outlet::Outlet;
 use ill_files::durable::error_of_store;
 use ill_files::home::refuse_lost;
 use ill_files::machine::Machine;
 use ill_files::paths::RETIRED;
 use ill_files::shelf::{Shelf, names_of_desks, own_path, refuse_retired, retired_path};
+use ill_folders::claiming_folder::remove_if_there;
+use ill_folders::message_file::Incoming;
+use ill_folders::places::{Places, look_at_places};
 use ill_key::Key;
-use ill_mail::backup::beat;
-use ill_mail::outlet::Outlet;
-use ill_mailbox::mail::Incoming;
-use ill_mailbox::mail_box::remove_if_there;
-use ill_mailbox::places::{Places, look_at_places};
 use ill_night::night::Night;
 use ill_place::place::{DeskFiles, DeskPlace, LockedAt, ShelfPlace};
 use ill_saved::{FileStore, LockFiles, RECORD_LIMIT, Role, Store};
 use ill_show::loan::LoanView;
 use ill_sorting::last_words::load_mark;
-use ill_sorting::sorting::{MailsFrom, sort_mails};
+use ill_sorting::sorting::{MessageFilesFrom, sort_message_files};
 use ill_text::diary::Stamp;
 use ill_text::fault::{STORE_FAILED, ToolFault, graver};
 use ill_text::form::Form;
@@ -261,8 +261,8 @@ fn send_words_to<T: Files, W: Write, E: Write>(
     }
 }
 
-/// `ill shelf inbox`: takes the mails of the folder of `incoming`, each at the desk of its group. Returns the gravest
-/// answer of the desks, and at least `Left` if mails wait.
+/// `ill shelf inbox`: takes the message files of the folder of `incoming`, each at the desk of its group. Returns the
+/// gravest answer of the desks, and at least `Deferred` if message files wait.
 pub fn inbox_of_shelf<T: LockFiles, D: DeskFiles, W: Write, E: Write>(
     machine: &mut Machine<'_, T, W, E>,
     place: &ShelfPlace<'_, D>,
@@ -275,8 +275,8 @@ pub fn inbox_of_shelf<T: LockFiles, D: DeskFiles, W: Write, E: Write>(
     take_at_desks(machine, place.files, &shelf, incoming, false)
 }
 
-/// Sorts the mails of `incoming`, and takes each at the desk of its group. `is_own` is set if the shelf has put the
-/// mails into their folder itself. The result is that of `inbox_of_shelf`.
+/// Sorts the message files of `incoming`, and takes each at the desk of its group. `is_own` is set if the shelf has put
+/// the message files into their folder itself. The result is that of `inbox_of_shelf`.
 pub(crate) fn take_at_desks<T: LockFiles, D: DeskFiles, W: Write, E: Write>(
     machine: &mut Machine<'_, T, W, E>,
     files: &D,
@@ -287,11 +287,11 @@ pub(crate) fn take_at_desks<T: LockFiles, D: DeskFiles, W: Write, E: Write>(
     ensures { VisitsShelf shelf.now.folder.now (Headed D.DeskStore.state true InboxAtFile)
         (W.contents machine.old.writer) (W.contents machine.new.writer) result }
 {
-    let from = MailsFrom {
+    let from = MessageFilesFrom {
         folder: incoming.folder,
         is_own,
     };
-    let is_waiting = sort_mails(machine, shelf, from, None)?;
+    let is_waiting = sort_message_files(machine, shelf, from, None)?;
     let desks = desks_and_own(machine.rt, machine.alloc, shelf)?;
     let answer = visit_all(machine, files, &desks, &Visit::Inbox(incoming));
     graver(answer, waiting(is_waiting))
@@ -311,19 +311,19 @@ fn desks_and_own<T: Files>(
     Ok(desks)
 }
 
-/// Returns the fault `Left` if mails wait, else true.
+/// Returns the fault `Deferred` if message files wait, else true.
 fn waiting(is_waiting: bool) -> Result<bool, ToolFault>
     ensures { IsFurther result }
 {
     if is_waiting {
-        Err(ToolFault::Left)
+        Err(ToolFault::Deferred)
     } else {
         Ok(true)
     }
 }
 
-/// `ill shelf exchange`: sorts the mail that has come, and performs `night` at each desk. Returns the gravest answer of
-/// the desks and of the end of the night.
+/// `ill shelf exchange`: sorts the message files that have come, and performs `night` at each desk. Returns the gravest
+/// answer of the desks and of the end of the night.
 pub fn exchange_of_shelf<T: LockFiles, D: DeskFiles, W: Write, E: Write>(
     machine: &mut Machine<'_, T, W, E>,
     place: &ShelfPlace<'_, D>,
@@ -362,11 +362,11 @@ pub(crate) fn look_at_shelf<'a, T: LockFiles, W: Write, E: Write>(
     Ok(shelf)
 }
 
-/// The way on which the mails of a night come and go.
+/// The way on which the message files of a night come and go.
 #[derive(Clone, Copy)]
 pub(crate) struct Way<'a> {
-    /// The folder from which the mails come. With a key, it is that of the messages in letters that the shelf has
-    /// opened.
+    /// The folder from which the message files come. With a key, it is that of the messages in letters that the shelf
+    /// has opened.
     pub incoming: &'a str,
     /// The key of the letters in which messages leave, if there is one.
     pub key: Option<&'a Key>,
@@ -383,7 +383,7 @@ impl<'a> Way<'a> {
     }
 }
 
-/// Performs `night` at each desk of `shelf`, whose mails come and go on `way`. The result is that of
+/// Performs `night` at each desk of `shelf`, whose message files come and go on `way`. The result is that of
 /// `exchange_of_shelf`.
 pub(crate) fn exchange_at_desks<T: LockFiles, D: DeskFiles, W: Write, E: Write>(
     machine: &mut Machine<'_, T, W, E>,
@@ -396,11 +396,11 @@ pub(crate) fn exchange_at_desks<T: LockFiles, D: DeskFiles, W: Write, E: Write>(
         (Headed D.DeskStore.state (is_lines night.now.form) (ExchangesAtFile (asked_night night.now)))
         (W.contents machine.old.writer) (W.contents machine.new.writer) result }
 {
-    let from = MailsFrom {
+    let from = MessageFilesFrom {
         folder: way.incoming,
         is_own: way.key.is_some(),
     };
-    let is_waiting = sort_mails(machine, shelf, from, night.copy)?;
+    let is_waiting = sort_message_files(machine, shelf, from, night.copy)?;
     let desks = desks_and_own(machine.rt, machine.alloc, shelf)?;
     let visit = Visit::Exchange(at_each(night, way.incoming), way.key);
     let answer = visit_all(machine, files, &desks, &visit);
@@ -413,8 +413,8 @@ pub(crate) fn exchange_at_desks<T: LockFiles, D: DeskFiles, W: Write, E: Write>(
     graver(answer, further)
 }
 
-/// Returns the night of each desk of a shelf, whose mails come from `incoming`. It has no sign of life, which is given
-/// once, at the end.
+/// Returns the night of each desk of a shelf, whose message files come from `incoming`. It has no sign of life, which
+/// is given once, at the end.
 fn at_each<'a>(night: &Night<'a>, incoming: &'a str) -> Night<'a>
     ensures { asked_night result ≡ asked_night night.now }
 {
@@ -424,7 +424,7 @@ fn at_each<'a>(night: &Night<'a>, incoming: &'a str) -> Night<'a>
         dates: night.dates,
         stamp: same_stamp(&night.stamp),
         copy: night.copy,
-        beat: None,
+        heartbeat: None,
         form: night.form,
         is_on_shelf: true,
     }
@@ -448,13 +448,13 @@ struct Ending<'a, 'b> {
     night: &'b Night<'a>,
     /// The key of the letters in which messages leave, if there is one.
     key: Option<&'a Key>,
-    /// Set if mails wait for the next run.
+    /// Set if message files wait for the next run.
     is_waiting: bool,
 }
 
 /// Copies the marks of retired groups to the folder of copies, and sends the last words of these groups. So no last
 /// word leaves that the copies do not have. Then it gives the sign of life of the night, unless a desk has failed:
-/// `answer` is the gravest answer of the desks. It returns the fault `Left` if mails wait, else true.
+/// `answer` is the gravest answer of the desks. It returns the fault `Deferred` if message files wait, else true.
 fn end_night<T: Files, W: Write, E: Write>(
     machine: &mut Machine<'_, T, W, E>,
     shelf: &Shelf<'_>,
@@ -477,7 +477,7 @@ fn end_night<T: Files, W: Write, E: Write>(
     let sent = send_last_words(machine, shelf, outlet)?;
     if let Some(sent) = sent.unless_failed(answer) {
         let own = shelf.own_desk(machine.alloc)?;
-        if let Err(fault) = beat(machine, night.beat, own.as_str(), sent) {
+        if let Err(fault) = heartbeat(machine, night.heartbeat, own.as_str(), sent) {
             return Err(fault);
         }
     }

@@ -4,17 +4,17 @@ ghost use Rattle.std.specs.Prelude.{◌≡◌, true, is_some, IfErr, IfOk};
 ghost use Rattle.ill_night.specs.Retire.{Retires};
 ghost use Rattle.ill_place.specs.Place.{IsAt, place_of, shelf_of};
 ghost use Rattle.ill_saved.specs.ManySides.{sides_held};
-ghost use Rattle.ill_shelf.specs.Retiring.{MarksDesk, MarksGroup, RetiresAtHome, mark_place, retired_line, told_with};
+ghost use Rattle.ill_shelf.specs.Retiring.{MarksDesk, MarksGroup, RetiresAtHome, mark_place, retired_line, printed_with};
 ghost use Rattle.ill_text.specs.Fault.{IsOpenFault};
 ghost use Rattle.ill_text.specs.Known.{known};
 
 use crate::on_shelf::{save_file, save_mark};
 use ill_files::machine::Machine;
 use ill_files::open::lock;
-use ill_files::paths::{KEPT, MAIL, is_there, path_of};
+use ill_files::paths::{KEPT, MAIL_FOLDER, is_there, path_of};
 use ill_files::shelf::{Shelf, retired_path};
-use ill_mailbox::mail::names_in;
-use ill_mailbox::mail_box::remove_if_there;
+use ill_folders::claiming_folder::remove_if_there;
+use ill_folders::message_file::names_in;
 use ill_night::retire::run_desk_retire;
 use ill_place::place::{DeskFiles, DeskPlace, ShelfPlace};
 use ill_saved::{Desk, DeskFault, LockFiles, Store};
@@ -46,10 +46,10 @@ pub fn retire<T: LockFiles, D: DeskFiles, W: Write, E: Write>(
     };
     let held = desk.lock(machine.alloc)?;
     let is_marked = mark_and_clear(machine.rt, machine.alloc, &desk)?;
-    let told = write_whole(&mut machine.writer, retired_line(is_marked));
+    let printed = write_whole(&mut machine.writer, retired_line(is_marked));
     drop(held);
     drop(sorting);
-    tell_with(is_marked, told)
+    print_with(is_marked, printed)
 }
 
 /// Returns the line of the command: `done` if the group is retired, `not-now` if a loan is not over.
@@ -59,18 +59,18 @@ fn retired_line(is_retired: bool) -> &'static [u8]
     if is_retired { b"done\n" } else { b"not-now\n" }
 }
 
-/// Returns `is_well`, the answer of a command, if its line was written. Else it returns the fault of the writing.
-fn tell_with(is_well: bool, told: Result<(), ToolFault>) -> Result<bool, ToolFault>
-    ensures { result ≡ told_with is_well told }
+/// Returns `is_success`, the answer of a command, if its line was written. Else it returns the fault of the writing.
+fn print_with(is_success: bool, printed: Result<(), ToolFault>) -> Result<bool, ToolFault>
+    ensures { result ≡ printed_with is_success printed }
 {
-    match told {
-        Ok(()) => Ok(is_well),
+    match printed {
+        Ok(()) => Ok(is_success),
         Err(fault) => Err(fault),
     }
 }
 
-/// Marks the group of the desk at `place` as retired, if all its loans are over, and then removes the desk. Returns true
-/// if the group is marked.
+/// Marks the group of the desk at `place` as retired, if all its loans are over, and then removes the desk. Returns
+/// true if the group is marked.
 fn mark_and_clear<T: Files, D: DeskFiles>(
     rt: &T,
     alloc: Global,
@@ -86,8 +86,8 @@ fn mark_and_clear<T: Files, D: DeskFiles>(
     Ok(is_marked)
 }
 
-/// Marks the group of the desk at `place` as retired, if all its loans are over. Returns true if the group is marked, now
-/// or before. A group with a mark needs no desk.
+/// Marks the group of the desk at `place` as retired, if all its loans are over. Returns true if the group is marked,
+/// now or before. A group with a mark needs no desk.
 #[tactic(auto, using(crate::proofs::RetiringLemmas::marks_now, crate::proofs::RetiringLemmas::marked_before))]
 fn mark_group<D: DeskFiles>(alloc: Global, place: &DeskPlace<'_, D>) -> Result<bool, ToolFault>
     ensures marks { IfOk result (MarksGroup (place_of D.DeskStore.state place.now.path.now)) }
@@ -103,7 +103,7 @@ fn mark_group<D: DeskFiles>(alloc: Global, place: &DeskPlace<'_, D>) -> Result<b
 
 /// Returns true if `store` has a record.
 fn has_record<S: Store>(alloc: Global, store: &mut S) -> Result<bool, ToolFault>
-    ensures has { IfOk result (λ has. (S.state store.old).is_honest ≡ true → has ≡ is_some (S.state store.old).landed) }
+    ensures has { IfOk result (λ has. (S.state store.old).is_correct ≡ true → has ≡ is_some (S.state store.old).committed) }
     ensures path { (S.state store.new).path ≡ (S.state store.old).path }
     ensures faults { IfErr result IsOpenFault }
 {
@@ -142,38 +142,38 @@ fn retire_desk<S: Store, C: Store>(
     run_desk_retire(alloc, desk, mark)
 }
 
-/// Removes the file of a desk and the files beside it, and makes that durable. Mails that were put aside stay in their
-/// folder.
+/// Removes the file of a desk and the files beside it, and makes that durable. Message files that were quarantined stay
+/// in their folder.
 fn clear<T: Files>(rt: &T, alloc: Global, file: &str) -> io::Result<()> {
     for ending in KEPT {
         let kept = format!(in alloc; "{file}{ending}")?;
         remove_if_there(rt, kept.as_str())?;
     }
-    let mail = format!(in alloc; "{file}{MAIL}")?;
-    clear_mail(rt, alloc, mail.as_str())?;
+    let message_file = format!(in alloc; "{file}{MAIL_FOLDER}")?;
+    clear_message_file(rt, alloc, message_file.as_str())?;
     remove_if_there(rt, file)?;
     save_mark(rt, alloc, file, load_mark(rt, alloc, file)?)
 }
 
-/// Removes the mails that were claimed for a desk, the messages that ask, and their folder. If mails were put aside,
-/// the folder stays, and an empty file of the messages that ask is made durable.
-fn clear_mail<T: Files>(rt: &T, alloc: Global, mail: &str) -> io::Result<()> {
-    let claimed = format!(in alloc; "{mail}/in")?;
-    let asked = format!(in alloc; "{mail}/asked")?;
-    let aside = format!(in alloc; "{mail}/aside")?;
+/// Removes the message files that were claimed for a desk, the messages that ask, and their folder. If message files
+/// were quarantined, the folder stays, and an empty file of the messages that ask is made durable.
+fn clear_message_file<T: Files>(rt: &T, alloc: Global, message_file: &str) -> io::Result<()> {
+    let claimed = format!(in alloc; "{message_file}/in")?;
+    let asked = format!(in alloc; "{message_file}/asked")?;
+    let quarantined = format!(in alloc; "{message_file}/aside")?;
     if is_there(rt, claimed.as_str())? {
         clear_claimed(rt, alloc, claimed.as_str())?;
         let _ = fs::remove_dir(rt, claimed.as_str());
     }
-    if is_there(rt, aside.as_str())? {
+    if is_there(rt, quarantined.as_str())? {
         return save_file(rt, alloc, asked.as_str(), b"");
     }
     remove_if_there(rt, asked.as_str())?;
-    let _ = fs::remove_dir(rt, mail);
+    let _ = fs::remove_dir(rt, message_file);
     Ok(())
 }
 
-/// Removes the mails that were claimed for a desk.
+/// Removes the message files that were claimed for a desk.
 fn clear_claimed<T: Files>(rt: &T, alloc: Global, claimed: &str) -> io::Result<()> {
     for run in names_in(rt, alloc, claimed)? {
         let Some(run) = path_of(alloc, claimed, &run)? else {
@@ -185,7 +185,7 @@ fn clear_claimed<T: Files>(rt: &T, alloc: Global, claimed: &str) -> io::Result<(
     Ok(())
 }
 
-/// Removes the mails that a run has claimed.
+/// Removes the message files that a run has claimed.
 fn clear_run<T: Files>(rt: &T, alloc: Global, run: &str) -> io::Result<()> {
     for name in names_in(rt, alloc, run)? {
         if let Some(path) = path_of(alloc, run, &name)? {

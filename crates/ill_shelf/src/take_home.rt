@@ -143,8 +143,8 @@ impl<T: LockFiles, D: DeskFiles, W: Write, E: Write> Handler<Machine<'_, T, W, E
             path: file.as_str(),
         };
         match take(machine, &desk, &self.view, &mut input) {
-            Ok(is_well) => {
-                self.all_fine = self.all_fine && is_well;
+            Ok(is_success) => {
+                self.all_fine = self.all_fine && is_success;
                 Ok(())
             }
             Err(fault) => Err(fault),

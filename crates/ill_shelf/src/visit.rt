@@ -9,11 +9,11 @@ ghost use Rattle.ill_shelf.specs.Shelf.{Headed, RunsVisit, VisitsAll, is_headed,
 ghost use Rattle.ill_text.specs.Visits.{graver};
 
 use ill_commands::commands::status;
+use ill_exchange::exchange::{exchange, inbox, outbox};
+use ill_exchange::outlet::Outlet;
 use ill_files::machine::Machine;
+use ill_folders::message_file::Incoming;
 use ill_key::Key;
-use ill_mail::exchange::{exchange, inbox, outbox};
-use ill_mail::outlet::Outlet;
-use ill_mailbox::mail::Incoming;
 use ill_night::night::Night;
 use ill_place::place::{DeskFiles, DeskPlace};
 use ill_rows::listed::{Listed, heading};
@@ -28,11 +28,12 @@ use std::rt::Files;
 pub(crate) enum Visit<'a, 'b, 'c> {
     /// Its loans are shown.
     Status(Form),
-    /// The mails that were sorted to it are taken. Mails that wait are given back to the folder of this `Incoming`.
+    /// The message files that were sorted to it are taken. Message files that wait are given back to the folder of this
+    /// `Incoming`.
     Inbox(Incoming<'a, 'b, 'c>),
     /// Its messages are put into the folder of this outlet, or written to the output.
     Outbox(Option<Outlet<'a>>),
-    /// It exchanges its mail. With a key, its messages leave in sealed letters.
+    /// It exchanges its message files. With a key, its messages leave in sealed letters.
     Exchange(Night<'a>, Option<&'a Key>),
 }
 
@@ -72,7 +73,7 @@ fn visit_desk<T: Files, D: DeskFiles, W: Write, E: Write>(
     }) }
 {
     match head(machine, place.path, is_headed(visit)) {
-        Ok(()) => visit_told(machine, place, visit),
+        Ok(()) => visit_printed(machine, place, visit),
         Err(fault) => Err(fault),
     }
 }
@@ -117,8 +118,8 @@ fn is_lines(form: Form) -> bool
     }
 }
 
-/// Runs the command of `visit` at a desk. A line to the errors tells of a fault, unless the fault is `Left`.
-fn visit_told<T: Files, D: DeskFiles, W: Write, E: Write>(
+/// Runs the command of `visit` at a desk. A line to the errors tells of a fault, unless the fault is `Deferred`.
+fn visit_printed<T: Files, D: DeskFiles, W: Write, E: Write>(
     machine: &mut Machine<'_, T, W, E>,
     place: &DeskPlace<'_, D>,
     visit: &Visit<'_, '_, '_>,
@@ -128,7 +129,7 @@ fn visit_told<T: Files, D: DeskFiles, W: Write, E: Write>(
 {
     let answer = run_visit(machine, place, visit);
     if let Err(fault) = answer
-        && fault != ToolFault::Left
+        && fault != ToolFault::Deferred
     {
         machine.warn_of_fault(place.path, fault);
     }

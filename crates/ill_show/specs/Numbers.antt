@@ -12,11 +12,11 @@ use Rattle.ill_text.specs.Escape.{escaped}
 abbrev pub numbers_left : Side → ℕ
 numbers_left side = 255 - length (issued_of side)
 
--- The greatest count of numbers left that is told.
+-- The greatest count of numbers left that is printed.
 abbrev pub few_numbers : ℕ
 few_numbers = 10
 
--- Returns true if the numbers left of the loan are told: it is not over, and has at most `few_numbers` left.
+-- Returns true if the numbers left of the loan are printed: it is not over, and has at most `few_numbers` left.
 abbrev pub has_few_numbers : Side → Bool
 has_few_numbers side = not (is_over side) && nat_le (numbers_left side) few_numbers
 

@@ -73,26 +73,27 @@ abbrev pub record_text : Form → List ℕ → SidesOf → List ℕ
 record_text Lines = verify_lines
 record_text Json = λ bytes all. object_line (record_fields bytes all)
 
--- Returns the fault of a record as the result of a command, once its text is written. If that fails, it returns the failure.
+-- Returns the fault of a record as the result of a command, once its text is written. If that fails, it returns the
+-- failure.
 abbrev pub after_fault : RecordFault → Result (Unit {0}) ToolFault → Result (Unit {0}) ToolFault
 after_fault fault (Ok done) = Err (Desk (Saved fault))
 after_fault fault (Err failure) = Err failure
 
 -- The result is the `fault` of a record. With the form `Lines` nothing was written. With `Json` its object was
 -- written, unless that failed.
-abbrev pub TellsFault : Form → RecordFault → Option (List ℕ) → Option (List ℕ) → Result (Unit {0}) ToolFault → Type 0
-TellsFault Lines fault before after result = (result ≡ Err (Desk (Saved fault))) × Appends before after []
-TellsFault Json fault before after result =
+abbrev pub PrintsFault : Form → RecordFault → Option (List ℕ) → Option (List ℕ) → Result (Unit {0}) ToolFault → Type 0
+PrintsFault Lines fault before after result = (result ≡ Err (Desk (Saved fault))) × Appends before after []
+PrintsFault Json fault before after result =
     (written : Result (Unit {0}) ToolFault) × WritesText before after (object_line (fault_fields fault)) written
     × (result ≡ after_fault fault written)
 
--- If `bytes` are a record, its text was written. If they are none, the result is their fault, told as `TellsFault`
+-- If `bytes` are a record, its text was written. If they are none, the result is their fault, printed as `PrintsFault`
 -- says. Or memory ran out before anything was written.
 abbrev pub Verifies : Form → List ℕ → Result SidesOf RecordFault → Option (List ℕ) → Option (List ℕ) →
     Result (Unit {0}) ToolFault → Type 0
 Verifies form bytes (Ok all) before after result = WritesText before after (record_text form bytes all) result
 Verifies form bytes (Err fault) before after result =
-    ((result ≡ Err OutOfMemory) × Appends before after []) ⊎ TellsFault form fault before after result
+    ((result ≡ Err OutOfMemory) × Appends before after []) ⊎ PrintsFault form fault before after result
 
 -- If the load of the store gave bytes, they were verified. If it gave none or a fault, the result is a fault,
 -- and nothing was written.
@@ -103,8 +104,8 @@ VerifiesLoaded form (Ok None) before after result = (result ≡ Err (Desk NoReco
 VerifiesLoaded form (Err fault) before after result =
     (result ≡ Err (desk_fault (of_store fault))) × Appends before after []
 
--- The command: it loads the content of the store, and verifies it. An honest store gives the landed bytes.
+-- The command: it loads the content of the store, and verifies it. A correct store gives the committed bytes.
 abbrev pub RunsVerify : Form → StoreState → Option (List ℕ) → Option (List ℕ) → Result (Unit {0}) ToolFault → Type 0
 RunsVerify form store before after result =
     (loaded : Result (Option (List ℕ)) StoreFault)
-    × (store.is_honest ≡ true → IfOk loaded (λ found. found ≡ store.landed)) × VerifiesLoaded form loaded before after result
+    × (store.is_correct ≡ true → IfOk loaded (λ found. found ≡ store.committed)) × VerifiesLoaded form loaded before after result

@@ -1,4 +1,5 @@
-//! The texts of a loan, over a desk that is read: in lines, in JSON and as a picture. No file and no lock is known here.
+//! The texts of a loan, over a desk that is read: in lines, in JSON and as a picture. No file and no lock is known
+//! here.
 #![tactic(auto)]
 
 pub mod item_line;

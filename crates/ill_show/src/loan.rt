@@ -4,7 +4,7 @@ ghost use Rattle.std.specs.Prelude.{◌≡◌, [], ◌++◌, codes, map, option_
 ghost use Rattle.ill_record.specs.Side.{txn_of};
 ghost use Rattle.ill_saved.specs.ManySides.{found_by, txn_held};
 ghost use Rattle.ill_text.specs.Json.{joined, member};
-ghost use Rattle.ill_beside.specs.Diary.{history_fields, history_of, messages_of, told};
+ghost use Rattle.ill_beside.specs.Diary.{history_fields, history_of, messages_of, printed};
 ghost use Rattle.ill_show.specs.Loan.{IsTextOf, RunsLoan, beside_of, fields_with_history, lines_with_history, loan_form, loan_text};
 ghost use Rattle.ill_beside.specs.FileLines.{lines_of};
 ghost use Rattle.ill_show.specs.declared.loan.LoanForm.TheVariants.{Object};
@@ -29,7 +29,7 @@ use std::io::Write;
 /// The form in which a loan is shown.
 #[derive(Clone, Copy)]
 pub enum LoanForm {
-    /// Lines.
+    /// Lines of text.
     Lines,
     /// An object of JSON.
     Object,
@@ -195,11 +195,11 @@ fn push_fields(text: &mut Vec<u8>, shown: &ShownLoan<'_>, kept: &[Apdu]) -> Resu
         (record { side = shown.now.side.now; released = shown.now.released }) kept.now)) }
 {
     push_kept_and_note(text, shown.note, shown.side, shown.released, kept)?;
-    push_told_history(text, shown, kept)
+    push_printed_history(text, shown, kept)
 }
 
 /// Appends the field of the history of the side in `shown`, to which the messages `kept` came.
-fn push_told_history(
+fn push_printed_history(
     text: &mut Vec<u8>,
     shown: &ShownLoan<'_>,
     kept: &[Apdu],
@@ -218,7 +218,7 @@ fn history<'a>(
     shown: &ShownLoan<'a>,
     kept: &[Apdu],
 ) -> Result<Vec<Part<'a>>, OutOfMemory>
-    ensures { IfOk result (λ parts. map told parts.items
+    ensures { IfOk result (λ parts. map printed parts.items
         ≡ history_of (messages_of shown.now.side.now kept.now) (map (λ line. line.items) shown.now.diary.now)) }
 {
     let messages = messages_of(alloc, shown.side, kept)?;

@@ -12,7 +12,7 @@ use ill_words::is_over;
 use ill_words::sides::all_of;
 use std::alloc::Global;
 
-/// The greatest count of numbers left that is told.
+/// The greatest count of numbers left that is printed.
 const FEW: u8 = 10;
 
 /// Returns the count of numbers that `side` has left for its messages.
@@ -22,7 +22,7 @@ pub fn numbers_left(side: &Side) -> u8
     u8::MAX - side.issued_count()
 }
 
-/// Returns true if the numbers left of the loan of `side` are told: it is not over, and has at most 10 left.
+/// Returns true if the numbers left of the loan of `side` are printed: it is not over, and has at most 10 left.
 pub fn has_few_numbers(side: &Side) -> bool
     ensures { result ≡ has_few_numbers side.now }
 {
@@ -45,13 +45,13 @@ fn push_lines(lines: &mut Vec<u8>, path: &str, sides: &[&Side]) -> Result<(), Ou
         ≡ lines.old.items ++ numbers_lines path.now (map (λ side. side.now) sides.now)) }
 {
     for side in sides {
-        push_told(lines, path, side)?;
+        push_printed(lines, path, side)?;
     }
     Ok(())
 }
 
 /// Appends the line of the loan of `side` at the desk in `path`, if the loan has few numbers left.
-pub fn push_told(lines: &mut Vec<u8>, path: &str, side: &Side) -> Result<(), OutOfMemory>
+pub fn push_printed(lines: &mut Vec<u8>, path: &str, side: &Side) -> Result<(), OutOfMemory>
     ensures { OnOk result (lines.new.items ≡ lines.old.items ++ numbers_lines path.now (side.now ∷ [])) }
 {
     if has_few_numbers(side) {
@@ -85,8 +85,8 @@ fn push_left(lines: &mut Vec<u8>, left: u8) -> Result<(), OutOfMemory>
     ensures { OnOk result (lines.new.items
         ≡ lines.old.items ++ (codes ": " ++ (decimal left ++ numbers_words (nat_eq left 1)))) }
 {
-    let told = format!(in *lines.allocator(); ": {left}")?;
-    lines.extend_from_slice(told.as_bytes())?;
+    let printed = format!(in *lines.allocator(); ": {left}")?;
+    lines.extend_from_slice(printed.as_bytes())?;
     lines.extend_from_slice(numbers_words(left == 1).as_bytes())?;
     Ok(())
 }

@@ -14,8 +14,8 @@ use std::alloc::Global;
 /// The first lines of a picture.
 const OPENING: &str = "sequenceDiagram\n  participant requester\n  participant responder\n";
 
-/// Returns a sequence chart of the messages of `side`, in the language of Mermaid. The messages are its issued ones, the
-/// request in a responder's record, and `kept`, which came.
+/// Returns a sequence chart of the messages of `side`, in the language of Mermaid. The messages are its issued ones,
+/// the request in a responder's record, and `kept`, which came.
 ///
 /// Nobody knows the order of one side's messages and the other's in time. The picture keeps the order of each side.
 /// It draws a message of the other side as late as possible, but before one that needs or answers it. Directly after

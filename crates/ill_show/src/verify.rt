@@ -9,7 +9,7 @@ ghost use Rattle.ill_text.specs.Json.{joined, member, optional, value_text};
 ghost use Rattle.std.specs.Fmt.{decimal};
 ghost use Rattle.ill_record.specs.Faults.{place_of};
 ghost use Rattle.ill_text.specs.Output.{WritesText};
-ghost use Rattle.ill_show.specs.Verify.{RunsVerify, TellsFault, Verifies, after_fault, fault_fields, fault_word, issued_by_all, record_fields, record_text, verify_lines, version_of};
+ghost use Rattle.ill_show.specs.Verify.{RunsVerify, PrintsFault, Verifies, after_fault, fault_fields, fault_word, issued_by_all, record_fields, record_text, verify_lines, version_of};
 
 use ill_saved::{DeskFault, RecordFault, SIDES_LIMIT, Side, Sides, Store, decode_record2};
 use ill_text::fault::ToolFault;
@@ -22,8 +22,8 @@ use ill_words::sides::all_of;
 use std::alloc::Global;
 use std::io::Write;
 
-/// Writes five lines of the record in `store`, or an object with their values. They have its version, its role, and three
-/// numbers. These are of its loans, of their issued messages, and of further loans for which there is room.
+/// Writes five lines of the record in `store`, or an object with their values. They have its version, its role, and
+/// three numbers. These are of its loans, of their issued messages, and of further loans for which there is room.
 ///
 /// Nothing is saved. The fault is `NoRecord` if the store has no record, and `Saved` if its bytes are no record. In
 /// the form `Json` the object of the fault `Saved` is written, too.
@@ -34,7 +34,7 @@ pub fn run_desk_verify<S: Store, W: Write>(
     writer: &mut W,
 ) -> Result<(), ToolFault>
     ensures verifies { RunsVerify form (S.state store.old) (W.contents writer.old) (W.contents writer.new) result }
-    ensures unchanged { (S.state store.old).is_honest ≡ true → (S.state store.new).landed ≡ (S.state store.old).landed }
+    ensures unchanged { (S.state store.old).is_correct ≡ true → (S.state store.new).committed ≡ (S.state store.old).committed }
     ensures counted { CountsToolFailure result (S.state store.old).failures (S.state store.new).failures }
 {
     match store.load(alloc) {
@@ -57,18 +57,18 @@ fn verify_bytes<W: Write>(
     match decode_record2(alloc, bytes) {
         Ok(sides) => write_found(alloc, bytes, &sides, form, writer),
         Err(RecordFault::OutOfMemory) => Err(ToolFault::OutOfMemory),
-        Err(fault) => tell_fault(alloc, fault, form, writer),
+        Err(fault) => print_fault(alloc, fault, form, writer),
     }
 }
 
 /// Returns `fault` as the fault of the command. In the form `Json` the object of `fault` is written before.
-fn tell_fault<W: Write>(
+fn print_fault<W: Write>(
     alloc: Global,
     fault: RecordFault,
     form: Form,
     writer: &mut W,
 ) -> Result<(), ToolFault>
-    ensures { TellsFault form fault (W.contents writer.old) (W.contents writer.new) result }
+    ensures { PrintsFault form fault (W.contents writer.old) (W.contents writer.new) result }
 {
     match form {
         Form::Lines => Err(ToolFault::Desk(DeskFault::Saved(fault))),

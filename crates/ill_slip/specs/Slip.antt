@@ -24,7 +24,8 @@ use Rattle.ill_slip.specs.declared.slip_parts.TheConstants.{CODE_END, NOTE}
 
 -- ---- the code
 
--- Returns true if `byte` is a letter, a digit or one of `-`, `.`, `/`, `:`, `_` and `+`. In a shell it stands for itself.
+-- Returns true if `byte` is a letter, a digit or one of `-`, `.`, `/`, `:`, `_` and `+`. In a shell it stands for
+-- itself.
 abbrev pub is_plain : ℕ → Bool
 is_plain byte =
     (nat_le 0x2D byte && nat_le byte 0x3A) || ((nat_le 0x41 byte && nat_le byte 0x5A)

@@ -25,8 +25,8 @@ const START: u8 = 104;
 /// The value of the symbol that ends a code.
 const STOP: u8 = 106;
 
-/// Appends the path of the Code 128 of `text`. It has at most 129 bytes, as two qualifiers with a space have. So the sum
-/// for the check value cannot overflow.
+/// Appends the path of the Code 128 of `text`. It has at most 129 bytes, as two qualifiers with a space have. So the
+/// sum for the check value cannot overflow.
 pub(crate) fn push_path(page: &mut Vec<u8>, text: &[u8]) -> Result<(), OutOfMemory>
     requires { length text.now ≤ 129 }
     ensures { OnOk result (page.new.items ≡ page.old.items ++ path (encoded text.now)) }

@@ -1,4 +1,5 @@
-//! The mail that comes to a shelf: letters are opened, and each mail is sorted to the desk of its group.
+//! The message files that come to a shelf: letters are opened, and each file is sorted to the desk of its
+//! group.
 #![tactic(auto)]
 
 pub mod last_words;

@@ -1,5 +1,5 @@
 //! The letters that come to a shelf with a key. Each is opened, and the messages in it are put into a folder of the
-//! shelf, from which it then takes its mails.
+//! shelf, from which it then takes its message files.
 //!
 //! A letter is claimed into a folder where nobody else may write. Its file is removed only once the disk has its
 //! messages. So the next run opens a letter again that a killed run has left. A message that was put already takes its
@@ -7,25 +7,27 @@
 
 ghost use Rattle.std.specs.Prelude.{◌≡◌, IfErr, IfOk};
 ghost use Rattle.ill_night.specs.Outbox.{PutsOne};
-ghost use Rattle.ill_sorting.specs.Opened.{message_mail, message_name, opened_answer};
+ghost use Rattle.ill_sorting.specs.Opened.{file_of_message, message_name, opened_answer};
 ghost use Rattle.ill_text.specs.Fault.{IsOpenFault};
 
 use ill_files::durable::flush;
 use ill_files::machine::Machine;
 use ill_files::open::lock;
 use ill_files::shelf::Shelf;
+use ill_folders::claiming_folder::{
+    ClaimedMessageFile, ClaimingFolder, give_back, open_box, remove_if_there,
+};
+use ill_folders::fault_lines::{NO_BOX, NO_RUN, NOT_READ};
+use ill_folders::folders::open_own_folder;
+use ill_folders::host_room::remove_runs;
+use ill_folders::message_file::{MessageFiles, Opening, Source, begin_run, claim_message_files};
+use ill_folders::message_folder::MessageFolder;
+use ill_folders::reserved::is_within;
 use ill_key::Key;
 use ill_key::role::other_sender;
-use ill_mailbox::fault_lines::{NO_BOX, NO_RUN, NOT_READ};
-use ill_mailbox::folders::open_own_folder;
-use ill_mailbox::host_room::remove_runs;
-use ill_mailbox::mail::{Mails, Opening, Source, begin_run, claim_mails};
-use ill_mailbox::mail_box::{ClaimedMail, MailBox, give_back, open_box, remove_if_there};
-use ill_mailbox::mail_folder::MailFolder;
-use ill_mailbox::reserved::is_within;
 use ill_night::outgoing::Outgoing;
-use ill_night::person::tell_person;
-use ill_night::verdict::{Mail, Unfit, Verdict, push_unfit};
+use ill_night::person::print_for_person;
+use ill_night::verdict::{MessageFile, Unfit, Verdict, push_unfit};
 use ill_saved::{LockFiles, Role};
 use ill_text::fault::{STORE_FAILED, ToolFault};
 use ill_text::warning::warn;
@@ -53,16 +55,16 @@ const NOT_OPENED: &str = " is not opened, and stays among the letters that were 
 pub struct Opened {
     /// Set if a file waits for the next run.
     pub is_waiting: bool,
-    /// Set unless a file was put aside, which is no letter that the other library has sealed with the key.
+    /// Set unless a file was quarantined, which is no letter that the other library has sealed with the key.
     pub are_sealed: bool,
 }
 
-/// Returns the answer of letters that were opened: `Left` if a file waits, else true if no file was put aside.
+/// Returns the answer of letters that were opened: `Deferred` if a file waits, else true if no file was quarantined.
 pub fn opened_answer(opened: Opened) -> Result<bool, ToolFault>
     ensures { result ≡ opened_answer opened.is_waiting opened.are_sealed }
 {
     if opened.is_waiting {
-        Err(ToolFault::Left)
+        Err(ToolFault::Deferred)
     } else {
         Ok(opened.are_sealed)
     }
@@ -121,11 +123,11 @@ fn open_under_lock<T: LockFiles, W: Write, E: Write>(
     ensures silent { machine.new.writer ≡ machine.old.writer }
 {
     let letters = format!(in machine.alloc; "{}/{LETTERS}", shelf.folder)?;
-    let mail_box = open_box(machine.rt, machine.alloc, letters.as_str(), own);
-    let mail_box = machine.report_fault_at(mail_box, letters.as_str(), NO_BOX)?;
-    let run = begin_run(machine.rt, machine.alloc, &mail_box);
+    let claiming_folder = open_box(machine.rt, machine.alloc, letters.as_str(), own);
+    let claiming_folder = machine.report_fault_at(claiming_folder, letters.as_str(), NO_BOX)?;
+    let run = begin_run(machine.rt, machine.alloc, &claiming_folder);
     let run = machine.report_fault_at(run, letters.as_str(), NO_RUN)?;
-    let found = claim_letters(machine, shelf, unpacking, &mail_box, run.as_str());
+    let found = claim_letters(machine, shelf, unpacking, &claiming_folder, run.as_str());
     let found = machine.report_fault_at(found, unpacking.folder, NOT_READ)?;
     Ok(unpack(machine, shelf, unpacking, &found)?)
 }
@@ -136,9 +138,9 @@ fn claim_letters<T: Files, W, E>(
     machine: &Machine<'_, T, W, E>,
     shelf: &Shelf<'_>,
     unpacking: Unpacking<'_>,
-    mail_box: &MailBox,
+    claiming_folder: &ClaimingFolder,
     run: &str,
-) -> Result<Mails, ToolFault>
+) -> Result<MessageFiles, ToolFault>
     ensures { IfErr result IsOpenFault }
 {
     if is_within(machine.rt, machine.alloc, unpacking.folder, shelf.folder)? {
@@ -151,16 +153,16 @@ fn claim_letters<T: Files, W, E>(
             sender: other_sender(shelf.role),
         }),
     };
-    claim_mails(machine.rt, machine.alloc, mail_box, source, run)
+    claim_message_files(machine.rt, machine.alloc, claiming_folder, source, run)
 }
 
 /// Puts the messages in the letters `found` into their folder, and removes each letter whose messages the disk has. Any
-/// other file is put aside or given back, and a line tells a person.
+/// other file is quarantined or given back, and a line tells a person.
 fn unpack<T: Files, W: Write, E: Write>(
     machine: &mut Machine<'_, T, W, E>,
     shelf: &Shelf<'_>,
     unpacking: Unpacking<'_>,
-    found: &Mails,
+    found: &MessageFiles,
 ) -> io::Result<Opened>
     ensures silent { machine.new.writer ≡ machine.old.writer }
 {
@@ -170,7 +172,7 @@ fn unpack<T: Files, W: Write, E: Write>(
         alloc: machine.alloc,
         role: shelf.role,
         unpacking,
-        aside: MailBox::open(machine.rt, machine.alloc, own.as_str(), own.as_str())?,
+        quarantined: ClaimingFolder::open(machine.rt, machine.alloc, own.as_str(), own.as_str())?,
         kept: Vec::new(machine.alloc),
         opened: Opened {
             is_waiting: found.waiting > 0,
@@ -190,8 +192,8 @@ struct Letters<'a, T: Files> {
     alloc: Global,
     role: Role,
     unpacking: Unpacking<'a>,
-    /// The mail of the shelf's own desk, where files that are no letters are put aside.
-    aside: MailBox,
+    /// The folder of message files of the shelf's own desk, in which files that are no letters are quarantined.
+    quarantined: ClaimingFolder,
     /// The numbers of the letters of which a message could not be put. Their files stay.
     kept: Vec<usize>,
     opened: Opened,
@@ -199,12 +201,12 @@ struct Letters<'a, T: Files> {
 
 impl<T: Files> Letters<'_, T> {
     /// Puts each message of a sealed letter into the folder of messages, and settles the other files.
-    fn open_all<E: Write>(&mut self, found: &Mails, errors: &mut E) -> io::Result<()> {
-        for (mail, file) in found.mails.iter().zip(&found.files) {
-            match self.open_one(mail, file.as_ref(), errors) {
+    fn open_all<E: Write>(&mut self, found: &MessageFiles, errors: &mut E) -> io::Result<()> {
+        for (message_file, file) in found.message_files.iter().zip(&found.files) {
+            match self.open_one(message_file, file.as_ref(), errors) {
                 Ok(()) => {}
                 Err(error) if error.kind() == ErrorKind::OutOfMemory => return Err(error),
-                Err(_) => self.keep(mail, errors)?,
+                Err(_) => self.keep(message_file, errors)?,
             }
         }
         Ok(())
@@ -213,23 +215,23 @@ impl<T: Files> Letters<'_, T> {
     /// Puts a message of a sealed letter into the folder `.opened`, or settles `file` if it is no such letter.
     fn open_one<E: Write>(
         &mut self,
-        mail: &Mail,
+        message_file: &MessageFile,
         file: Option<&String>,
         errors: &mut E,
     ) -> io::Result<()> {
-        match (&mail.bytes, mail.letter) {
+        match (&message_file.bytes, message_file.letter) {
             (Some(message), Some(_)) => self.put(message),
             (Some(bytes), None) => {
                 let verdict = Verdict::without_message(bytes, Unfit::NotSealed);
-                self.settle(mail, file, verdict, errors)
+                self.settle(message_file, file, verdict, errors)
             }
-            (None, letter) => self.settle(mail, file, Verdict::unread(letter), errors),
+            (None, letter) => self.settle(message_file, file, Verdict::unread(letter), errors),
         }
     }
 
     /// Puts `message` into the folder of messages.
     fn put(&self, message: &[u8]) -> io::Result<()> {
-        let mut folder = MailFolder::at(self.rt, self.alloc, self.unpacking.opened);
+        let mut folder = MessageFolder::at(self.rt, self.alloc, self.unpacking.opened);
         match put_message(self.alloc, message, &mut folder) {
             Ok(()) => Ok(()),
             Err(ToolFault::OutOfMemory) => Err(ErrorKind::OutOfMemory.into()),
@@ -237,30 +239,30 @@ impl<T: Files> Letters<'_, T> {
         }
     }
 
-    /// Settles the file of `mail`, which is no sealed letter: it is put aside or given back, as `verdict` says. A line
-    /// to `errors` tells a person. If the mail could not be claimed, it has no `file`, and waits.
+    /// Settles the file of `message_file`, which is no sealed letter: it is quarantined or given back, as `verdict`
+    /// says. A line to `errors` tells a person. If the message file could not be claimed, it has no `file`, and waits.
     fn settle<E: Write>(
         &mut self,
-        mail: &Mail,
+        message_file: &MessageFile,
         file: Option<&String>,
         verdict: Verdict,
         errors: &mut E,
     ) -> io::Result<()> {
-        tell_person(
+        print_for_person(
             self.alloc,
             self.role,
-            slice::from_ref(mail),
+            slice::from_ref(message_file),
             &[verdict],
             errors,
         );
         match (verdict, file) {
-            (Verdict::Aside(unfit), Some(file)) => {
+            (Verdict::Quarantined(unfit), Some(file)) => {
                 self.opened.are_sealed = false;
-                self.set_aside(mail, self.claimed(mail, file), unfit)
+                self.move_to_quarantine(message_file, self.claimed(message_file, file), unfit)
             }
             (_, Some(file)) => {
                 self.opened.is_waiting = true;
-                give_back(self.rt, self.alloc, self.claimed(mail, file))
+                give_back(self.rt, self.alloc, self.claimed(message_file, file))
             }
             (_, None) => {
                 self.opened.is_waiting = true;
@@ -269,44 +271,53 @@ impl<T: Files> Letters<'_, T> {
         }
     }
 
-    /// Returns the file of a mail as one that was claimed.
-    fn claimed<'m>(&'m self, mail: &'m Mail, file: &'m String) -> ClaimedMail<'m> {
-        ClaimedMail {
+    /// Returns the file of a message file as one that was claimed.
+    fn claimed<'m>(
+        &'m self,
+        message_file: &'m MessageFile,
+        file: &'m String,
+    ) -> ClaimedMessageFile<'m> {
+        ClaimedMessageFile {
             file: file.as_str(),
             folder: self.unpacking.folder,
-            name: &mail.name,
+            name: &message_file.name,
         }
     }
 
-    /// Puts a file aside, under the digest of the bytes that were read of it, with the reason `unfit`.
-    fn set_aside(&self, mail: &Mail, claimed: ClaimedMail<'_>, unfit: Unfit) -> io::Result<()> {
-        let digest = mail.digest(self.alloc)?;
+    /// Quarantines a file, under the digest of the bytes that were read of it, with the reason `unfit`.
+    fn move_to_quarantine(
+        &self,
+        message_file: &MessageFile,
+        claimed: ClaimedMessageFile<'_>,
+        unfit: Unfit,
+    ) -> io::Result<()> {
+        let digest = message_file.digest(self.alloc)?;
         let mut why = Vec::new(self.alloc);
         push_unfit(&mut why, unfit)?;
         why.push(b'\n')?;
-        self.aside
-            .put_aside(self.rt, claimed, digest.as_str(), &why)
+        self.quarantined
+            .quarantine(self.rt, claimed, digest.as_str(), &why)
     }
 
-    /// Keeps the file of a mail among the claimed ones, for the next run, and writes a line about it. A letter has one
-    /// line.
-    fn keep<E: Write>(&mut self, mail: &Mail, errors: &mut E) -> io::Result<()> {
+    /// Keeps the file of a message file among the claimed ones, for the next run, and writes a line about it. A letter
+    /// has one line.
+    fn keep<E: Write>(&mut self, message_file: &MessageFile, errors: &mut E) -> io::Result<()> {
         self.opened.is_waiting = true;
-        if let Some(letter) = mail.letter {
+        if let Some(letter) = message_file.letter {
             if self.kept.contains(&letter.number) {
                 return Ok(());
             }
             self.kept.push(letter.number)?;
         }
-        warn(self.alloc, &mail.name, NOT_OPENED, errors);
+        warn(self.alloc, &message_file.name, NOT_OPENED, errors);
         Ok(())
     }
 
     /// Makes the names of the messages durable, and then removes the files of the letters whose messages were all put.
-    fn remove_opened(&self, found: &Mails) -> io::Result<()> {
+    fn remove_opened(&self, found: &MessageFiles) -> io::Result<()> {
         flush(&fs::open(self.rt, self.unpacking.opened)?)?;
-        for (mail, file) in found.mails.iter().zip(&found.files) {
-            if let (Some(letter), Some(file)) = (mail.letter, file)
+        for (message_file, file) in found.message_files.iter().zip(&found.files) {
+            if let (Some(letter), Some(file)) = (message_file.letter, file)
                 && letter.is_sealed
                 && !self.kept.contains(&letter.number)
             {
@@ -317,9 +328,9 @@ impl<T: Files> Letters<'_, T> {
     }
 }
 
-/// Puts `message` into `out`. Its name there is made of its digest, so equal messages are one mail.
+/// Puts `message` into `out`. Its name there is made of its digest, so equal messages are one message file.
 fn put_message<O: Outgoing>(alloc: Global, message: &[u8], out: &mut O) -> Result<(), ToolFault>
-    ensures { PutsOne O.after (message_mail message.now) (O.mails out.old) (O.mails out.new) result }
+    ensures { PutsOne O.after (file_of_message message.now) (O.message_files out.old) (O.message_files out.new) result }
 {
     match message_name(alloc, message) {
         Ok(name) => out.put(&name, message),
@@ -327,7 +338,7 @@ fn put_message<O: Outgoing>(alloc: Global, message: &[u8], out: &mut O) -> Resul
     }
 }
 
-/// Returns the name of the mail of `message`.
+/// Returns the name of the message file of `message`.
 fn message_name(alloc: Global, message: &[u8]) -> Result<Vec<u8>, OutOfMemory>
     ensures { IfOk result (λ name. name.items ≡ message_name message.now) }
 {

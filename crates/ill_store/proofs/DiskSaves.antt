@@ -68,17 +68,17 @@ names_leave path old d whole lefts found left = lefts found (
   left.2,
 )
 
--- After `aside` is removed, each crash leaves at `path`, another path, what a crash of `d` might have left.
-pub remove_leaves : (aside path : List ℕ) (d : Disk) → (aside ≡ path → ⊥) → LeavesOld path d (after_remove aside d)
-remove_leaves aside path d differ found left = ⊎_elim
+-- After `temporary` is removed, each crash leaves at `path`, another path, what a crash of `d` might have left.
+pub remove_leaves : (temporary path : List ℕ) (d : Disk) → (temporary ≡ path → ⊥) → LeavesOld path d (after_remove temporary d)
+remove_leaves temporary path d differ found left = ⊎_elim
     (λ stands. (left.0, record { names = stands; only = left.1.only; files = left.1.files }, left.2))
     (λ changed. (
       record { files = left.0.files; names = changed.0; may_stand = changed.0 ∷ [] },
       record { names = changed.1; only = refl; files = left.1.files },
-      ap (bytes_of left.0.files) (sym (ap (found_at path) changed.2 ∙ found_without_other path aside changed.0 differ))
+      ap (bytes_of left.0.files) (sym (ap (found_at path) changed.2 ∙ found_without_other path temporary changed.0 differ))
           ∙ left.2,
     ))
-    (change_left (without aside) d left.0 left.1)
+    (change_left (without temporary) d left.0 left.1)
 
 -- ---- a load
 
@@ -112,10 +112,10 @@ no_load_lasts path old read last same whole none names =
 
 -- ---- a load that ends at a call
 
--- On an honest disk, at each moment from `old` to `new`, a read and each crash give the old record.
+-- On a correct disk, at each moment from `old` to `new`, a read and each crash give the old record.
 pub record HasKept (path : List ℕ) (old new : DiskState) : Type 0 where
-  pub moments : old.is_honest ≡ true → Throughout (IsOld path old.now) old new
-  pub honest : new.is_honest ≡ old.is_honest
+  pub moments : old.is_correct ≡ true → Throughout (IsOld path old.now) old new
+  pub correct : new.is_correct ≡ old.is_correct
 
 -- A read satisfies `HasKept`, done or failed.
 pub read_has_kept : {X E : Type 0} {bytes_of : X → List ℕ} {path : List ℕ} {old read : DiskState}
@@ -125,26 +125,27 @@ read_has_kept {path = path} {old = old} reads = record {
     ap (content path) (reads.done h).same,
     subst (LeavesOld path old.now) (sym (reads.done h).same) (old_left path old.now),
   );
-  honest = reads.honest;
+  correct = reads.correct;
 }
 
 -- If `HasKept` holds, it holds after a flush of the file of the record, done or failed.
 pub flush_has_kept : {E : Type 0} {path : List ℕ} {old read flushed : DiskState} {answer : Result (Unit {0}) E} →
     HasKept path old read → Answers (Changes (after_flush path)) read answer flushed → HasKept path old flushed
 flush_has_kept {path = path} {old = old} {read = read} {flushed = flushed} {answer = answer} so_far flushes = record {
-  moments = λ h. one_more_call (so_far.moments h) (flushes.past (so_far.honest ∙ h))
+  moments = λ h. one_more_call (so_far.moments h) (flushes.past (so_far.correct ∙ h))
       (flush_keeps path old.now read.now flushed.now
-      answer (so_far.moments h).last (flushes.done (so_far.honest ∙ h)));
-  honest = flushes.honest ∙ so_far.honest;
+      answer (so_far.moments h).last (flushes.done (so_far.correct ∙ h)));
+  correct = flushes.correct ∙ so_far.correct;
 }
 
 -- If `HasKept` holds, it holds after a flush of the names, done or failed.
 pub names_have_kept : {E : Type 0} {path : List ℕ} {old flushed last : DiskState} {answer : Result (Unit {0}) E} →
     HasKept path old flushed → Answers (Changes after_flush_names) flushed answer last → HasKept path old last
 names_have_kept {path = path} {old = old} {flushed = flushed} {last = last} {answer = answer} so_far flushes = record {
-  moments = λ h. one_more_call (so_far.moments h) (flushes.past (so_far.honest ∙ h)) (names_keep path old.now flushed.now last.now
-      answer (flushes.whole (so_far.honest ∙ h)) (so_far.moments h).last (flushes.done (so_far.honest ∙ h)));
-  honest = flushes.honest ∙ so_far.honest;
+  moments = λ h. one_more_call (so_far.moments h) (flushes.past (so_far.correct ∙ h))
+      (names_keep path old.now flushed.now last.now
+      answer (flushes.whole (so_far.correct ∙ h)) (so_far.moments h).last (flushes.done (so_far.correct ∙ h)));
+  correct = flushes.correct ∙ so_far.correct;
 }
 
 -- If `HasKept` holds up to the end of a load that answers `Err`, the load satisfies `DiskLoads`.
@@ -155,7 +156,7 @@ load_fails {answer = Err fault} is so_far = record {
   loaded = λ h. tt;
   lasts = λ h. tt;
   moments = so_far.moments;
-  honest = so_far.honest;
+  correct = so_far.correct;
 }
 
 -- If a read gives no record, and the names are flushed, the load that answers `None` satisfies `DiskLoads`.
@@ -164,13 +165,13 @@ pub no_record_loads : {X E : Type 0} {bytes_of : X → List ℕ} {path : List �
     Answers {E = E} (Changes after_flush_names) read (Ok done) last → DiskLoads {E = E} bytes_of path old (Ok None) last
 no_record_loads {bytes_of = bytes_of} {path = path} {old = old} {read = read} {last = last} is reads flushes =
     let so_far = names_have_kept (read_has_kept reads) flushes in
-    let gives : old.is_honest ≡ true → None ≡ content path old.now =
+    let gives : old.is_correct ≡ true → None ≡ content path old.now =
     λ h. sym (ap (option_map bytes_of) is) ∙ (reads.done h).bytes in record {
       loaded = gives;
-      lasts = λ h. no_load_lasts path old.now read.now last.now (reads.done h).same (flushes.whole (reads.honest ∙ h))
-          (sym (gives h)) (flushes.done (reads.honest ∙ h));
+      lasts = λ h. no_load_lasts path old.now read.now last.now (reads.done h).same (flushes.whole (reads.correct ∙ h))
+          (sym (gives h)) (flushes.done (reads.correct ∙ h));
       moments = so_far.moments;
-      honest = so_far.honest;
+      correct = so_far.correct;
     }
 
 -- If a read gives `saved`, and its file and the names are flushed, the load that answers `saved` satisfies `DiskLoads`.
@@ -185,16 +186,16 @@ record_loads {bytes_of = bytes_of} {path = path} {old = old} {read = read} {flus
     let so_far = names_have_kept (flush_has_kept (read_has_kept reads) flushes) names in record {
       loaded = λ h. sym (ap (option_map bytes_of) is) ∙ (reads.done h).bytes;
       lasts = λ h. load_lasts path old.now read.now flushed.now last.now (reads.done h).same
-          (flushes.done (reads.honest ∙ h)) (names.done (flushes.honest ∙ reads.honest ∙ h));
+          (flushes.done (reads.correct ∙ h)) (names.done (flushes.correct ∙ reads.correct ∙ h));
       moments = so_far.moments;
-      honest = so_far.honest;
+      correct = so_far.correct;
     }
 
 -- ---- a save, after an older new file was removed
 
 -- The disk `d` is whole, and has the old record. A read gives what a read of the disk `first` gave. A crash leaves what
 -- a crash of `first` might have left.
-module _ (aside path bytes : List ℕ) (first d : Disk) (whole : IsWhole d) (differ : aside ≡ path → ⊥)
+module _ (temporary path bytes : List ℕ) (first d : Disk) (whole : IsWhole d) (differ : temporary ≡ path → ⊥)
     (reads : content path d ≡ content path first) (lefts : LeavesOld path first d) where
   -- A read of the disk gives the old record or the new one, and so does each crash.
   abbrev pub IsFine : Disk → Type 0
@@ -205,35 +206,37 @@ module _ (aside path bytes : List ℕ) (first d : Disk) (whole : IsWhole d) (dif
   old_fine x same left = (inl (same ∙ reads), λ found gives. inl (lefts found (left found gives)))
 
   -- A crash after a new file of any bytes is made leaves an old record.
-  create_leaves : (some : List ℕ) → LeavesOld path d (after_create aside some d)
-  create_leaves some found left = subst (Leaves d path) left.2 (created_left aside path some d whole differ left.0 left.1)
+  create_leaves : (some : List ℕ) → LeavesOld path d (after_create temporary some d)
+  create_leaves some found left = subst (Leaves d path) left.2 (created_left temporary path some d whole differ left.0 left.1)
 
   -- A disk with a new file of any bytes is fine.
-  created_fine : (some : List ℕ) → IsFine (after_create aside some d)
-  created_fine some = old_fine (after_create aside some d) (create_elsewhere aside path some d whole differ) (create_leaves some)
+  created_fine : (some : List ℕ) → IsFine (after_create temporary some d)
+  created_fine some = old_fine (after_create temporary some d) (create_elsewhere temporary path some d whole differ)
+      (create_leaves some)
 
   -- Each disk on the way leaves an old record or the new one.
-  way_left : (x : Disk) → In (on_the_way aside path bytes d) x → LeavesOldOr path bytes first x
+  way_left : (x : Disk) → In (on_the_way temporary path bytes d) x → LeavesOldOr path bytes first x
   way_left x on_way found left = ⊎_elim (λ old. inl (lefts found old)) inr
-      (save_moments aside path bytes d whole differ x on_way found left)
+      (save_moments temporary path bytes d whole differ x on_way found left)
 
   -- A read of each disk on the way gives the old record or the new one. The cases are `d`, and the disk after each
   -- call: making, flush and rename of the new file, flush of the names.
-  way_read : (x : Disk) → In (on_the_way aside path bytes d) x → ReadsOldOr path bytes first x
+  way_read : (x : Disk) → In (on_the_way temporary path bytes d) x → ReadsOldOr path bytes first x
   way_read x (inl is) = inl (ap (content path) is ∙ reads)
-  way_read x (inr (inl is)) = inl (ap (content path) is ∙ create_elsewhere aside path bytes d whole differ ∙ reads)
+  way_read x (inr (inl is)) = inl (ap (content path) is ∙ create_elsewhere temporary path bytes d whole differ ∙ reads)
   way_read x (inr (inr (inl is))) = inl (ap (content path) is
-      ∙ flush_is_not_read path aside (after_create aside bytes d) ∙ create_elsewhere aside path bytes d whole differ ∙ reads)
-  way_read x (inr (inr (inr (inl is)))) = inr (ap (content path) is ∙ save_is_read aside path bytes d whole differ)
-  way_read x (inr (inr (inr (inr (inl is))))) = inr (ap (content path) is ∙ save_is_read aside path bytes d whole differ)
+      ∙ flush_is_not_read path temporary (after_create temporary bytes d) ∙ create_elsewhere temporary path bytes d whole differ
+      ∙ reads)
+  way_read x (inr (inr (inr (inl is)))) = inr (ap (content path) is ∙ save_is_read temporary path bytes d whole differ)
+  way_read x (inr (inr (inr (inr (inl is))))) = inr (ap (content path) is ∙ save_is_read temporary path bytes d whole differ)
   way_read x (inr (inr (inr (inr (inr none))))) = absurd none
 
   -- Each disk on the way is fine.
-  pub way_fine : (x : Disk) → In (on_the_way aside path bytes d) x → IsFine x
+  pub way_fine : (x : Disk) → In (on_the_way temporary path bytes d) x → IsFine x
   way_fine x on_way = (way_read x on_way, way_left x on_way)
 
   -- The disk after a new file is made, or was not, is fine.
-  pub creates_fine : {E : Type 0} (x : Disk) (result : Result (Unit {0}) E) → Creates aside bytes d result x → IsFine x
+  pub creates_fine : {E : Type 0} (x : Disk) (result : Result (Unit {0}) E) → Creates temporary bytes d result x → IsFine x
   creates_fine x (Ok done) is = subst IsFine (sym is) (created_fine bytes)
   creates_fine x (Err fault) is = ⊎_elim
       (λ same. subst IsFine (sym same) (old_fine d refl (old_left path d)))
@@ -241,137 +244,139 @@ module _ (aside path bytes : List ℕ) (first d : Disk) (whole : IsWhole d) (dif
 
 -- ---- a new record is placed
 
--- On a whole disk `d` the new record `bytes` is placed: a file is made at `aside`, flushed, and renamed to `path`.
-module _ (aside path bytes : List ℕ) (d : Disk) (differ : aside ≡ path → ⊥) (whole : IsWhole d) where
+-- On a whole disk `d` the new record `bytes` is placed: a file is made at `temporary`, flushed, and renamed to `path`.
+module _ (temporary path bytes : List ℕ) (d : Disk) (differ : temporary ≡ path → ⊥) (whole : IsWhole d) where
   -- Each disk on the way of a save has the old record or the new one.
-  on_way : (last : Disk) → In (on_the_way aside path bytes d) last → IsOldOrNew path bytes d last
-  on_way last is = way_fine aside path bytes d d whole differ refl (old_left path d) last is
+  on_way : (last : Disk) → In (on_the_way temporary path bytes d) last → IsOldOrNew path bytes d last
+  on_way last is = way_fine temporary path bytes d d whole differ refl (old_left path d) last is
 
   -- The disk after the new file was made, or was not, has the old record or the new one.
-  pub after_making : {E : Type 0} (made : Disk) (result : Result (Unit {0}) E) → Creates aside bytes d result made
+  pub after_making : {E : Type 0} (made : Disk) (result : Result (Unit {0}) E) → Creates temporary bytes d result made
       → IsOldOrNew path bytes d made
-  after_making made result is = creates_fine aside path bytes d d whole differ refl (old_left path d) made result is
+  after_making made result is = creates_fine temporary path bytes d d whole differ refl (old_left path d) made result is
 
   -- The disk after the new file was flushed, or was not, has the old record or the new one.
   pub after_flushing : {E : Type 0} (made flushed : Disk) (result : Result (Unit {0}) E) →
-      made ≡ after_create aside bytes d → Changes (after_flush aside) made result flushed → IsOldOrNew path bytes d flushed
+      made ≡ after_create temporary bytes d → Changes (after_flush temporary) made result flushed
+      → IsOldOrNew path bytes d flushed
   after_flushing made flushed result is changes =
-      on_way flushed (after_call (In (on_the_way aside path bytes d)) (after_flush aside) made flushed result changes
-      (inr (inl is)) (inr (inr (inl (ap (after_flush aside) is)))))
+      on_way flushed (after_call (In (on_the_way temporary path bytes d)) (after_flush temporary) made flushed result changes
+      (inr (inl is)) (inr (inr (inl (ap (after_flush temporary) is)))))
 
   -- The disk after the new file was renamed, or was not, has the old record or the new one. By `here` the disk
   -- `flushed` is the third on the way.
   pub after_renaming : {E : Type 0} (made flushed renamed : Disk) (result : Result (Unit {0}) E) →
-      made ≡ after_create aside bytes d → flushed ≡ after_flush aside made →
-      Changes (after_rename aside path) flushed result renamed → IsOldOrNew path bytes d renamed
+      made ≡ after_create temporary bytes d → flushed ≡ after_flush temporary made →
+      Changes (after_rename temporary path) flushed result renamed → IsOldOrNew path bytes d renamed
   after_renaming made flushed renamed result is flush changes =
-      let here = flush ∙ ap (after_flush aside) is in
-      on_way renamed (after_call (In (on_the_way aside path bytes d)) (after_rename aside path) flushed renamed result
-      changes (inr (inr (inl here))) (inr (inr (inr (inl (ap (after_rename aside path) here))))))
+      let here = flush ∙ ap (after_flush temporary) is in
+      on_way renamed (after_call (In (on_the_way temporary path bytes d)) (after_rename temporary path) flushed renamed result
+      changes (inr (inr (inl here))) (inr (inr (inr (inl (ap (after_rename temporary path) here))))))
 
   -- The disk after the names were flushed, or were not, has the old record or the new one.
   pub after_flushing_names : {E : Type 0} (placed last : Disk) (result : Result (Unit {0}) E) →
-      placed ≡ after_placing aside path bytes d → Changes after_flush_names placed result last →
+      placed ≡ after_placing temporary path bytes d → Changes after_flush_names placed result last →
       IsOldOrNew path bytes d last
   after_flushing_names placed last result is changes =
-      on_way last (after_call (In (on_the_way aside path bytes d)) after_flush_names placed last result changes
+      on_way last (after_call (In (on_the_way temporary path bytes d)) after_flush_names placed last result changes
       (inr (inr (inr (inl is)))) (inr (inr (inr (inr (inl (ap after_flush_names is)))))))
 
 -- The bytes of a save last after the new record was placed, and the names were flushed.
-pub save_is_done : {E : Type 0} (aside path bytes : List ℕ) (d placed last : Disk) (result : Result (Unit {0}) E) →
-    IsWhole d → (aside ≡ path → ⊥) → placed ≡ after_placing aside path bytes d →
+pub save_is_done : {E : Type 0} (temporary path bytes : List ℕ) (d placed last : Disk) (result : Result (Unit {0}) E) →
+    IsWhole d → (temporary ≡ path → ⊥) → placed ≡ after_placing temporary path bytes d →
     Changes after_flush_names placed result last → OnOk result (Lasts path last (Some bytes))
-save_is_done aside path bytes d placed last result whole differ is names =
+save_is_done temporary path bytes d placed last result whole differ is names =
     after_done_call (λ (x : Disk). Lasts path x (Some bytes)) after_flush_names placed last result names
-    (subst (λ (x : Disk). Lasts path (after_flush_names x) (Some bytes)) (sym is) (save_lasts aside path bytes d whole differ))
+    (subst (λ (x : Disk). Lasts path (after_flush_names x) (Some bytes)) (sym is)
+    (save_lasts temporary path bytes d whole differ))
 
 -- A read gives the bytes of a save after the new record was placed, and the names were flushed.
-pub save_is_seen : {E : Type 0} (aside path bytes : List ℕ) (d placed last : Disk) (result : Result (Unit {0}) E) →
-    IsWhole d → (aside ≡ path → ⊥) → placed ≡ after_placing aside path bytes d →
+pub save_is_seen : {E : Type 0} (temporary path bytes : List ℕ) (d placed last : Disk) (result : Result (Unit {0}) E) →
+    IsWhole d → (temporary ≡ path → ⊥) → placed ≡ after_placing temporary path bytes d →
     Changes after_flush_names placed result last → OnOk result (content path last ≡ Some bytes)
-save_is_seen aside path bytes d placed last result whole differ is names =
+save_is_seen temporary path bytes d placed last result whole differ is names =
     after_done_call (λ (x : Disk). content path x ≡ Some bytes) after_flush_names placed last result names
     (subst (λ (x : Disk). content path (after_flush_names x) ≡ Some bytes) (sym is)
-    (save_is_read aside path bytes d whole differ))
+    (save_is_read temporary path bytes d whole differ))
 
 -- ---- the calls of a placing
 
--- On an honest disk, at each moment from `old` to `new`, a read and each crash give the old record or `bytes`.
+-- On a correct disk, at each moment from `old` to `new`, a read and each crash give the old record or `bytes`.
 pub record HasSaved (path bytes : List ℕ) (old new : DiskState) : Type 0 where
-  pub moments : old.is_honest ≡ true → Throughout (IsOldOrNew path bytes old.now) old new
-  pub honest : new.is_honest ≡ old.is_honest
+  pub moments : old.is_correct ≡ true → Throughout (IsOldOrNew path bytes old.now) old new
+  pub correct : new.is_correct ≡ old.is_correct
 
 -- A new file was made, or was not.
-module _ {E : Type 0} {aside path bytes : List ℕ} {old made : DiskState} {making : Result (Unit {0}) E}
-    (differ : aside ≡ path → ⊥) (creates : Answers (Creates aside bytes) old making made) where
+module _ {E : Type 0} {temporary path bytes : List ℕ} {old made : DiskState} {making : Result (Unit {0}) E}
+    (differ : temporary ≡ path → ⊥) (creates : Answers (Creates temporary bytes) old making made) where
   -- `HasSaved` holds up to the making of the new file, done or failed.
   so_made : HasSaved path bytes old made
   so_made = record {
     moments = λ h. one_more_call {now = old} (throughout_nothing {old = old} (inl refl, λ found left. inl left)) (creates.past h)
-        (after_making aside path bytes old.now differ (creates.whole h) made.now making (creates.done h));
-    honest = creates.honest;
+        (after_making temporary path bytes old.now differ (creates.whole h) made.now making (creates.done h));
+    correct = creates.correct;
   }
 
   -- A placing that ends because the making of the new file failed satisfies `DiskPlaces`.
-  pub making_fails : {answer : Result (Unit {0}) E} → IsErr answer → DiskPlaces aside path bytes old answer made
+  pub making_fails : {answer : Result (Unit {0}) E} → IsErr answer → DiskPlaces temporary path bytes old answer made
   making_fails {answer = Ok done} is = absurd (true≢false (sym is))
   making_fails {answer = Err fault} is = record {
     placed = λ h. tt;
     moments = so_made.moments;
     whole = creates.whole;
-    honest = so_made.honest;
+    correct = so_made.correct;
   }
 
 -- The new file was made. It was flushed, or was not.
-module _ {E : Type 0} {aside path bytes : List ℕ} {old made flushed : DiskState} {flushing : Result (Unit {0}) E}
-    {one : Unit {0}} (differ : aside ≡ path → ⊥) (creates : Answers {E = E} (Creates aside bytes) old (Ok one) made)
-    (flushes : Answers (Changes (after_flush aside)) made flushing flushed) where
+module _ {E : Type 0} {temporary path bytes : List ℕ} {old made flushed : DiskState} {flushing : Result (Unit {0}) E}
+    {one : Unit {0}} (differ : temporary ≡ path → ⊥) (creates : Answers {E = E} (Creates temporary bytes) old (Ok one) made)
+    (flushes : Answers (Changes (after_flush temporary)) made flushing flushed) where
   -- `HasSaved` holds up to the flush of the new file, done or failed.
   so_flushed : HasSaved path bytes old flushed
   so_flushed =
       let before : HasSaved path bytes old made = so_made differ creates in record {
-        moments = λ h. one_more_call (before.moments h) (flushes.past (creates.honest ∙ h))
-            (after_flushing aside path bytes old.now differ (creates.whole h) made.now flushed.now flushing (creates.done h)
-            (flushes.done (creates.honest ∙ h)));
-        honest = flushes.honest ∙ creates.honest;
+        moments = λ h. one_more_call (before.moments h) (flushes.past (creates.correct ∙ h))
+            (after_flushing temporary path bytes old.now differ (creates.whole h) made.now flushed.now flushing (creates.done h)
+            (flushes.done (creates.correct ∙ h)));
+        correct = flushes.correct ∙ creates.correct;
       }
 
   -- A placing that ends because the flush of the new file failed satisfies `DiskPlaces`.
-  pub flushing_fails : {answer : Result (Unit {0}) E} → IsErr answer → DiskPlaces aside path bytes old answer flushed
+  pub flushing_fails : {answer : Result (Unit {0}) E} → IsErr answer → DiskPlaces temporary path bytes old answer flushed
   flushing_fails {answer = Ok done} is = absurd (true≢false (sym is))
   flushing_fails {answer = Err fault} is = record {
     placed = λ h. tt;
     moments = so_flushed.moments;
     whole = creates.whole;
-    honest = so_flushed.honest;
+    correct = so_flushed.correct;
   }
 
 -- The new file was made, and flushed. It was renamed, or was not.
-module _ {E : Type 0} {aside path bytes : List ℕ} {old made flushed renamed : DiskState} {renaming : Result (Unit {0}) E}
-    {one two : Unit {0}} (differ : aside ≡ path → ⊥)
-    (creates : Answers {E = E} (Creates aside bytes) old (Ok one) made)
-    (flushes : Answers {E = E} (Changes (after_flush aside)) made (Ok two) flushed)
-    (renames : Answers (Changes (after_rename aside path)) flushed renaming renamed) where
-  -- If the disk `old` is honest, so is the disk after the new file was flushed.
-  still_honest : old.is_honest ≡ true → flushed.is_honest ≡ true
-  still_honest h = flushes.honest ∙ creates.honest ∙ h
+module _ {E : Type 0} {temporary path bytes : List ℕ} {old made flushed renamed : DiskState} {renaming : Result (Unit {0}) E}
+    {one two : Unit {0}} (differ : temporary ≡ path → ⊥)
+    (creates : Answers {E = E} (Creates temporary bytes) old (Ok one) made)
+    (flushes : Answers {E = E} (Changes (after_flush temporary)) made (Ok two) flushed)
+    (renames : Answers (Changes (after_rename temporary path)) flushed renaming renamed) where
+  -- If the disk `old` is correct, so is the disk after the new file was flushed.
+  still_correct : old.is_correct ≡ true → flushed.is_correct ≡ true
+  still_correct h = flushes.correct ∙ creates.correct ∙ h
 
-  -- If the disk `old` is honest, the flush of the new file changed the disk `made` as it says.
-  flushed_is : old.is_honest ≡ true → flushed.now ≡ after_flush aside made.now
-  flushed_is h = flushes.done (creates.honest ∙ h)
+  -- If the disk `old` is correct, the flush of the new file changed the disk `made` as it says.
+  flushed_is : old.is_correct ≡ true → flushed.now ≡ after_flush temporary made.now
+  flushed_is h = flushes.done (creates.correct ∙ h)
 
   -- A placing that ends with the answer of the rename, done or failed, satisfies `DiskPlaces`.
-  pub placing_ends : DiskPlaces aside path bytes old renaming renamed
+  pub placing_ends : DiskPlaces temporary path bytes old renaming renamed
   placing_ends =
       let before : HasSaved path bytes old flushed = so_flushed differ creates flushes in record {
-        placed = λ h. after_done_call (λ (x : Disk). x ≡ after_placing aside path bytes old.now) (after_rename aside path)
-            flushed.now renamed.now renaming (renames.done (still_honest h))
-            (ap (after_rename aside path) (flushed_is h ∙ ap (after_flush aside) (creates.done h)));
-        moments = λ h. one_more_call (before.moments h) (renames.past (still_honest h))
-            (after_renaming aside path bytes old.now differ (creates.whole h) made.now flushed.now renamed.now renaming
-            (creates.done h) (flushed_is h) (renames.done (still_honest h)));
+        placed = λ h. after_done_call (λ (x : Disk). x ≡ after_placing temporary path bytes old.now) (after_rename temporary path)
+            flushed.now renamed.now renaming (renames.done (still_correct h))
+            (ap (after_rename temporary path) (flushed_is h ∙ ap (after_flush temporary) (creates.done h)));
+        moments = λ h. one_more_call (before.moments h) (renames.past (still_correct h))
+            (after_renaming temporary path bytes old.now differ (creates.whole h) made.now flushed.now renamed.now renaming
+            (creates.done h) (flushed_is h) (renames.done (still_correct h)));
         whole = creates.whole;
-        honest = renames.honest ∙ flushes.honest ∙ creates.honest;
+        correct = renames.correct ∙ flushes.correct ∙ creates.correct;
       }
 
 -- ---- the calls of a save
@@ -383,21 +388,21 @@ look_up_has_kept {path = path} {old = old} {looked = looked} {answer = answer} l
   moments = λ h. one_more_call (throughout_nothing (refl, old_left path old.now)) (looks.past h)
       (after_call (IsOld path old.now) unchanged
       old.now looked.now answer (looks.done h) (refl, old_left path old.now) (refl, old_left path old.now));
-  honest = looks.honest;
+  correct = looks.correct;
 }
 
--- If `HasKept` holds, it holds after a removal at another path `aside`, done or failed.
-pub remove_has_kept : {E : Type 0} {aside path : List ℕ} {old looked cleared : DiskState} {answer : Result (Unit {0}) E} →
-    (aside ≡ path → ⊥) → HasKept path old looked → Answers (Changes (after_remove aside)) looked answer cleared →
+-- If `HasKept` holds, it holds after a removal at another path `temporary`, done or failed.
+pub remove_has_kept : {E : Type 0} {temporary path : List ℕ} {old looked cleared : DiskState} {answer : Result (Unit {0}) E} →
+    (temporary ≡ path → ⊥) → HasKept path old looked → Answers (Changes (after_remove temporary)) looked answer cleared →
     HasKept path old cleared
-remove_has_kept {aside = aside} {path = path} {old = old} {looked = looked} {cleared = cleared} {answer = answer} differ
+remove_has_kept {temporary = temporary} {path = path} {old = old} {looked = looked} {cleared = cleared} {answer = answer} differ
     so_far removes = record {
-      moments = λ h. one_more_call (so_far.moments h) (removes.past (so_far.honest ∙ h)) (after_call (IsOld path old.now)
-          (after_remove aside) looked.now cleared.now answer (removes.done (so_far.honest ∙ h)) (so_far.moments h).last (
-            remove_elsewhere aside path looked.now differ ∙ (so_far.moments h).last.0,
-            λ found left. (so_far.moments h).last.1 found (remove_leaves aside path looked.now differ found left),
+      moments = λ h. one_more_call (so_far.moments h) (removes.past (so_far.correct ∙ h)) (after_call (IsOld path old.now)
+          (after_remove temporary) looked.now cleared.now answer (removes.done (so_far.correct ∙ h)) (so_far.moments h).last (
+            remove_elsewhere temporary path looked.now differ ∙ (so_far.moments h).last.0,
+            λ found left. (so_far.moments h).last.1 found (remove_leaves temporary path looked.now differ found left),
           ));
-      honest = removes.honest ∙ so_far.honest;
+      correct = removes.correct ∙ so_far.correct;
     }
 
 -- If the disk `d` satisfies `IsOld`, it satisfies `IsOldOrNew`.
@@ -412,13 +417,14 @@ old_then_fine path bytes old d kept x fine = (
   λ found left. ⊎_elim (λ was. inl (kept.1 found was)) inr (fine.1 found left),
 )
 
--- If the disk `d` satisfies `IsOldOrNew`, so does the disk after another path `aside` is removed.
-fine_without : (aside path bytes : List ℕ) (old d : Disk) → (aside ≡ path → ⊥) → IsOldOrNew path bytes old d →
-    IsOldOrNew path bytes old (after_remove aside d)
-fine_without aside path bytes old d differ fine = (
-  ⊎_elim (λ same. inl (remove_elsewhere aside path d differ ∙ same)) (λ is. inr (remove_elsewhere aside path d differ ∙ is))
+-- If the disk `d` satisfies `IsOldOrNew`, so does the disk after another path `temporary` is removed.
+fine_without : (temporary path bytes : List ℕ) (old d : Disk) → (temporary ≡ path → ⊥) → IsOldOrNew path bytes old d →
+    IsOldOrNew path bytes old (after_remove temporary d)
+fine_without temporary path bytes old d differ fine = (
+  ⊎_elim (λ same. inl (remove_elsewhere temporary path d differ ∙ same))
+      (λ is. inr (remove_elsewhere temporary path d differ ∙ is))
       fine.0,
-  λ found left. fine.1 found (remove_leaves aside path d differ found left),
+  λ found left. fine.1 found (remove_leaves temporary path d differ found left),
 )
 
 -- If `HasKept` holds up to the end of a save that answers `Err`, the save satisfies `DiskSaves`.
@@ -429,59 +435,59 @@ early_save_fails {path = path} {bytes = bytes} {old = old} {answer = Err fault} 
   saved = λ h. tt;
   lasts = λ h. tt;
   moments = λ h. holds_too (old_is_fine path bytes old.now) (so_far.moments h);
-  honest = so_far.honest;
+  correct = so_far.correct;
 }
 
 -- The old record was kept until a new one was placed, or was not.
-module _ {E : Type 0} {aside path bytes : List ℕ} {old cleared placed : DiskState} {placing : Result (Unit {0}) E}
-    (so_far : HasKept path old cleared) (places : DiskPlaces aside path bytes cleared placing placed) where
-  -- If the disk `old` is honest, so is the disk after `aside` was removed.
-  was_honest : old.is_honest ≡ true → cleared.is_honest ≡ true
-  was_honest h = so_far.honest ∙ h
+module _ {E : Type 0} {temporary path bytes : List ℕ} {old cleared placed : DiskState} {placing : Result (Unit {0}) E}
+    (so_far : HasKept path old cleared) (places : DiskPlaces temporary path bytes cleared placing placed) where
+  -- If the disk `old` is correct, so is the disk after `temporary` was removed.
+  was_correct : old.is_correct ≡ true → cleared.is_correct ≡ true
+  was_correct h = so_far.correct ∙ h
 
   -- `HasSaved` holds up to the placing of the new record, done or failed.
   so_placed : HasSaved path bytes old placed
   so_placed = record {
     moments = λ h. joins (holds_too (old_is_fine path bytes old.now) (so_far.moments h))
-        (holds_too (old_then_fine path bytes old.now cleared.now (so_far.moments h).last) (places.moments (was_honest h)));
-    honest = places.honest ∙ so_far.honest;
+        (holds_too (old_then_fine path bytes old.now cleared.now (so_far.moments h).last) (places.moments (was_correct h)));
+    correct = places.correct ∙ so_far.correct;
   }
 
--- A save whose placing failed, and which then removes what stands at `aside`, satisfies `DiskSaves`. The removal may
--- fail.
-pub save_fails : {D E : Type 0} {aside path bytes : List ℕ} {old cleared placed last : DiskState} {fault : E}
-    {removal : Result (Unit {0}) D} → (aside ≡ path → ⊥) → HasKept path old cleared →
-    DiskPlaces {E = E} aside path bytes cleared (Err fault) placed →
-    Answers (Changes (after_remove aside)) placed removal last → DiskSaves {E = E} path bytes old (Err fault) last
-save_fails {aside = aside} {path = path} {bytes = bytes} {old = old} {placed = placed} {last = last} {removal = removal}
+-- A save whose placing failed, and which then removes what stands at `temporary`, satisfies `DiskSaves`. The removal
+-- may fail.
+pub save_fails : {D E : Type 0} {temporary path bytes : List ℕ} {old cleared placed last : DiskState} {fault : E}
+    {removal : Result (Unit {0}) D} → (temporary ≡ path → ⊥) → HasKept path old cleared →
+    DiskPlaces {E = E} temporary path bytes cleared (Err fault) placed →
+    Answers (Changes (after_remove temporary)) placed removal last → DiskSaves {E = E} path bytes old (Err fault) last
+save_fails {temporary = temporary} {path = path} {bytes = bytes} {old = old} {placed = placed} {last = last} {removal = removal}
     differ so_far places removes =
     let before : HasSaved path bytes old placed = so_placed so_far places in record {
       saved = λ h. tt;
       lasts = λ h. tt;
-      moments = λ h. one_more_call (before.moments h) (removes.past (before.honest ∙ h))
-          (after_call (IsOldOrNew path bytes old.now) (after_remove aside) placed.now last.now removal
-          (removes.done (before.honest ∙ h)) (before.moments h).last
-          (fine_without aside path bytes old.now placed.now differ (before.moments h).last));
-      honest = removes.honest ∙ before.honest;
+      moments = λ h. one_more_call (before.moments h) (removes.past (before.correct ∙ h))
+          (after_call (IsOldOrNew path bytes old.now) (after_remove temporary) placed.now last.now removal
+          (removes.done (before.correct ∙ h)) (before.moments h).last
+          (fine_without temporary path bytes old.now placed.now differ (before.moments h).last));
+      correct = removes.correct ∙ before.correct;
     }
 
 -- A save that has placed the new record, and answers as the flush of the names, satisfies `DiskSaves`.
-pub save_ends : {E : Type 0} {aside path bytes : List ℕ} {old cleared placed last : DiskState}
-    {ending : Result (Unit {0}) E} {one : Unit {0}} → (aside ≡ path → ⊥) → HasKept path old cleared →
-    DiskPlaces {E = E} aside path bytes cleared (Ok one) placed →
+pub save_ends : {E : Type 0} {temporary path bytes : List ℕ} {old cleared placed last : DiskState}
+    {ending : Result (Unit {0}) E} {one : Unit {0}} → (temporary ≡ path → ⊥) → HasKept path old cleared →
+    DiskPlaces {E = E} temporary path bytes cleared (Ok one) placed →
     Answers (Changes after_flush_names) placed ending last → DiskSaves path bytes old ending last
-save_ends {aside = aside} {path = path} {bytes = bytes} {old = old} {cleared = cleared} {placed = placed} {last = last}
+save_ends {temporary = temporary} {path = path} {bytes = bytes} {old = old} {cleared = cleared} {placed = placed} {last = last}
     {ending = ending} differ so_far places names =
     let before : HasSaved path bytes old placed = so_placed so_far places in record {
-      saved = λ h. save_is_seen aside path bytes cleared.now placed.now last.now ending (places.whole (so_far.honest ∙ h))
-          differ (places.placed (so_far.honest ∙ h)) (names.done (before.honest ∙ h));
-      lasts = λ h. save_is_done aside path bytes cleared.now placed.now last.now ending (places.whole (so_far.honest ∙ h))
-          differ (places.placed (so_far.honest ∙ h)) (names.done (before.honest ∙ h));
-      moments = λ h. one_more_call (before.moments h) (names.past (before.honest ∙ h))
+      saved = λ h. save_is_seen temporary path bytes cleared.now placed.now last.now ending (places.whole (so_far.correct ∙ h))
+          differ (places.placed (so_far.correct ∙ h)) (names.done (before.correct ∙ h));
+      lasts = λ h. save_is_done temporary path bytes cleared.now placed.now last.now ending (places.whole (so_far.correct ∙ h))
+          differ (places.placed (so_far.correct ∙ h)) (names.done (before.correct ∙ h));
+      moments = λ h. one_more_call (before.moments h) (names.past (before.correct ∙ h))
           (old_then_fine path bytes old.now cleared.now (so_far.moments h).last last.now
-          (after_flushing_names aside path bytes cleared.now differ (places.whole (so_far.honest ∙ h)) placed.now last.now
-          ending (places.placed (so_far.honest ∙ h)) (names.done (before.honest ∙ h))));
-      honest = names.honest ∙ before.honest;
+          (after_flushing_names temporary path bytes cleared.now differ (places.whole (so_far.correct ∙ h)) placed.now last.now
+          ending (places.placed (so_far.correct ∙ h)) (names.done (before.correct ∙ h))));
+      correct = names.correct ∙ before.correct;
     }
 
 -- ---- a store that answers as its disk did
@@ -497,7 +503,7 @@ done_load_at {F = F} {bytes_of = bytes_of} {p = p} {a = a} {b = b} {e = e} {foun
       loaded = loads.loaded;
       lasts = loads.lasts;
       moments = loads.moments;
-      honest = loads.honest;
+      correct = loads.correct;
     })))
 
 -- Let the paths `p` and `q`, the disks `a` and `b`, and the disks `d` and `e` be equal.
@@ -511,7 +517,7 @@ failed_load_at {bytes_of = bytes_of} {p = p} {a = a} {b = b} {e = e} {other = ot
       loaded = loads.loaded;
       lasts = loads.lasts;
       moments = loads.moments;
-      honest = loads.honest;
+      correct = loads.correct;
     })))
 
 -- Let the paths `p` and `q`, the disks `a` and `b`, and the disks `d` and `e` be equal.
@@ -525,7 +531,7 @@ done_save_at {F = F} {p = p} {bytes = bytes} {a = a} {b = b} {e = e} {done = don
       saved = saves.saved;
       lasts = saves.lasts;
       moments = saves.moments;
-      honest = saves.honest;
+      correct = saves.correct;
     })))
 
 -- Let the paths `p` and `q`, the disks `a` and `b`, and the disks `d` and `e` be equal.
@@ -539,7 +545,7 @@ failed_save_at {p = p} {bytes = bytes} {a = a} {b = b} {e = e} {other = other} p
       saved = saves.saved;
       lasts = saves.lasts;
       moments = saves.moments;
-      honest = saves.honest;
+      correct = saves.correct;
     })))
 
 -- A load that fails before its first call, and leaves the disk as it was, satisfies `DiskLoads`.
@@ -550,7 +556,7 @@ no_call_loads {bytes_of = bytes_of} {path = path} {old = old} {fault = fault} sa
       loaded = λ h. tt;
       lasts = λ h. tt;
       moments = λ h. throughout_nothing (refl, old_left path old.now);
-      honest = refl;
+      correct = refl;
     })
 
 -- A save that fails before its first call, and leaves the disk as it was, satisfies `DiskSaves`.
@@ -561,25 +567,25 @@ no_call_saves {path = path} {bytes = bytes} {old = old} {fault = fault} same =
       saved = λ h. tt;
       lasts = λ h. tt;
       moments = λ h. throughout_nothing (inl refl, λ found left. inl left);
-      honest = refl;
+      correct = refl;
     })
 
 -- ---- what a loss of power leaves in a store
 
--- After a load on an honest disk, a loss of power leaves the record that was read. If the load failed, it leaves what
+-- After a load on a correct disk, a loss of power leaves the record that was read. If the load failed, it leaves what
 -- it might have left before.
 pub load_leaves : {X : Type 0} {bytes_of : X → List ℕ} {p q : List ℕ} {old new : DiskState}
-    {answer : Result (Option X) StoreFault} → q ≡ p → DiskLoads bytes_of p old answer new → old.is_honest ≡ true →
+    {answer : Result (Option X) StoreFault} → q ≡ p → DiskLoads bytes_of p old answer new → old.is_correct ≡ true →
     LoadLasts (content p old.now) (Leaves old.now p) answer (Leaves new.now q)
 load_leaves {new = new} {answer = Ok found} same loads h = λ left leaves.
     loads.lasts h left (subst (λ (r : List ℕ). Leaves new.now r left) same leaves)
 load_leaves {new = new} {answer = Err fault} same loads h = λ left leaves.
     (loads.moments h).last.1 left (subst (λ (r : List ℕ). Leaves new.now r left) same leaves)
 
--- After a save on an honest disk, a loss of power leaves the new record. If the save failed, it leaves this or what it
+-- After a save on a correct disk, a loss of power leaves the new record. If the save failed, it leaves this or what it
 -- might have left before.
 pub save_leaves : {p q bytes : List ℕ} {old new : DiskState} {answer : Result (Unit {0}) StoreFault} → q ≡ p →
-    DiskSaves p bytes old answer new → old.is_honest ≡ true →
+    DiskSaves p bytes old answer new → old.is_correct ≡ true →
     SaveLasts bytes (Leaves old.now p) answer (Leaves new.now q)
 save_leaves {new = new} {answer = Ok done} same saves h = λ left leaves.
     saves.lasts h left (subst (λ (r : List ℕ). Leaves new.now r left) same leaves)

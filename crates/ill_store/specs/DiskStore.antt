@@ -12,17 +12,17 @@ pub record DiskStoreOf (D : Type 0) : Type 0 where
   pub failures : ℕ
 
 -- Returns the path beside a record, at which a save makes its new file.
-abbrev pub aside_of : List ℕ → List ℕ
-aside_of path = path ++ codes ".new"
+abbrev pub temporary_of : List ℕ → List ℕ
+temporary_of path = path ++ codes ".new"
 
--- Returns the state of a store on a disk. The record that a read of its path would give has landed. The store is as
--- honest as its disk.
+-- Returns the state of a store on a disk. The record that a read of its path would give is committed. The store is as
+-- correct as its disk.
 abbrev pub store_state : {D : Type 0} → (D → DiskState) → DiskStoreOf D → StoreState
 store_state state store = record {
   path = Some store.path;
-  landed = content store.path (state store.disk).now;
+  committed = content store.path (state store.disk).now;
   failures = store.failures;
-  is_honest = (state store.disk).is_honest;
+  is_correct = (state store.disk).is_correct;
   plan = None;
 }
 
@@ -52,38 +52,38 @@ IsOld path old d = (content path d ≡ content path old) × LeavesOld path old d
 abbrev pub IsOldOrNew : List ℕ → List ℕ → Disk → Disk → Type 0
 IsOldOrNew path bytes old d = ReadsOldOr path bytes old d × LeavesOldOr path bytes old d
 
--- Returns the disk after a new file of these bytes is made at `aside`, flushed, and renamed over a record.
+-- Returns the disk after a new file of these bytes is made at `temporary`, flushed, and renamed over a record.
 abbrev pub after_placing : List ℕ → List ℕ → List ℕ → Disk → Disk
-after_placing aside path bytes d = after_rename aside path (after_flush aside (after_create aside bytes d))
+after_placing temporary path bytes d = after_rename temporary path (after_flush temporary (after_create temporary bytes d))
 
 -- ---- the calls
 
--- The record at a path is loaded from the disk `old`. If the disk is honest, a load that is done gives what a read of
+-- The record at a path is loaded from the disk `old`. If the disk is correct, a load that is done gives what a read of
 -- the path would give, and each crash leaves it from then on. At each moment of a load, done or failed, a read and each
 -- crash give the old record.
 pub record DiskLoads {X E : Type 0} (bytes_of : X → List ℕ) (path : List ℕ) (old : DiskState)
     (answer : Result (Option X) E) (new : DiskState) : Type 0 where
-  pub loaded : old.is_honest ≡ true → IfOk answer (λ found. option_map bytes_of found ≡ content path old.now)
-  pub lasts : old.is_honest ≡ true → OnOk answer (Lasts path new.now (content path old.now))
-  pub moments : old.is_honest ≡ true → Throughout (IsOld path old.now) old new
-  pub honest : new.is_honest ≡ old.is_honest
+  pub loaded : old.is_correct ≡ true → IfOk answer (λ found. option_map bytes_of found ≡ content path old.now)
+  pub lasts : old.is_correct ≡ true → OnOk answer (Lasts path new.now (content path old.now))
+  pub moments : old.is_correct ≡ true → Throughout (IsOld path old.now) old new
+  pub correct : new.is_correct ≡ old.is_correct
 
--- A new file of these bytes is made at the path `aside` of the disk `old`, flushed, and renamed over a record. If the
--- disk is honest, a call that is done has done all three. At each moment of a call, done or failed, a read of the record
--- and each crash give the old record, or these bytes.
-pub record DiskPlaces {E : Type 0} (aside path bytes : List ℕ) (old : DiskState) (answer : Result (Unit {0}) E)
+-- A new file of these bytes is made at the path `temporary` of the disk `old`, flushed, and renamed over a record. If
+-- the disk is correct, a call that is done has done all three. At each moment of a call, done or failed, a read of the
+-- record and each crash give the old record, or these bytes.
+pub record DiskPlaces {E : Type 0} (temporary path bytes : List ℕ) (old : DiskState) (answer : Result (Unit {0}) E)
     (new : DiskState) : Type 0 where
-  pub placed : old.is_honest ≡ true → OnOk answer (new.now ≡ after_placing aside path bytes old.now)
-  pub moments : old.is_honest ≡ true → Throughout (IsOldOrNew path bytes old.now) old new
-  pub whole : old.is_honest ≡ true → IsWhole old.now
-  pub honest : new.is_honest ≡ old.is_honest
+  pub placed : old.is_correct ≡ true → OnOk answer (new.now ≡ after_placing temporary path bytes old.now)
+  pub moments : old.is_correct ≡ true → Throughout (IsOldOrNew path bytes old.now) old new
+  pub whole : old.is_correct ≡ true → IsWhole old.now
+  pub correct : new.is_correct ≡ old.is_correct
 
--- These bytes are saved at a path of the disk `old`. If the disk is honest, a save that is done lets a read give them,
+-- These bytes are saved at a path of the disk `old`. If the disk is correct, a save that is done lets a read give them,
 -- and each crash leave them. At each moment of a save, done or failed, a read and each crash give the old record, or
 -- these bytes.
 pub record DiskSaves {E : Type 0} (path bytes : List ℕ) (old : DiskState) (answer : Result (Unit {0}) E)
     (new : DiskState) : Type 0 where
-  pub saved : old.is_honest ≡ true → OnOk answer (content path new.now ≡ Some bytes)
-  pub lasts : old.is_honest ≡ true → OnOk answer (Lasts path new.now (Some bytes))
-  pub moments : old.is_honest ≡ true → Throughout (IsOldOrNew path bytes old.now) old new
-  pub honest : new.is_honest ≡ old.is_honest
+  pub saved : old.is_correct ≡ true → OnOk answer (content path new.now ≡ Some bytes)
+  pub lasts : old.is_correct ≡ true → OnOk answer (Lasts path new.now (Some bytes))
+  pub moments : old.is_correct ≡ true → Throughout (IsOldOrNew path bytes old.now) old new
+  pub correct : new.is_correct ≡ old.is_correct

@@ -18,20 +18,20 @@ Allows (Some FailsNew) (Ok value) = ⊥
 Allows (Some FailsNew) (Err TooLarge) = ⊥
 Allows plan answer = Unit {0}
 
--- After a save of `bytes` that failed, the landed bytes `new` are `old` or `bytes`. A plan to fail says which.
-abbrev pub LandsAtFailure : Option NextCall → List ℕ → Option (List ℕ) → Option (List ℕ) → Type 0
-LandsAtFailure (Some FailsOld) bytes old new = new ≡ old
-LandsAtFailure (Some FailsNew) bytes old new = new ≡ Some bytes
-LandsAtFailure plan bytes old new = (new ≡ old) ⊎ (new ≡ Some bytes)
+-- After a save of `bytes` that failed, the committed bytes `new` are `old` or `bytes`. A plan to fail says which.
+abbrev pub CommitsAtFailure : Option NextCall → List ℕ → Option (List ℕ) → Option (List ℕ) → Type 0
+CommitsAtFailure (Some FailsOld) bytes old new = new ≡ old
+CommitsAtFailure (Some FailsNew) bytes old new = new ≡ Some bytes
+CommitsAtFailure plan bytes old new = (new ≡ old) ⊎ (new ≡ Some bytes)
 
--- `new` are the landed bytes after a save of `bytes`.
--- If the save is done, `bytes` have landed. If memory ran out, nothing has changed.
-abbrev pub LandsAtSave : Option NextCall → List ℕ → Result (Unit {0}) StoreFault → Option (List ℕ) →
+-- `new` are the committed bytes after a save of `bytes`.
+-- If the save is done, `bytes` are committed. If memory ran out, nothing has changed.
+abbrev pub CommitsAtSave : Option NextCall → List ℕ → Result (Unit {0}) StoreFault → Option (List ℕ) →
     Option (List ℕ) → Type 0
-LandsAtSave plan bytes (Ok done) old new = new ≡ Some bytes
-LandsAtSave plan bytes (Err Failed) old new = LandsAtFailure plan bytes old new
-LandsAtSave plan bytes (Err TooLarge) old new = ⊥
-LandsAtSave plan bytes (Err OutOfMemory) old new = new ≡ old
+CommitsAtSave plan bytes (Ok done) old new = new ≡ Some bytes
+CommitsAtSave plan bytes (Err Failed) old new = CommitsAtFailure plan bytes old new
+CommitsAtSave plan bytes (Err TooLarge) old new = ⊥
+CommitsAtSave plan bytes (Err OutOfMemory) old new = new ≡ old
 
 -- Returns the plan after a call. A store with a plan works at its next call. A store without a plan gets none.
 abbrev pub plan_after_call : Option NextCall → Option NextCall
@@ -77,49 +77,49 @@ IsNotTooLarge answer = Unit {0}
 
 -- ---- the calls
 
--- The state of a store: the path of its file, if it has one, its landed bytes, the number of failed calls, and the plan of
--- its next call. `is_honest` is true if the store does as it answers.
+-- The state of a store: the path of its file, if it has one, its committed bytes, the number of failed calls, and the
+-- plan of its next call. `is_correct` is true if the store does as it answers.
 pub record StoreState : Type 0 where
   pub path : Option (List ℕ)
-  pub landed : Option (List ℕ)
+  pub committed : Option (List ℕ)
   pub failures : ℕ
-  pub is_honest : Bool
+  pub is_correct : Bool
   pub plan : Option NextCall
 
--- The store answers a load, and is in the state `new` after it. Its path stays.
--- An honest store gives the landed bytes, does not change them, and follows its plan. Each store counts a failure,
--- keeps its honesty, and spends its plan.
+-- The store answers a load, and is in the state `new` after it. Its path stays. A correct store gives the committed
+-- bytes, does not change them, and follows its plan. Each store counts a failure, stays as correct as it was, and
+-- spends its plan.
 pub record StoreLoads {X : Type 0} (bytes_of : X → List ℕ) (old : StoreState) (answer : Result (Option X) StoreFault)
     (new : StoreState) : Type 0 where
   pub path : new.path ≡ old.path
-  pub loaded : old.is_honest ≡ true → IfOk answer (λ found. option_map bytes_of found ≡ old.landed)
-  pub planned : old.is_honest ≡ true → Allows old.plan answer
-  pub landed : old.is_honest ≡ true → new.landed ≡ old.landed
+  pub loaded : old.is_correct ≡ true → IfOk answer (λ found. option_map bytes_of found ≡ old.committed)
+  pub planned : old.is_correct ≡ true → Allows old.plan answer
+  pub committed : old.is_correct ≡ true → new.committed ≡ old.committed
   pub counted : CountsFailure answer old.failures new.failures
-  pub honest : new.is_honest ≡ old.is_honest
+  pub correct : new.is_correct ≡ old.is_correct
   pub plan : new.plan ≡ plan_after_call old.plan
 
--- The store answers a save of `bytes`, and is in the state `new` after it. Its path stays.
--- In an honest store the bytes land as it answers, and it follows its plan. Each store counts a failure, keeps its
--- honesty, and spends its plan.
+-- The store answers a save of `bytes`, and is in the state `new` after it. Its path stays. In a correct store the bytes
+-- are committed as it answers, and it follows its plan. Each store counts a failure, stays as correct as it was, and
+-- spends its plan.
 pub record StoreSaves (bytes : List ℕ) (old : StoreState) (answer : Result (Unit {0}) StoreFault) (new : StoreState)
     : Type 0 where
   pub path : new.path ≡ old.path
-  pub planned : old.is_honest ≡ true → Allows old.plan answer
-  pub landed : old.is_honest ≡ true → LandsAtSave old.plan bytes answer old.landed new.landed
+  pub planned : old.is_correct ≡ true → Allows old.plan answer
+  pub committed : old.is_correct ≡ true → CommitsAtSave old.plan bytes answer old.committed new.committed
   pub large : IsNotTooLarge answer
   pub counted : CountsFailure answer old.failures new.failures
-  pub honest : new.is_honest ≡ old.is_honest
+  pub correct : new.is_correct ≡ old.is_correct
   pub plan : new.plan ≡ plan_after_call old.plan
 
 -- ---- a loss of power
 
 -- `before` and `after` hold of the records that a loss of power may leave before and after a load. If the load is done,
--- each record of `after` is the landed one. If it failed, each record of `after` is one of `before`.
+-- each record of `after` is the committed one. If it failed, each record of `after` is one of `before`.
 abbrev pub LoadLasts : {X : Type 0} → Option (List ℕ) → (Option (List ℕ) → Type 0) → Result X StoreFault →
     (Option (List ℕ) → Type 0) → Type 0
-LoadLasts landed before (Ok found) after = (left : Option (List ℕ)) → after left → left ≡ landed
-LoadLasts landed before (Err fault) after = (left : Option (List ℕ)) → after left → before left
+LoadLasts committed before (Ok found) after = (left : Option (List ℕ)) → after left → left ≡ committed
+LoadLasts committed before (Err fault) after = (left : Option (List ℕ)) → after left → before left
 
 -- `before` and `after` hold of the records that a loss of power may leave before and after a save. If the save is done,
 -- each record of `after` is `bytes`. If it failed, each record of `after` is `bytes` or one of `before`.
@@ -161,9 +161,9 @@ FuseCalls state calls old answer new =
 
 -- ---- a store in memory
 
--- The state of a store in memory: the landed bytes, the count of failures, and the plan.
+-- The state of a store in memory: the committed bytes, the count of failures, and the plan.
 pub record MemoryStoreState : Type 0 where
-  pub landed : Option (List ℕ)
+  pub committed : Option (List ℕ)
   pub failures : ℕ
   pub next : NextCall
 
@@ -176,13 +176,13 @@ abbrev pub failed : MemoryStoreState → MemoryStoreState
 failed store = record store { failures = one_more store.failures; next = Works }
 
 -- The store answers a load as planned, and is in the state `new` after it.
--- Memory can run out only if the load is planned to work and bytes have landed.
+-- Memory can run out only if the load is planned to work and bytes are committed.
 abbrev pub MemoryLoads : {X : Type 0} → (X → List ℕ) → NextCall → MemoryStoreState →
     Result (Option X) StoreFault →
     MemoryStoreState → Type 0
 MemoryLoads bytes_of Works old (Ok found) new =
-    (option_map bytes_of found ≡ old.landed) × (new ≡ store_after_call old)
-MemoryLoads bytes_of Works old (Err OutOfMemory) new = (is_some old.landed ≡ true) × (new ≡ store_after_call old)
+    (option_map bytes_of found ≡ old.committed) × (new ≡ store_after_call old)
+MemoryLoads bytes_of Works old (Err OutOfMemory) new = (is_some old.committed ≡ true) × (new ≡ store_after_call old)
 MemoryLoads bytes_of Works old (Err other) new = ⊥
 MemoryLoads bytes_of FailsOld old answer new = (answer ≡ Err Failed) × (new ≡ failed old)
 MemoryLoads bytes_of FailsNew old answer new = (answer ≡ Err Failed) × (new ≡ failed old)
@@ -190,11 +190,11 @@ MemoryLoads bytes_of FailsNew old answer new = (answer ≡ Err Failed) × (new �
 -- The store answers a save of `bytes` as planned, and is in the state `new` after it.
 -- A save that is planned to fail and to leave the old bytes takes no memory.
 abbrev pub MemorySaves : NextCall → List ℕ → MemoryStoreState → Result (Unit {0}) StoreFault → MemoryStoreState → Type 0
-MemorySaves Works bytes old (Ok done) new = new ≡ store_after_call (record old { landed = Some bytes })
+MemorySaves Works bytes old (Ok done) new = new ≡ store_after_call (record old { committed = Some bytes })
 MemorySaves Works bytes old (Err OutOfMemory) new = new ≡ store_after_call old
 MemorySaves Works bytes old (Err other) new = ⊥
 MemorySaves FailsOld bytes old answer new = (answer ≡ Err Failed) × (new ≡ failed old)
-MemorySaves FailsNew bytes old (Err Failed) new = new ≡ failed (record old { landed = Some bytes })
+MemorySaves FailsNew bytes old (Err Failed) new = new ≡ failed (record old { committed = Some bytes })
 MemorySaves FailsNew bytes old (Err OutOfMemory) new = new ≡ store_after_call old
 MemorySaves FailsNew bytes old answer new = ⊥
 

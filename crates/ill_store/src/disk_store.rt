@@ -4,7 +4,7 @@ ghost use Rattle.std.specs.Prelude.{◌≡◌, ◌≤◌, ◌++◌, codes, lengt
 ghost use Rattle.ill_store.specs.declared.store.StoreFault.TheVariants.{Failed};
 ghost use Rattle.ill_store.specs.Store.{StoreLoads, StoreSaves, failures_after, one_more};
 ghost use Rattle.ill_disk.specs.Disk.{Leaves};
-ghost use Rattle.ill_store.specs.DiskStore.{DiskStoreOf, DiskLoads, DiskSaves, aside_of, store_state};
+ghost use Rattle.ill_store.specs.DiskStore.{DiskStoreOf, DiskLoads, DiskSaves, temporary_of, store_state};
 
 use crate::lasting;
 use crate::store::{Store, StoreFault};
@@ -17,18 +17,18 @@ use std::marker::Model;
 /// store. So `load` and `save` fail if the path of the record ends with `.new`. They also fail if it ends with `.lck`,
 /// as the path of a lock does.
 ///
-/// Each crash of an honest disk leaves the record that a load gave. It leaves the record of a save that is done, too.
+/// Each crash of a correct disk leaves the record that a load gave. It leaves the record of a save that is done, too.
 #[derive(Drop)]
 pub struct DiskStore<D: Disk> {
     disk: D,
     path: Vec<u8>,
-    aside: Vec<u8>,
+    temporary: Vec<u8>,
     limit: usize,
     failures: u64,
 }
 
-/// The value of a store is its disk, its path, its limit and its count of failures. The path `aside` is the path of the
-/// record followed by `.new`.
+/// The value of a store is its disk, its path, its limit and its count of failures. The path `temporary` is the path of
+/// the record followed by `.new`.
 impl<D: Disk> Model for DiskStore<D> {
     ghost Value = { DiskStoreOf D };
 
@@ -39,7 +39,7 @@ impl<D: Disk> Model for DiskStore<D> {
       failures = s.failures;
     } };
 
-    ghost invariant = { λ s. s.aside.items ≡ aside_of s.path.items };
+    ghost invariant = { λ s. s.temporary.items ≡ temporary_of s.path.items };
 }
 
 impl<D: Disk> DiskStore<D> {
@@ -56,13 +56,13 @@ impl<D: Disk> DiskStore<D> {
         ensures { IfOk result (λ store.
             store ≡ record { disk = disk; path = path.now; limit = limit; failures = 0 }) }
     {
-        let mut aside = Vec::from_slice(alloc, path)?;
-        aside.extend_from_slice(b".new")?;
+        let mut temporary = Vec::from_slice(alloc, path)?;
+        temporary.extend_from_slice(b".new")?;
         let path = Vec::from_slice(alloc, path)?;
         Ok(DiskStore {
             disk,
             path,
-            aside,
+            temporary,
             limit,
             failures: 0,
         })
@@ -97,7 +97,7 @@ impl<D: Disk> DiskStore<D> {
     }
 }
 
-/// This store has no plan, and is as honest as its disk. A load flushes the record that it gives. A save
+/// This store has no plan, and is as correct as its disk. A load flushes the record that it gives. A save
 /// that runs out of memory counts as failed, since the disk may have changed.
 impl<D: Disk> Store for DiskStore<D> {
     ghost state = { store_state D.state };
@@ -134,7 +134,7 @@ impl<D: Disk> Store for DiskStore<D> {
         if self.is_reserved() {
             return Err(self.fail());
         }
-        match lasting::save(&mut self.disk, &self.path, &self.aside, bytes) {
+        match lasting::save(&mut self.disk, &self.path, &self.temporary, bytes) {
             Ok(()) => Ok(()),
             Err(_) => Err(self.fail()),
         }

@@ -14,7 +14,7 @@ use std::rt::Files;
 /// A store in a file, for a record that outlives the program. Its calls are those of a `DiskStore` over the files of
 /// the host.
 ///
-/// No contract states the content of a file, so this store is not honest. If the host does what docs/STORES.md says of
+/// No contract states the content of a file, so this store is not correct. If the host does what docs/STORES.md says of
 /// each of its calls, the store keeps the contract of `DiskStore`, whenever the power goes.
 ///
 /// A save fails if another program has replaced or changed the file since this store loaded or saved it. The save
@@ -55,9 +55,9 @@ impl<'a, R: Files> FileStore<'a, R> {
 impl<'a, R: Files> Store for FileStore<'a, R> {
     ghost state = { λ f. record {
       path = Some f.path;
-      landed = None;
+      committed = None;
       failures = f.failures;
-      is_honest = false;
+      is_correct = false;
       plan = None;
     } };
 

@@ -53,8 +53,8 @@ impl<S: Store> FuseStore<S> {
     }
 }
 
-/// The landed bytes and the honesty are those of the inner store. The failures are the sum of its own and
-/// those of the inner store. It has no plan.
+/// The committed bytes are those of the inner store, and it is as correct as that. The failures are the sum of its own
+/// and those of the inner store. It has no plan.
 impl<S: Store> Store for FuseStore<S> {
     ghost state = { fuse_state S.state };
 
@@ -65,8 +65,8 @@ impl<S: Store> Store for FuseStore<S> {
     fn load(&mut self, alloc: Global) -> Result<Option<Vec<u8>>, StoreFault>
         ensures calls { FuseCalls S.state (StoreLoads (λ b. b.items)) self.old result self.new }
         ensures memory { RunsOutOnlyIf (S.load_takes_memory self.old.inner) result }
-        ensures lasts { (S.state self.old.inner).is_honest ≡ true →
-            LoadLasts (S.state self.old.inner).landed (S.leaves self.old.inner) result (S.leaves self.new.inner) }
+        ensures lasts { (S.state self.old.inner).is_correct ≡ true →
+            LoadLasts (S.state self.old.inner).committed (S.leaves self.old.inner) result (S.leaves self.new.inner) }
     {
         if self.calls == 0 {
             return Err(self.fail());
@@ -77,7 +77,7 @@ impl<S: Store> Store for FuseStore<S> {
 
     fn save(&mut self, alloc: Global, bytes: &[u8]) -> Result<(), StoreFault>
         ensures calls { FuseCalls S.state (StoreSaves bytes.now) self.old result self.new }
-        ensures lasts { (S.state self.old.inner).is_honest ≡ true →
+        ensures lasts { (S.state self.old.inner).is_correct ≡ true →
             SaveLasts bytes.now (S.leaves self.old.inner) result (S.leaves self.new.inner) }
     {
         if self.calls == 0 {

@@ -6,7 +6,7 @@ ghost use Rattle.ill_store.specs.DiskStore.{DiskLoads, DiskPlaces, DiskSaves};
 use ill_disk::{Disk, DiskFault};
 use std::alloc::Global;
 
-/// Loads the record at `path`, or `None` if no file stands there. From then on each crash of an honest disk leaves it.
+/// Loads the record at `path`, or `None` if no file stands there. From then on each crash of a correct disk leaves it.
 /// More than `limit` bytes are `TooLarge`.
 ///
 /// Flushes its file, if there is one, and then the names.
@@ -32,35 +32,45 @@ pub fn load<D: Disk>(
     }
 }
 
-/// Saves `bytes` at `path`. Once it is done, each crash of an honest disk leaves `bytes`. If it fails, a crash leaves
-/// what a crash before the save might have left, or `bytes`. `aside` must be another path than `path`.
+/// Saves `bytes` at `path`. Once it is done, each crash of a correct disk leaves `bytes`. If it fails, a crash leaves
+/// what a crash before the save might have left, or `bytes`. `temporary` must be another path than `path`.
 ///
-/// Looks up the record, and removes what an earlier save has left at `aside`. Places the new record, and flushes the
-/// names. If the new record cannot be placed, removes what stands at `aside`.
-pub fn save<D: Disk>(disk: &mut D, path: &[u8], aside: &[u8], bytes: &[u8]) -> Result<(), DiskFault>
-    requires { aside.now ≡ path.now → ⊥ }
+/// Looks up the record, and removes what an earlier save has left at `temporary`. Places the new record, and flushes
+/// the names. If the new record cannot be placed, removes what stands at `temporary`.
+pub fn save<D: Disk>(
+    disk: &mut D,
+    path: &[u8],
+    temporary: &[u8],
+    bytes: &[u8],
+) -> Result<(), DiskFault>
+    requires { temporary.now ≡ path.now → ⊥ }
     ensures { DiskSaves path.now bytes.now (D.state disk.old) result (D.state disk.new) }
 {
     disk.look_up(path)?;
-    match disk.remove(aside) {
+    match disk.remove(temporary) {
         Ok(()) | Err(DiskFault::NotFound) => {}
         Err(fault) => return Err(fault),
     }
-    match place(disk, path, aside, bytes) {
+    match place(disk, path, temporary, bytes) {
         Ok(()) => disk.flush_names(),
         Err(fault) => {
-            let _ = disk.remove(aside);
+            let _ = disk.remove(temporary);
             Err(fault)
         }
     }
 }
 
-/// Makes a new file of `bytes` at `aside`, flushes it, and renames it over the record.
-fn place<D: Disk>(disk: &mut D, path: &[u8], aside: &[u8], bytes: &[u8]) -> Result<(), DiskFault>
-    requires { aside.now ≡ path.now → ⊥ }
-    ensures { DiskPlaces aside.now path.now bytes.now (D.state disk.old) result (D.state disk.new) }
+/// Makes a new file of `bytes` at `temporary`, flushes it, and renames it over the record.
+fn place<D: Disk>(
+    disk: &mut D,
+    path: &[u8],
+    temporary: &[u8],
+    bytes: &[u8],
+) -> Result<(), DiskFault>
+    requires { temporary.now ≡ path.now → ⊥ }
+    ensures { DiskPlaces temporary.now path.now bytes.now (D.state disk.old) result (D.state disk.new) }
 {
-    disk.create_new(aside, bytes)?;
-    disk.flush(aside)?;
-    disk.rename(aside, path)
+    disk.create_new(temporary, bytes)?;
+    disk.flush(temporary)?;
+    disk.rename(temporary, path)
 }

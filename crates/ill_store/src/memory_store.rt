@@ -13,17 +13,17 @@ use std::marker::Model;
 #[derive(Debug, Drop)]
 pub struct MemoryStore {
     alloc: Global,
-    landed: Option<Vec<u8>>,
+    committed: Option<Vec<u8>>,
     failures: u64,
     next: NextCall,
 }
 
-/// The value of a store in memory is its landed bytes, its count of failures, and its plan.
+/// The value of a store in memory is its committed bytes, its count of failures, and its plan.
 impl Model for MemoryStore {
     ghost Value = { MemoryStoreState };
 
     ghost view = { λ m. record {
-      landed = option_map (λ b. b.items) m.landed;
+      committed = option_map (λ b. b.items) m.committed;
       failures = m.failures;
       next = m.next;
     } };
@@ -32,11 +32,11 @@ impl Model for MemoryStore {
 impl MemoryStore {
     /// Returns a store in which nothing was saved, and whose next call works. Allocates nothing.
     pub fn new(alloc: Global) -> MemoryStore
-        ensures { result ≡ record { landed = None; failures = 0; next = plans.Works } }
+        ensures { result ≡ record { committed = None; failures = 0; next = plans.Works } }
     {
         MemoryStore {
             alloc,
-            landed: None,
+            committed: None,
             failures: 0,
             next: NextCall::Works,
         }
@@ -71,26 +71,26 @@ impl MemoryStore {
 }
 
 /// A `load` answers `Failed` only if it is planned to fail, and then allocates nothing. A `save` that is planned to
-/// fail and to leave the old bytes allocates nothing. If it is planned to land the new bytes, it lands them before it
-/// fails, or answers `OutOfMemory`.
+/// fail and to leave the old bytes allocates nothing. If it is planned to commit the new bytes, it commits them
+/// before it fails, or answers `OutOfMemory`.
 impl Store for MemoryStore {
     ghost state = { λ m. record {
       path = None;
-      landed = m.landed;
+      committed = m.committed;
       failures = m.failures;
-      is_honest = true;
+      is_correct = true;
       plan = Some m.next;
     } };
 
-    ghost leaves = { λ m left. left ≡ m.landed };
+    ghost leaves = { λ m left. left ≡ m.committed };
 
-    ghost load_takes_memory = { λ m. is_some m.landed };
+    ghost load_takes_memory = { λ m. is_some m.committed };
 
     fn load(&mut self, alloc: Global) -> Result<Option<Vec<u8>>, StoreFault>
         ensures { MemoryLoads (λ b. b.items) self.old.next self.old result self.new }
     {
         match self.take_plan() {
-            NextCall::Works => match &self.landed {
+            NextCall::Works => match &self.committed {
                 Some(bytes) => Ok(Some(Vec::from_slice(alloc, bytes)?)),
                 None => Ok(None),
             },
@@ -103,7 +103,7 @@ impl Store for MemoryStore {
     {
         let plan = self.take_plan();
         if plan != NextCall::FailsOld {
-            self.landed = Some(Vec::from_slice(alloc, bytes)?);
+            self.committed = Some(Vec::from_slice(alloc, bytes)?);
         }
         if plan == NextCall::Works {
             return Ok(());

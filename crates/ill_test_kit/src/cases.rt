@@ -27,8 +27,8 @@ impl<A> Cases<A> {
 }
 
 impl<A: AnswersCases> Lines for Cases<A> {
-    /// Adds `line` and, if it is a case, its answer below it. A line that is itself an answer is dropped. An empty line and
-    /// a line that begins with `#` are no cases.
+    /// Adds `line` and, if it is a case, its answer below it. A line that is itself an answer is dropped. An empty line
+    /// and a line that begins with `#` are no cases.
     fn perform(&mut self, page: &mut Page, line: &str) {
         if line.starts_with(INDENT) {
             return;

@@ -2,7 +2,7 @@
 use Rattle.std.proofs.Common.{◌≡◌, ◌-◌, Bool, true, false, Result, Ok, Err, refl, arith, ℕ, zero, suc, ◌+◌, ◌<◌, ◌++◌, List, []}
 use Rattle.std.proofs.Common.{◌∷◌, length, map, fold, take, get_or, Option, ap, sym, subst, ◌∙◌, add-one}
 use Rattle.ill_text.specs.declared.fault.ToolFault.{ToolFault}
-use Rattle.ill_text.specs.declared.fault.ToolFault.TheVariants.{Arguments, Der, TooMany, Script, Desk, Key, Left, Read, Write}
+use Rattle.ill_text.specs.declared.fault.ToolFault.TheVariants.{Arguments, Der, TooMany, Script, Desk, Key, Deferred, Read, Write}
 use Rattle.ill_text.specs.declared.fault.ToolFault.TheVariants.{NotSealed, OutOfMemory}
 use Rattle.ill_text.specs.Visits.{graver, AreConsecutive, RunAtEach, Stop, VisitsEach, gravest}
 use Rattle.std.specs.Prelude.{◌==◌}
@@ -12,20 +12,20 @@ use Rattle.std.proofs.lemmas.List.Elements.{All-nil, All-push}
 use Rattle.std.proofs.lemmas.List.Sums.{fold-append}
 
 -- `graver answer (Ok true)` is `answer`.
-pub graver_well : (answer : Result Bool ToolFault) → answer ≡ graver answer (Ok true)
-graver_well (Ok true) = refl
-graver_well (Ok false) = refl
-graver_well (Err Arguments) = refl
-graver_well (Err (Der fault)) = refl
-graver_well (Err TooMany) = refl
-graver_well (Err (Script line)) = refl
-graver_well (Err (Desk fault)) = refl
-graver_well (Err (Key fault)) = refl
-graver_well (Err NotSealed) = refl
-graver_well (Err Left) = refl
-graver_well (Err Read) = refl
-graver_well (Err Write) = refl
-graver_well (Err OutOfMemory) = refl
+pub graver_success : (answer : Result Bool ToolFault) → answer ≡ graver answer (Ok true)
+graver_success (Ok true) = refl
+graver_success (Ok false) = refl
+graver_success (Err Arguments) = refl
+graver_success (Err (Der fault)) = refl
+graver_success (Err TooMany) = refl
+graver_success (Err (Script line)) = refl
+graver_success (Err (Desk fault)) = refl
+graver_success (Err (Key fault)) = refl
+graver_success (Err NotSealed) = refl
+graver_success (Err Deferred) = refl
+graver_success (Err Read) = refl
+graver_success (Err Write) = refl
+graver_success (Err OutOfMemory) = refl
 
 -- Returns true if a list is empty.
 abbrev is_nothing : {X : Type 0} → List X → Bool

@@ -1,17 +1,17 @@
 -- Visits of a command to desks, one after another. After a failure at one desk, the others are still visited.
 use Rattle.std.specs.Prelude.{◌≡◌, All, ℕ, Bool, true, false, ◌&&◌, List, [], ◌∷◌, map, fold, Option, Result, Ok, Err}
 use Rattle.ill_text.specs.declared.fault.ToolFault.{ToolFault}
-use Rattle.ill_text.specs.declared.fault.ToolFault.TheVariants.{Left}
+use Rattle.ill_text.specs.declared.fault.ToolFault.TheVariants.{Deferred}
 
 -- ---- answers
 
--- Returns the graver of two answers. A fault is the gravest, then mails that wait (`Left`), and then something that
--- wants a person (`Ok false`). Of two other faults it is the first.
+-- Returns the graver of two answers. A fault is the gravest, then message files that wait (`Deferred`), and then
+-- something that wants a person (`Ok false`). Of two other faults it is the first.
 abbrev pub graver : Result Bool ToolFault → Result Bool ToolFault → Result Bool ToolFault
-graver (Err Left) (Err fault) = Err fault
+graver (Err Deferred) (Err fault) = Err fault
 graver (Err fault) other = Err fault
-graver (Ok is_well) (Err fault) = Err fault
-graver (Ok is_well) (Ok other) = Ok (is_well && other)
+graver (Ok is_success) (Err fault) = Err fault
+graver (Ok is_success) (Ok other) = Ok (is_success && other)
 
 -- Returns the gravest of some answers, or true if there are none.
 abbrev pub gravest_of : List (Result Bool ToolFault) → Result Bool ToolFault

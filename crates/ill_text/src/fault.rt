@@ -65,9 +65,9 @@ pub enum ToolFault {
     /// The input is no letter of the other library that is sealed with the key.
     #[error("not-sealed")]
     NotSealed,
-    /// Mails of a folder wait for the next run. All else was done.
+    /// Message files of a folder wait for the next run. All else was done.
     #[error("left")]
-    Left,
+    Deferred,
     /// The reader failed.
     #[error("read")]
     Read,
@@ -140,8 +140,8 @@ impl<S: Drop> From<(ToolFault, S)> for ToolFault {
     }
 }
 
-/// Returns the graver of two answers. A fault is the gravest, then mails that wait (`Left`), then something that wants
-/// a person (`Ok(false)`). Of two other faults it is the first.
+/// Returns the graver of two answers. A fault is the gravest, then message files that wait (`Deferred`), then something
+/// that wants a person (`Ok(false)`). Of two other faults it is the first.
 pub fn graver(
     one: Result<bool, ToolFault>,
     other: Result<bool, ToolFault>,
@@ -152,6 +152,10 @@ pub fn graver(
         (Ok(one), Ok(other)) => Ok(one && other),
         (Ok(_), Err(fault)) => Err(fault),
         (Err(fault), Ok(_)) => Err(fault),
-        (Err(one), Err(other)) => Err(if one == ToolFault::Left { other } else { one }),
+        (Err(one), Err(other)) => Err(if one == ToolFault::Deferred {
+            other
+        } else {
+            one
+        }),
     }
 }

@@ -1,4 +1,4 @@
-//! Lines to a person, on standard error: each has a path, a mail or a desk, and its fault.
+//! Lines to a person, on standard error: each has a path, a message file or a desk, and its fault.
 
 use crate::escape::push_escaped;
 use crate::fault::ToolFault;
@@ -32,8 +32,8 @@ fn push_warning(line: &mut Vec<u8>, name: &[u8], text: &str) -> Result<(), OutOf
     Ok(())
 }
 
-/// Writes a line to `errors`, of the mail `name`, of the heading of its `message`, and of `text`. If memory runs out,
-/// no line is written.
+/// Writes a line to `errors`, of the message file `name`, of the heading of its `message`, and of `text`. If memory
+/// runs out, no line is written.
 pub fn warn_of_message<E: Write>(
     alloc: Global,
     name: &[u8],
@@ -42,13 +42,13 @@ pub fn warn_of_message<E: Write>(
     errors: &mut E,
 ) {
     let mut line = Vec::new(alloc);
-    if push_told_message(&mut line, name, message, text).is_ok() {
+    if push_printed_message(&mut line, name, message, text).is_ok() {
         let _ = errors.write_all(&line);
     }
 }
 
 /// Appends the line that `warn_of_message` writes.
-fn push_told_message(
+fn push_printed_message(
     line: &mut Vec<u8>,
     name: &[u8],
     message: &ApduView<'_>,

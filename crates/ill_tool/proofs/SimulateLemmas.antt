@@ -6,7 +6,7 @@ use Rattle.ill_values.specs.declared.fault.TextFault.{TextFault}
 use Rattle.ill_values.specs.TxnId.{Qualifiers}
 use Rattle.ill_script.specs.declared.fault.SimFault.{SimFault}
 use Rattle.ill_script.specs.declared.fault.SimFault.TheVariants as simulation
-use Rattle.ill_script.specs.Play.{trace_from}
+use Rattle.ill_script.specs.Replay.{trace_from}
 use Rattle.ill_world.specs.Simulation.{Simulates, script}
 use Rattle.ill_text.specs.declared.fault.ToolFault.{ToolFault}
 use Rattle.ill_line.specs.Asked.{GivesId}
@@ -30,8 +30,8 @@ fault_without_id (Ok txn) old before fault (Err tool) given failed =
 fault_without_id (Err text) old before fault (Err tool) given failed =
     (ap (λ (f : ToolFault). Err f) (failed ∙ given), Consumes-nil old, Appends-nil before)
 
--- If `id` gives the transaction `txn`, and its simulation ended with `simulated`, `RunsSimulate` allows this answer of the
--- command.
+-- If `id` gives the transaction `txn`, and its simulation ended with `simulated`, `RunsSimulate` allows this answer of
+-- the command.
 pub simulation_performed : (id : Result Qualifiers TextFault) (txn : Qualifiers) (old new before after : Option (List ℕ))
     (simulated : Result ℕ SimFault)
     → GivesId id (Ok txn)
@@ -40,8 +40,8 @@ simulation_performed (Ok wanted) txn old new before after simulated given done =
     (simulated, subst (λ (t : Qualifiers). Simulates t old new before after simulated) given done, refl)
 simulation_performed (Err text) txn old new before after simulated given done = absurd given
 
--- If `id` gives the transaction `txn`, and its simulation ended with `fault`, `RunsSimulate` allows the fault `tool`. This
--- is the fault of the command for `fault`.
+-- If `id` gives the transaction `txn`, and its simulation ended with `fault`, `RunsSimulate` allows the fault `tool`.
+-- This is the fault of the command for `fault`.
 pub fault_performed : (id : Result Qualifiers TextFault) (txn : Qualifiers) (old new before after : Option (List ℕ))
     (fault : SimFault) (tool : ToolFault)
     → GivesId id (Ok txn)

@@ -1,6 +1,6 @@
 -- The exit status of a command. It is 0 if all went well. It is 1 if the command was refused, or a message
 -- was refused or in conflict. It is 2 if the arguments, the input or the record are invalid. It is 3 if a
--- file, a stream or memory failed, or if mails are left. A lack of memory is always `ToolFault.OutOfMemory`,
+-- file, a stream or memory failed, or if message files are left. A lack of memory is always `ToolFault.OutOfMemory`,
 -- never a fault within another one.
 use Rattle.std.specs.Prelude.{◌≡◌, ◌⊎◌, ℕ, Bool, true, false, List, Option, Result, Ok, Err}
 use Rattle.clap.specs.declared.error.kind.ErrorKind.{ErrorKind}
@@ -8,7 +8,7 @@ use Rattle.clap.specs.declared.error.kind.ErrorKind.TheVariants as kinds
 use Rattle.ill_saved.specs.declared.fault.DeskFault.{DeskFault}
 use Rattle.ill_saved.specs.declared.fault.DeskFault.TheVariants as desks
 use Rattle.ill_text.specs.declared.fault.ToolFault.{ToolFault}
-use Rattle.ill_text.specs.declared.fault.ToolFault.TheVariants.{Arguments, Der, TooMany, Script, Desk, Key, Left, Read, Write}
+use Rattle.ill_text.specs.declared.fault.ToolFault.TheVariants.{Arguments, Der, TooMany, Script, Desk, Key, Deferred, Read, Write}
 use Rattle.ill_text.specs.declared.fault.ToolFault.TheVariants.{NotSealed, OutOfMemory}
 
 -- Returns the exit status for a fault of a desk.
@@ -35,7 +35,7 @@ status_of (Script line) = 2
 status_of (Desk fault) = desk_status fault
 status_of (Key fault) = 2
 status_of NotSealed = 2
-status_of Left = 3
+status_of Deferred = 3
 status_of Read = 3
 status_of Write = 3
 status_of OutOfMemory = 3
@@ -54,8 +54,8 @@ IsFlushed done result = (result ≡ done) ⊎ (result ≡ Err Write)
 -- `clap` gave an error of this kind, and the exit status is `status`. The output went from `before` to `after`. Help
 -- and the version are written to it, or the writer fails. Words that are refused, or a lack of memory, leave it
 -- unchanged.
-abbrev pub TellsKind : ErrorKind → Option (List ℕ) → Option (List ℕ) → ℕ → Type 0
-TellsKind kinds.DisplayHelp before after status = (status ≡ 0) ⊎ (status ≡ 3)
-TellsKind kinds.DisplayVersion before after status = (status ≡ 0) ⊎ (status ≡ 3)
-TellsKind kinds.OutOfMemory before after status = (status ≡ 3) × (after ≡ before)
-TellsKind mistake before after status = (status ≡ 2) × (after ≡ before)
+abbrev pub PrintsKind : ErrorKind → Option (List ℕ) → Option (List ℕ) → ℕ → Type 0
+PrintsKind kinds.DisplayHelp before after status = (status ≡ 0) ⊎ (status ≡ 3)
+PrintsKind kinds.DisplayVersion before after status = (status ≡ 0) ⊎ (status ≡ 3)
+PrintsKind kinds.OutOfMemory before after status = (status ≡ 3) × (after ≡ before)
+PrintsKind mistake before after status = (status ≡ 2) × (after ≡ before)

@@ -14,20 +14,20 @@ use Rattle.ill_line.specs.declared.request.Call.{Call}
 use Rattle.ill_line.specs.declared.request.Call.TheVariants as calls
 use Rattle.ill_line.specs.declared.request.Refusal.{Refusal}
 use Rattle.ill_line.specs.declared.request.Refusal.TheVariants.{Usage, Fault}
-use Rattle.ill_tool.specs.ExitStatus.{IsFlushed, TellsKind, exit_status, status_of}
-use Rattle.ill_tool.specs.Help.{TellsHelp}
+use Rattle.ill_tool.specs.ExitStatus.{IsFlushed, PrintsKind, exit_status, status_of}
+use Rattle.ill_tool.specs.Help.{PrintsHelp}
 use Rattle.ill_commands.specs.AtFile.{ActsAtFile, LoanAtFile, NewAtFile, ShowsFile, SlipAtFile}
 use Rattle.ill_commands.specs.AtFile.{TakesAtFile, VerifiesFile, message_of}
-use Rattle.ill_visits.specs.Visits.{CountsPaths, ListsDesk, ReportsPaths, TellsDesk, VisitsPaths}
+use Rattle.ill_visits.specs.Visits.{CountsPaths, ListsDesk, ReportsPaths, PrintsDesk, VisitsPaths}
 use Rattle.ill_commands.specs.Letters.{SendsWith, TakesWith}
 use Rattle.ill_commands.specs.Note.{NotesAtFile}
 use Rattle.ill_commands.specs.Streams.{Streams, streams_of}
 use Rattle.ill_key.specs.KeyCommand.{RunsKey}
-use Rattle.ill_files.specs.Opening.{GoesWell}
+use Rattle.ill_files.specs.Opening.{Succeeds}
 use Rattle.ill_place.specs.Place.{file_state, place_of, shelf_of}
 use Rattle.ill_beside.specs.Notes.{note_text}
-use Rattle.ill_mail.specs.Keyed.{WithKey}
-use Rattle.ill_mail.specs.Nights.{InboxAtFile, OutboxAtFile, ExchangesAtFile}
+use Rattle.ill_exchange.specs.Keyed.{WithKey}
+use Rattle.ill_exchange.specs.Nights.{InboxAtFile, OutboxAtFile, ExchangesAtFile}
 use Rattle.ill_line.specs.Guard.{IsGuarded}
 use Rattle.ill_shelf.specs.Home.{ActsAtHome, BeginsShelf, LoanAtHome, NotesAtHome, SendsAtHome, SlipAtHome}
 use Rattle.ill_shelf.specs.Retiring.{RetiresAtHome}
@@ -46,12 +46,12 @@ IsRefused old result new = (new ≡ old) × (result ≡ Err Arguments)
 -- has the states of the stores of desks. Only a shelf retires a group.
 abbrev pub Runs : {S : Type 0} → (state : S → StoreState) → Asked → Streams → Result Bool ToolFault → Streams → Type 0
 Runs state (asks.Show form) old result new =
-    GoesWell (RunsShow form old.unread new.unread old.written new.written) result
-Runs state asks.Check old result new = GoesWell (Checks old.unread new.unread old.written new.written) result
+    Succeeds (RunsShow form old.unread new.unread old.written new.written) result
+Runs state asks.Check old result new = Succeeds (Checks old.unread new.unread old.written new.written) result
 Runs state (asks.Simulate group transaction) old result new =
-    GoesWell (RunsSimulate (txn_id_of group transaction) old.unread new.unread old.written new.written) result
+    Succeeds (RunsSimulate (txn_id_of group transaction) old.unread new.unread old.written new.written) result
 Runs state asks.SimulateDesks old result new =
-    GoesWell (RunsSimulateDesks old.unread new.unread old.written new.written) result
+    Succeeds (RunsSimulateDesks old.unread new.unread old.written new.written) result
 Runs state (asks.New file role) old result new = ReadsNothing (NewAtFile (place_of state file) role) old result new
 Runs state (asks.Act file asking by is_long is_new_group) old result new =
     ReadsNothing (ActsAtFile (place_of state file) asking is_long) old result new
@@ -61,7 +61,7 @@ Runs state (asks.Inbox file folder stamp key) old result new =
     ReadsNothing (WithKey key (InboxAtFile (place_of state file))) old result new
 Runs state (asks.Outbox file folder key) old result new =
     ReadsNothing (WithKey key (OutboxAtFile (is_some folder) (place_of state file))) old result new
-Runs state (asks.Exchange file incoming outgoing form dates stamp copy beat key) old result new =
+Runs state (asks.Exchange file incoming outgoing form dates stamp copy heartbeat key) old result new =
     ReadsNothing (WithKey key (ExchangesAtFile (record { form = form; dates = dates }) (place_of state file))) old result new
 Runs state (asks.Key file deed) old result new = RunsKey deed old.unread new.unread old.written new.written result
 Runs state (asks.Send file txn number key) old result new =
@@ -69,7 +69,7 @@ Runs state (asks.Send file txn number key) old result new =
 Runs state (asks.Listing paths wanted find form) old result new =
     ReadsNothing (VisitsPaths (ListsDesk form wanted find) paths) old result new
 Runs state (asks.News paths last since form) old result new =
-    ReadsNothing (VisitsPaths (TellsDesk form last since) paths) old result new
+    ReadsNothing (VisitsPaths (PrintsDesk form last since) paths) old result new
 Runs state (asks.Figures paths view) old result new = ReadsNothing (CountsPaths view paths) old result new
 Runs state (asks.Status file form) old result new =
     ReadsNothing (ShowsFile (place_of state file) form) old result new
@@ -117,7 +117,7 @@ RunsShelf state (asks.Inbox folder incoming stamp key) old result new =
 RunsShelf state (asks.Outbox folder outgoing key) old result new =
     ReadsNothing (WithKey key (VisitsShelf folder (Headed state (is_some outgoing) (OutboxAtFile (is_some outgoing))))) old
     result new
-RunsShelf state (asks.Exchange folder incoming outgoing form dates stamp copy beat key) old result new =
+RunsShelf state (asks.Exchange folder incoming outgoing form dates stamp copy heartbeat key) old result new =
     let night = ExchangesAtFile (record { form = form; dates = dates }) in
     ReadsNothing (VisitsWith key folder (Headed state (is_lines form) night)) old result new
 RunsShelf state (asks.Retire folder group) old result new =
@@ -129,10 +129,10 @@ RunsShelf state other old result new = IsRefused old result new
 abbrev pub RunsCall : {S : Type 0} → (state : S → StoreState) → Call → Streams → Result Bool ToolFault → Streams → Type 0
 RunsCall state (calls.Desk request) old result new = RunsGuarded state (asked request) old result new
 RunsCall state (calls.Shelf request) old result new = RunsShelf state (asked request) old result new
-RunsCall state calls.Help old result new = ReadsNothing TellsHelp old result new
+RunsCall state calls.Help old result new = ReadsNothing PrintsHelp old result new
 
--- The command of a call was run. Its streams were `old` before, and `rest` is left of the input. `result` is its result, or the
--- fault `Write` of the flush. Or there was no memory for the buffer of the output.
+-- The command of a call was run. Its streams were `old` before, and `rest` is left of the input. `result` is its
+-- result, or the fault `Write` of the flush. Or there was no memory for the buffer of the output.
 abbrev pub PerformsCall : {S : Type 0} → (state : S → StoreState) → Call → (old : Streams) → (rest : Option (List ℕ)) →
     Result Bool ToolFault → Type 0
 PerformsCall state call old rest result =
@@ -140,18 +140,18 @@ PerformsCall state call old rest result =
     ⊎ ((after : Option (List ℕ)) × (done : Result Bool ToolFault)
     × RunsCall state call old done (streams_of rest after) × IsFlushed done result)
 
--- A call over the files of the host ends with the exit status of its result. Its output was `before`. The reader that counts
--- the messages of the input tells nothing of their bytes, so the input is unknown.
+-- A call over the files of the host ends with the exit status of its result. Its output was `before`. The reader that
+-- counts the messages of the input tells nothing of their bytes, so the input is unknown.
 abbrev pub EndsCall : Call → Option (List ℕ) → ℕ → Type 0
 EndsCall call before status =
     (result : Result Bool ToolFault) × PerformsCall file_state call (streams_of None before) None result
     × (status ≡ exit_status result)
 
 -- A command line with this reading ends with the exit status `status`. A call ends as `EndsCall` says, and words that
--- `clap` refuses end as `TellsKind` says. A fault has its own status, or the status of `Write` if the flush fails.
+-- `clap` refuses end as `PrintsKind` says. A fault has its own status, or the status of `Write` if the flush fails.
 abbrev pub EndsReading : Result Call Refusal → Option (List ℕ) → Option (List ℕ) → ℕ → Type 0
 EndsReading (Ok call) before after status = EndsCall call before status
-EndsReading (Err (Usage error)) before after status = TellsKind (kind_of error) before after status
+EndsReading (Err (Usage error)) before after status = PrintsKind (kind_of error) before after status
 EndsReading (Err (Fault fault)) before after status = (status ≡ status_of fault) ⊎ (status ≡ status_of Write)
 
 -- A command line has some reading, and ends as `EndsReading` says of this reading. Only for `help --json` a contract

@@ -12,7 +12,7 @@ const REFUSED: u8 = 1;
 /// The exit status if the arguments, the input or the record are invalid.
 pub const BAD: u8 = 2;
 
-/// The exit status if a file, a stream or memory failed, or if mails are left.
+/// The exit status if a file, a stream or memory failed, or if message files are left.
 const FAILED: u8 = 3;
 
 /// Returns the exit status of a command that ended with `outcome`. `Ok(true)` means that all went well, and `Ok(false)`
@@ -41,7 +41,7 @@ fn status_after(fault: ToolFault) -> u8
         | ToolFault::Key(_)
         | ToolFault::NotSealed => BAD,
         ToolFault::Desk(fault) => status_after_desk(fault),
-        ToolFault::Left | ToolFault::Read | ToolFault::Write | ToolFault::OutOfMemory => FAILED,
+        ToolFault::Deferred | ToolFault::Read | ToolFault::Write | ToolFault::OutOfMemory => FAILED,
     }
 }
 

@@ -1,11 +1,11 @@
 //! The command line, the exit statuses and the faults as objects of JSON, for the tools of this repository.
 
-ghost use Rattle.ill_tool.specs.Help.{TellsHelp, WritesHelp};
+ghost use Rattle.ill_tool.specs.Help.{PrintsHelp, WritesHelp};
 
 use crate::exits::exit_status;
 use ill_der::DerFault;
 use ill_files::machine::Machine;
-use ill_files::open::all_well;
+use ill_files::open::all_succeed;
 use ill_help::described::{push_command_line, push_object};
 use ill_saved::{DeskFault, LockFiles, RecordFault, StoreFault};
 use ill_text::fault::{BadKey, STORE_FAILED, ToolFault};
@@ -42,19 +42,19 @@ const FAULTS: [ToolFault; 29] = [
     ToolFault::NotSealed,
     STORE_FAILED,
     ToolFault::Desk(DeskFault::Store(StoreFault::TooLarge)),
-    ToolFault::Left,
+    ToolFault::Deferred,
     ToolFault::Read,
     ToolFault::Write,
     ToolFault::OutOfMemory,
 ];
 
 /// Writes the command line, and the exit statuses with their faults, as objects of JSON. Returns true.
-pub fn tell_command_line<T: LockFiles, W: Write, E: Write>(
+pub fn print_command_line<T: LockFiles, W: Write, E: Write>(
     machine: &mut Machine<'_, T, W, E>,
 ) -> Result<bool, ToolFault>
-    ensures { TellsHelp (W.contents machine.old.writer) (W.contents machine.new.writer) result }
+    ensures { PrintsHelp (W.contents machine.old.writer) (W.contents machine.new.writer) result }
 {
-    all_well(write_help(machine.alloc, &mut machine.writer))
+    all_succeed(write_help(machine.alloc, &mut machine.writer))
 }
 
 /// Writes the objects of JSON that `help_text` returns.

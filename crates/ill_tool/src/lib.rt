@@ -25,7 +25,7 @@ pub use ill_night::night::Dates;
 pub use ill_night::outbox::{run_desk_outbox, run_desk_outbox_stream};
 pub use ill_night::outgoing::Outgoing;
 pub use ill_night::retire::run_desk_retire;
-pub use ill_night::verdict::{Batch, Delay, InLetter, Mail, Unfit, Verdict};
+pub use ill_night::verdict::{Batch, Delay, InLetter, MessageFile, Unfit, Verdict};
 pub use ill_rows::listed::Listed;
 pub use ill_saved::DeskFault;
 pub use ill_show::loan::{LoanForm, LoanView, run_desk_loan};

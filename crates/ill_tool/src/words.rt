@@ -6,10 +6,10 @@ ghost use Rattle.clap.specs.Values.{kind_of};
 ghost use Rattle.ill_line.specs.Asked.{asked};
 ghost use Rattle.ill_commands.specs.Streams.{streams_of};
 ghost use Rattle.ill_tool.specs.Runs.{EndsCall, EndsLine, EndsReading, PerformsCall, Runs, RunsCall, RunsGuarded, RunsShelf};
-ghost use Rattle.ill_tool.specs.ExitStatus.{IsFlushed, TellsKind, exit_status, status_of};
+ghost use Rattle.ill_tool.specs.ExitStatus.{IsFlushed, PrintsKind, exit_status, status_of};
 
 use crate::exits::{BAD, exit_status};
-use crate::help::tell_command_line;
+use crate::help::print_command_line;
 use crate::simulate::{run_simulate, run_simulate_desks};
 use clap::Error;
 use clap::error::ErrorKind;
@@ -18,15 +18,15 @@ use ill_commands::letters::{send_with, take_with};
 use ill_commands::note::{NoteView, note};
 use ill_desk::act_as::ActionView;
 use ill_desk::take::TakeForm;
+use ill_exchange::keyed::{exchange_with, inbox_with, outbox_with};
 use ill_explain::{Passed, Watched, explain, is_asked};
 use ill_files::machine::Machine;
-use ill_files::open::all_well;
+use ill_files::open::all_succeed;
+use ill_folders::message_file::Incoming;
 use ill_help::help::help_for;
 use ill_key::key::key;
 use ill_line::guard::refuse_desk_of_shelf;
 use ill_line::request::{Call, Refusal, Request, read_words};
-use ill_mail::keyed::{exchange_with, inbox_with, outbox_with};
-use ill_mailbox::mail::Incoming;
 use ill_night::night::Night;
 use ill_place::place::{DeskFiles, DeskPlace, HostFiles, ShelfPlace};
 use ill_saved::LockFiles;
@@ -201,7 +201,7 @@ fn run_call<T: LockFiles, D: DeskFiles, R: Read, W: Write, E: Write>(
     match call {
         Call::Desk(request) => run_guarded(machine, files, request, reader),
         Call::Shelf(request) => run_on_shelf(machine, files, request, reader),
-        Call::Help => tell_command_line(machine),
+        Call::Help => print_command_line(machine),
     }
 }
 
@@ -262,15 +262,15 @@ fn run<T: LockFiles, D: DeskFiles, R: Read, W: Write, E: Write>(
         (streams_of (R.remaining reader.new) (W.contents machine.new.writer)) }
 {
     match request {
-        Request::Show { form } => all_well(run_show_as(
+        Request::Show { form } => all_succeed(run_show_as(
             machine.alloc,
             *form,
             reader,
             &mut machine.writer,
         )),
-        Request::Check => all_well(run_check(machine.alloc, reader, &mut machine.writer)),
+        Request::Check => all_succeed(run_check(machine.alloc, reader, &mut machine.writer)),
         Request::Simulate { group, transaction } => {
-            all_well(run_simulate(
+            all_succeed(run_simulate(
                 machine.alloc,
                 group,
                 transaction,
@@ -278,7 +278,7 @@ fn run<T: LockFiles, D: DeskFiles, R: Read, W: Write, E: Write>(
                 &mut machine.writer,
             ))
         }
-        Request::SimulateDesks => all_well(run_simulate_desks(
+        Request::SimulateDesks => all_succeed(run_simulate_desks(
             machine.alloc,
             reader,
             &mut machine.writer,
@@ -328,7 +328,7 @@ fn run<T: LockFiles, D: DeskFiles, R: Read, W: Write, E: Write>(
             machine,
             &DeskPlace { files, path: file },
             *key,
-            &mails_in(folder, false, stamp),
+            &message_files_in(folder, false, stamp),
         ),
         Request::Outbox { file, folder, key } => outbox_with(
             machine,
@@ -397,9 +397,9 @@ fn take_view<'a, 'b>(form: TakeForm, stamp: &'a Option<Stamp<'b>>) -> TakeView<'
     TakeView { form, stamp }
 }
 
-/// Returns the mails of `folder`, with the stamp of the lines of the diary. `is_sorted` is true if a shelf sorts them
-/// to its desks.
-fn mails_in<'a, 'b, 'c>(
+/// Returns the message files of `folder`, with the stamp of the lines of the diary. `is_sorted` is true if a shelf
+/// sorts them to its desks.
+fn message_files_in<'a, 'b, 'c>(
     folder: &'a str,
     is_sorted: bool,
     stamp: &'b Option<Stamp<'c>>,
@@ -537,7 +537,7 @@ fn run_on_shelf<T: LockFiles, D: DeskFiles, R: Read, W: Write, E: Write>(
                 folder: file,
             },
             *key,
-            &mails_in(folder, true, stamp),
+            &message_files_in(folder, true, stamp),
         ),
         Request::Outbox { file, folder, key } => {
             outbox_of_shelf_with(
@@ -573,8 +573,8 @@ fn run_on_shelf<T: LockFiles, D: DeskFiles, R: Read, W: Write, E: Write>(
     }
 }
 
-/// Writes the text of `error`, the answer of `clap` to `words`, and returns the exit status. A help goes to `writer`, and a
-/// refusal to `errors`.
+/// Writes the text of `error`, the answer of `clap` to `words`, and returns the exit status. A help goes to `writer`,
+/// and a refusal to `errors`.
 fn tell<W: Write, E: Write>(
     alloc: Global,
     words: &[&str],
@@ -582,7 +582,7 @@ fn tell<W: Write, E: Write>(
     writer: &mut W,
     errors: &mut E,
 ) -> u8
-    ensures told { TellsKind (kind_of error.now) (W.contents writer.old) (W.contents writer.new) result }
+    ensures printed { PrintsKind (kind_of error.now) (W.contents writer.old) (W.contents writer.new) result }
     ensures most { result ≤ 3 }
 {
     if error.kind() == ErrorKind::OutOfMemory {
@@ -592,12 +592,12 @@ fn tell<W: Write, E: Write>(
         let _ = write!(errors, "{error}");
         return BAD;
     }
-    finish(tell_help(alloc, words, error, writer), errors)
+    finish(print_help(alloc, words, error, writer), errors)
 }
 
 /// Writes the help, or the version, that `words` ask for, and returns true. `error` is the answer of `clap` without the
 /// texts of the help.
-fn tell_help<W: Write>(
+fn print_help<W: Write>(
     alloc: Global,
     words: &[&str],
     error: &Error,

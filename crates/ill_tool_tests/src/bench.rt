@@ -1,7 +1,7 @@
 //! The bench has a folder for files, on which command lines are performed.
 
 use crate::engines::Simulation;
-use crate::texts::tell_texts;
+use crate::texts::print_texts;
 use ill_desk_kit::{FileCall, Folder, Program};
 use ill_saved::LockFiles;
 use ill_session_kit::{Call, Performs, Phrase, engine};
@@ -93,7 +93,7 @@ impl<'a, R: LockFiles> Performs for Bench<'a, R> {
             Kind::File(kind) => self.folder.perform(page, kind, phrase),
             Kind::Engine(called) => engine::perform(self.alloc, page, &called, phrase),
             Kind::Texts => {
-                tell_texts(page);
+                print_texts(page);
                 Some(())
             }
             kind => self.command(page, kind, phrase),

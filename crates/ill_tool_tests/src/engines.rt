@@ -24,7 +24,7 @@ impl Engine for Simulation {
                 call.begin(alloc);
                 let answer = run_simulate_desks(alloc, &mut call.source, &mut call.output);
                 let answer = call.end_engine(alloc, answer, &ToolFault::OutOfMemory);
-                call.tell_answer(page, &answer);
+                call.print_answer(page, &answer);
                 Some(())
             }
         }
@@ -45,6 +45,6 @@ fn simulate(alloc: Global, page: &mut Page, call: &mut Call<'_>) -> Option<()> {
         &mut call.output,
     );
     let answer = call.end_engine(alloc, answer, &ToolFault::OutOfMemory);
-    call.tell_answer(page, &answer);
+    call.print_answer(page, &answer);
     Some(())
 }

@@ -30,23 +30,23 @@ const FAULTS: [ToolFault; 26] = [
     ToolFault::Desk(DeskFault::Saved(RecordFault::Digest)),
     ToolFault::Desk(DeskFault::Saved(RecordFault::Inconsistent)),
     ToolFault::NotSealed,
-    ToolFault::Left,
+    ToolFault::Deferred,
     ToolFault::Read,
     ToolFault::Write,
     ToolFault::OutOfMemory,
 ];
 
 /// Prints each fault and its text. Then prints the fault out of memory of bytes and of a desk.
-pub fn tell_texts(page: &mut Page) {
+pub fn print_texts(page: &mut Page) {
     for fault in &FAULTS {
-        tell_text(page, fault);
+        print_text(page, fault);
     }
-    tell_text(page, &DerFault::OutOfMemory);
-    tell_text(page, &DeskFault::OutOfMemory);
+    print_text(page, &DerFault::OutOfMemory);
+    print_text(page, &DeskFault::OutOfMemory);
 }
 
 /// Prints a fault and its text.
-fn tell_text<T: Debug + Display>(page: &mut Page, fault: &T) {
+fn print_text<T: Debug + Display>(page: &mut Page, fault: &T) {
     begin(page, "=");
     page.show_parts(fault);
     page.text(": ");

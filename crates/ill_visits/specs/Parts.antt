@@ -6,7 +6,7 @@ use Rattle.ill_record.specs.declared.side.Side.{Side}
 use Rattle.ill_text.specs.declared.fault.ToolFault.{ToolFault}
 use Rattle.ill_text.specs.Visits.{gravest_of}
 use Rattle.ill_beside.specs.Since.{AnnexRead}
-use Rattle.ill_news.specs.Told.{news_since}
+use Rattle.ill_news.specs.PrintedNews.{news_since}
 use Rattle.ill_report.specs.Report.{desk_text, page_end, page_head, report_of, unread_text}
 
 -- A part of a page: the path of a desk, and the sides of the desk with its annex. If the desk cannot be read, the part

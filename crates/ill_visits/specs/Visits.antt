@@ -7,7 +7,7 @@ use Rattle.ill_record.specs.declared.side.Side.{Side}
 use Rattle.ill_text.specs.declared.fault.ToolFault.{ToolFault}
 use Rattle.ill_text.specs.declared.fault.ToolFault.TheVariants.{OutOfMemory}
 use Rattle.ill_files.specs.Folders.{AreFoundAt}
-use Rattle.ill_files.specs.Opening.{GoesWell, FailsToOpen, after_writing, names_answer}
+use Rattle.ill_files.specs.Opening.{Succeeds, FailsToOpen, after_writing, names_answer}
 use Rattle.ill_text.specs.Fault.{IsOpenFault}
 use Rattle.ill_text.specs.Output.{WritesPrefix, WritesText}
 use Rattle.ill_figures.specs.Figures.{figures_of}
@@ -18,7 +18,7 @@ use Rattle.ill_rows.specs.Heading.{between}
 use Rattle.ill_list.specs.Listing.{listed_desk}
 use Rattle.ill_rows.specs.Messages.{WritesNews}
 use Rattle.ill_news.specs.News.{news_desk}
-use Rattle.ill_news.specs.Told.{news_since, told_since}
+use Rattle.ill_news.specs.PrintedNews.{news_since, printed_since}
 use Rattle.ill_beside.specs.Since.{AnnexRead}
 use Rattle.ill_visits.specs.Parts.{Part, gravest_part, report_page}
 use Rattle.ill_text.specs.declared.form.Form.{Form}
@@ -33,19 +33,19 @@ abbrev pub ListsDesk : Form → Wanted → (find : Option (List ℕ)) → (is_he
 ListsDesk form wanted find is_headed is_first stop =
     FailsToOpen stop.before stop.after stop.answer
     ⊎ ((sides : List Side) × (annex : AnnexRead) × (annex.news ≡ news_since wanted.since annex sides)
-    × GoesWell (WritesText stop.before stop.after
+    × Succeeds (WritesText stop.before stop.after
     (between form is_first ++ listed_desk form is_headed wanted (record { find = find; annex = annex }) stop.path sides))
     stop.answer)
 
--- What came to a desk was told in a visit, as `news_desk` does. If `since` is given, this is the open answers and what
--- came since that day. If `last` is given, only so many of the last messages are shown. If `is_first`, no desk is
+-- What came to a desk was printed in a visit, as `news_desk` does. If `since` is given, this is the open answers and
+-- what came since that day. If `last` is given, only so many of the last messages are shown. If `is_first`, no desk is
 -- before this one. If `is_headed`, the path is written. Or a file could not be opened, and nothing was written.
-abbrev pub TellsDesk : Form → Option ℕ → (since : Option Date) → (is_headed is_first : Bool) → Stop → Type 0
-TellsDesk form last since is_headed is_first stop =
+abbrev pub PrintsDesk : Form → Option ℕ → (since : Option Date) → (is_headed is_first : Bool) → Stop → Type 0
+PrintsDesk form last since is_headed is_first stop =
     FailsToOpen stop.before stop.after stop.answer
     ⊎ ((sides : List Side) × (came : List ℕ) × (notes lines : List (List ℕ))
-    × GoesWell (WritesNews (λ apdus. between form is_first
-    ++ news_desk form is_headed last stop.path sides (told_since since notes lines sides apdus)) came stop.before stop.after)
+    × Succeeds (WritesNews (λ apdus. between form is_first
+    ++ news_desk form is_headed last stop.path sides (printed_since since notes lines sides apdus)) came stop.before stop.after)
     stop.answer)
 
 -- The figures of a desk were written in a visit, as `view` asks, from its diary and what came. `is_headed` and
@@ -54,13 +54,13 @@ abbrev pub CountsDesk : FiguresView → (is_headed is_first : Bool) → Stop →
 CountsDesk view is_headed is_first stop =
     FailsToOpen stop.before stop.after stop.answer
     ⊎ ((sides : List Side) × (diary : List (List ℕ)) × (bytes : List ℕ)
-    × GoesWell (WritesNews (λ came. figures_text view is_headed is_first stop.path (figures_of view.span diary sides came)) bytes
+    × Succeeds (WritesNews (λ came. figures_text view is_headed is_first stop.path (figures_of view.span diary sides came)) bytes
     stop.before stop.after) stop.answer)
 
 -- A stop of the visit has the effect of its command at one desk: a list, news or figures.
 abbrev pub RunsVisit : Visit → Form → (is_headed is_first : Bool) → Stop → Type 0
 RunsVisit (visits.List wanted find) form = ListsDesk form wanted.now (option_map (λ words. words.now) find)
-RunsVisit (visits.News last since) form = TellsDesk form last since
+RunsVisit (visits.News last since) form = PrintsDesk form last since
 RunsVisit (visits.Figures view) form = CountsDesk view.now
 
 -- Returns true if there are several desks to visit.

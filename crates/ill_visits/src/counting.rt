@@ -6,7 +6,7 @@ use ill_annex::read_diary;
 use ill_figures::figures::{FiguresSought, FiguresView, run_desk_figures};
 use ill_files::came::came_bytes;
 use ill_files::machine::Machine;
-use ill_files::open::{all_well, open};
+use ill_files::open::{all_succeed, open};
 use ill_rows::listed::Listed;
 use ill_text::fault::ToolFault;
 use std::io::Write;
@@ -35,5 +35,5 @@ pub(crate) fn count_file<T: Files, W: Write, E: Write>(
     };
     let counted = run_desk_figures(machine.alloc, &desk, listed, &sought, &mut machine.writer);
     drop(desk);
-    all_well(counted)
+    all_succeed(counted)
 }

@@ -1,14 +1,14 @@
 //! The list of one desk in a file, and the lines that warn of it. It takes no lock, since it only reads.
 
 ghost use Rattle.std.specs.Prelude.{option_map, IfErr};
-ghost use Rattle.ill_files.specs.Opening.{all_well};
+ghost use Rattle.ill_files.specs.Opening.{all_succeed};
 ghost use Rattle.ill_text.specs.Fault.{IsOpenFault};
 ghost use Rattle.ill_visits.specs.Visits.{ListsDesk};
 
 use ill_annex::{read_annex, read_notes};
 use ill_beside::annex::Annex;
 use ill_files::machine::Machine;
-use ill_files::open::{all_well, open};
+use ill_files::open::{all_succeed, open};
 use ill_list::list::{Sought, count_left_out, run_desk_list};
 use ill_list::wanted::Wanted;
 use ill_news::news::news_since;
@@ -56,7 +56,7 @@ pub(crate) fn list_file<T: Files, W: Write, E: Write>(
         annex: &annex,
     };
     let answer = run_desk_list(machine.alloc, &desk, listed, &sought, &mut machine.writer);
-    tell_numbers(
+    print_numbers(
         machine.alloc,
         listed.path,
         desk.sides(),
@@ -68,7 +68,7 @@ pub(crate) fn list_file<T: Files, W: Write, E: Write>(
         desk.sides().len(),
         &mut machine.errors,
     );
-    tell_left_out(
+    print_left_out(
         machine.alloc,
         listed.path,
         desk.sides(),
@@ -76,7 +76,7 @@ pub(crate) fn list_file<T: Files, W: Write, E: Write>(
         &mut machine.errors,
     );
     drop(desk);
-    all_well(answer)
+    all_succeed(answer)
 }
 
 /// Reads what a list shows of the annex of the desk in `listed`. A list in lines reads the notes alone, if it shows no
@@ -101,7 +101,7 @@ fn listed_annex<T: Files, E: Write>(
 
 /// Writes to `errors` a line for each loan in `sides` that has few numbers left, with their count. `file` is the path
 /// of the desk.
-fn tell_numbers<E: Write>(alloc: Global, file: &str, sides: &Sides, errors: &mut E) {
+fn print_numbers<E: Write>(alloc: Global, file: &str, sides: &Sides, errors: &mut E) {
     if let Ok(lines) = numbers_lines(alloc, file, sides) {
         let _ = errors.write_all(&lines);
     }
@@ -119,7 +119,7 @@ fn warn<E: Write>(alloc: Global, file: &str, loans: usize, errors: &mut E) {
 
 /// Writes to `errors` how many loans the list of the desk in `file` leaves out because no day is given. If there are
 /// none, it writes nothing.
-fn tell_left_out<E: Write>(
+fn print_left_out<E: Write>(
     alloc: Global,
     file: &str,
     sides: &Sides,

@@ -2,14 +2,14 @@
 
 ghost use Rattle.std.specs.Prelude.{IfErr};
 ghost use Rattle.ill_text.specs.Fault.{IsOpenFault};
-ghost use Rattle.ill_visits.specs.Visits.{TellsDesk};
+ghost use Rattle.ill_visits.specs.Visits.{PrintsDesk};
 
 use ill_annex::{read_diary, read_notes};
 use ill_beside::keyed_diary::KeyedDiary;
 use ill_beside::notes::Notes;
 use ill_files::came::came_bytes;
 use ill_files::machine::Machine;
-use ill_files::open::{all_well, open};
+use ill_files::open::{all_succeed, open};
 use ill_news::came_since::Came;
 use ill_news::news::run_desk_news;
 use ill_rows::listed::Listed;
@@ -19,15 +19,15 @@ use std::alloc::Global;
 use std::io::Write;
 use std::rt::Files;
 
-/// Tells what came to the desk of `listed`: the last `last` messages, or all. With `since` it tells the open answers
+/// Prints what came to the desk of `listed`: the last `last` messages, or all. With `since` it prints the open answers
 /// and what came on that day or later. Returns true, or the fault.
-pub(crate) fn tell_file<T: Files, W: Write, E: Write>(
+pub(crate) fn print_file<T: Files, W: Write, E: Write>(
     machine: &mut Machine<'_, T, W, E>,
     listed: &Listed<'_>,
     last: Option<Number>,
     since: Option<Day>,
 ) -> Result<bool, ToolFault>
-    ensures { TellsDesk listed.now.form last since listed.now.is_headed listed.now.is_first (record {
+    ensures { PrintsDesk listed.now.form last since listed.now.is_headed listed.now.is_first (record {
       path = listed.now.path.now;
       before = W.contents machine.old.writer;
       after = W.contents machine.new.writer;
@@ -51,9 +51,9 @@ pub(crate) fn tell_file<T: Files, W: Write, E: Write>(
         since,
         last,
     };
-    let told = run_desk_news(machine.alloc, &desk, listed, &came, &mut machine.writer);
+    let printed = run_desk_news(machine.alloc, &desk, listed, &came, &mut machine.writer);
     drop(desk);
-    all_well(told)
+    all_succeed(printed)
 }
 
 /// Reads the diary of the desk in `file` if it is `wanted`. Else it returns a diary without lines.

@@ -6,7 +6,7 @@ ghost use Rattle.ill_visits.specs.Visits.{RunsVisit, VisitsFiles, VisitsPaths};
 
 use crate::counting::count_file;
 use crate::listing::list_file;
-use crate::telling::tell_file;
+use crate::telling::print_file;
 use ill_figures::figures::FiguresView;
 use ill_files::folder::{desk_paths, warn_of_names};
 use ill_files::machine::Machine;
@@ -23,7 +23,7 @@ use std::rt::Files;
 pub(crate) enum Visit<'a> {
     /// Its wanted loans are listed. If there are words, only the wanted loans that have them are listed.
     List(&'a Wanted, Option<&'a str>),
-    /// The messages that came to it are told: as many of the last ones as the number says, or all. With a day, these
+    /// The messages that came to it are printed: as many of the last ones as the number says, or all. With a day, these
     /// are the open answers and what came on that day or later.
     News(Option<Number>, Option<Day>),
     /// Its figures are written.
@@ -118,7 +118,7 @@ fn visit_file<T: Files, W: Write, E: Write>(
 {
     match visit {
         Visit::List(wanted, find) => list_file(machine, listed, wanted, *find),
-        Visit::News(last, since) => tell_file(machine, listed, *last, *since),
+        Visit::News(last, since) => print_file(machine, listed, *last, *since),
         Visit::Figures(view) => count_file(machine, listed, view),
     }
 }

@@ -4,7 +4,7 @@ ghost use Rattle.std.specs.Prelude.{◌≡◌, map, option_map, string_bytes, If
 ghost use Rattle.ill_files.specs.Opening.{after_writing};
 ghost use Rattle.ill_text.specs.Fault.{IsOpenFault};
 ghost use Rattle.ill_visits.specs.Parts.{AddsPart, AddsParts};
-ghost use Rattle.ill_visits.specs.Visits.{CountsPaths, ListsDesk, ReportsPaths, TellsDesk, VisitsPaths};
+ghost use Rattle.ill_visits.specs.Visits.{CountsPaths, ListsDesk, ReportsPaths, PrintsDesk, VisitsPaths};
 
 use crate::visit::{Visit, visit_paths};
 use ill_annex::open_with_annex;
@@ -37,9 +37,9 @@ pub fn list<T: Files, W: Write, E: Write>(
     visit_paths(machine, paths, &Visit::List(wanted, find), form)
 }
 
-/// `ill news`: tells what came to the desks at `paths`. If `since` is given, it tells the open answers and what came on
-/// that day or later. If `last` is given, only so many of the last messages of each desk are told. After a failure at
-/// one desk, the others are still told. Returns true, or the gravest fault.
+/// `ill news`: prints what came to the desks at `paths`. If `since` is given, it prints the open answers and what came
+/// on that day or later. If `last` is given, only so many of the last messages of each desk are printed. After a
+/// failure at one desk, the others are still printed. Returns true, or the gravest fault.
 pub fn news<T: Files, W: Write, E: Write>(
     machine: &mut Machine<'_, T, W, E>,
     paths: &[&str],
@@ -47,7 +47,7 @@ pub fn news<T: Files, W: Write, E: Write>(
     since: Option<Day>,
     form: Form,
 ) -> Result<bool, ToolFault>
-    ensures { VisitsPaths (TellsDesk form last since) (map (λ path. path.now) paths.now) (W.contents machine.old.writer)
+    ensures { VisitsPaths (PrintsDesk form last since) (map (λ path. path.now) paths.now) (W.contents machine.old.writer)
         (W.contents machine.new.writer) result }
 {
     visit_paths(machine, paths, &Visit::News(last, since), form)
@@ -97,7 +97,7 @@ pub fn report<T: Files, W: Write, E: Write>(
 struct ReportDays {
     /// The day of the page.
     today: Day,
-    /// The day since which news are told, or `None` if no news are told.
+    /// The day since which news are printed, or `None` if no news are printed.
     since: Option<Day>,
 }
 
@@ -109,7 +109,7 @@ fn push_files<T: Files, W: Write, E: Write>(
     days: &ReportDays,
     files: &[String],
 ) -> Result<Result<bool, ToolFault>, OutOfMemory>
-    ensures told { IfOk result (λ answer.
+    ensures printed { IfOk result (λ answer.
         AddsParts days.now.today days.now.since (map (λ file. string_bytes file) files.now) page.old.items page.new.items answer) }
     ensures fault { IfOk result (λ answer. IfErr answer IsOpenFault) }
     ensures silent { machine.new.writer ≡ machine.old.writer }
@@ -130,7 +130,7 @@ fn push_file<T: Files, W: Write, E: Write>(
     days: &ReportDays,
     file: &str,
 ) -> Result<Result<bool, ToolFault>, OutOfMemory>
-    ensures told { IfOk result (λ answer. AddsPart days.now.today days.now.since file.now page.old.items page.new.items answer) }
+    ensures printed { IfOk result (λ answer. AddsPart days.now.today days.now.since file.now page.old.items page.new.items answer) }
     ensures fault { IfOk result (λ answer. IfErr answer IsOpenFault) }
     ensures silent { machine.new.writer ≡ machine.old.writer }
 {
@@ -140,9 +140,9 @@ fn push_file<T: Files, W: Write, E: Write>(
             let news = news_since(machine.alloc, sides, &annex, days.since)?;
             annex.news = news;
             let view = PageView::of_report(days.today);
-            let told = push_desk(page, &view, file, sides, &annex);
+            let printed = push_desk(page, &view, file, sides, &annex);
             drop(desk);
-            told?;
+            printed?;
             Ok(Ok(true))
         }
         Err(fault) => {

@@ -63,8 +63,8 @@ not_done came posted line diary e other enters =
 -- If `Done` came of a form, and the diary has not failed, exactly `line` was entered.
 done : (came : Result Posted DeskFault) (line : List ℕ) (diary : DiaryState) → came ≡ Ok Done → diary.has_failed ≡ false
     → EntersPost came line no_entry diary → diary.bytes ≡ Some line
-done came line diary e well enters =
-    grown diary.has_failed line diary.bytes well (subst (λ came. EntersPost came line no_entry diary) e enters).0
+done came line diary e success enters =
+    grown diary.has_failed line diary.bytes success (subst (λ came. EntersPost came line no_entry diary) e enters).0
 
 -- ---- the action of a form that was done
 
@@ -95,9 +95,9 @@ has_action form old new came e answers =
 entered_own : (stamp : Stamped) (sent : SentForm) (turn : Turn) (line : List ℕ) (action : Action) → IsTurnOf stamp sent turn
     → action_in stamp sent turn ≡ Some action → HasEntered turn line
     → line ≡ verb_line stamp sent.loan.txn action (issued_at sent.loan.txn turn.old.live)
-entered_own stamp sent turn line action (at, answers, (beside, enters)) is (came, well, has) =
+entered_own stamp sent turn line action (at, answers, (beside, enters)) is (came, success, has) =
     let form = form_of stamp.day turn.old.live.role sent in
-    let own = done turn.came (form_line stamp form turn.old.live) turn.entered.diary came well enters in
+    let own = done turn.came (form_line stamp form turn.old.live) turn.entered.diary came success enters in
     same_some (sym has ∙ own)
     ∙ ap (λ action. turn_line stamp sent.loan.txn action (issued_at sent.loan.txn turn.old.live)) is where
       -- If `Some one` equals `Some other`, `one` equals `other`.

@@ -145,7 +145,7 @@ ActsIf false stamp sent turn result = (turn ≡ None) × (result ≡ Err trouble
 
 -- Returns the reply to a note that was kept, or the fault.
 abbrev pub note_told : LoanAsked → Result Bool ToolFault → Result (List ℕ) Trouble
-note_told loan (Ok is_well) = Ok (seen_reply (place_of loan))
+note_told loan (Ok is_success) = Ok (seen_reply (place_of loan))
 note_told loan (Err fault) = Err (troubles.Desk fault)
 
 -- A note on a loan was kept, as `ill note` keeps it, and the reply leads to the page of the loan. Or the result is the

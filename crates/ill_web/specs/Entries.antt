@@ -26,8 +26,8 @@ stamp_on day user = record { day = day; by = user_named user }
 abbrev pub verb_line : Stamped → Qualifiers → Action → (issued : ℕ) → List ℕ
 verb_line stamp txn action issued = diary_line stamp.day stamp.by txn (verb_name (verb_of action)) (issued + 1)
 
--- Returns the line that names an action of a loan, as the next message after `issued` messages. It is empty if there is no
--- action.
+-- Returns the line that names an action of a loan, as the next message after `issued` messages. It is empty if there is
+-- no action.
 abbrev pub turn_line : Stamped → Qualifiers → Option Action → (issued : ℕ) → List ℕ
 turn_line stamp txn (Some action) issued = verb_line stamp txn action issued
 turn_line stamp txn None issued = []
@@ -42,8 +42,8 @@ form_line stamp form live = turn_line stamp form.txn form.action (issued_at form
 
 -- ---- the entry
 
--- What a turn enters in a diary: the path of the file beside which it lies, the bytes that were entered, and true if the
--- diary has failed.
+-- What a turn enters in a diary: the path of the file beside which it lies, the bytes that were entered, and true if
+-- the diary has failed.
 pub record Entered : Type 0 where
   pub beside : List ℕ
   pub diary : DiaryState

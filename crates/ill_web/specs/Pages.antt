@@ -17,7 +17,7 @@ use Rattle.ill_show.specs.Loan.{FilesBeside, RunsLoan}
 use Rattle.ill_show.specs.declared.loan.LoanForm.TheVariants.{Lines}
 use Rattle.ill_beside.specs.Since.{AnnexRead}
 use Rattle.ill_report.specs.declared.link.Place.{Place}
-use Rattle.ill_news.specs.Told.{news_since}
+use Rattle.ill_news.specs.PrintedNews.{news_since}
 use Rattle.ill_report.specs.Report.{unread_text}
 use Rattle.ill_visits.specs.Visits.{CountsPaths}
 use Rattle.ill_commands.specs.AtFile.{SlipAtFile}
@@ -162,7 +162,7 @@ ShowsLoan today told loan result =
 
 -- Returns the reply with the page that a command wrote, or its fault.
 abbrev pub page_written : (page : List ℕ) → Result Bool ToolFault → Result (List ℕ) Trouble
-page_written page (Ok is_well) = Ok (page_reply Good page)
+page_written page (Ok is_success) = Ok (page_reply Good page)
 page_written page (Err fault) = Err (troubles.Desk fault)
 
 -- The reply has the slip of a loan, as `ill slip` writes it. Or the result is the fault of that command.
@@ -173,7 +173,7 @@ ShowsSlip loan result =
 
 -- Returns what is told beside figures whose command ended with `answer`. It is nothing if each desk was read.
 abbrev pub uncounted : Result Bool ToolFault → List ℕ
-uncounted (Ok is_well) = []
+uncounted (Ok is_success) = []
 uncounted (Err fault) = UNCOUNTED.now
 
 -- The reply has the figures of the desks in `files` in the span, as `ill figures` writes them. A desk that cannot be

@@ -39,8 +39,8 @@ abbrev pub who_named : List ℕ → Option Role
 who_named = named ((codes "requester", Requester) ∷ (codes "responder", Responder) ∷ [])
 
 -- Returns true for `new` and false for `old`: the record that the store has after a failed save.
-abbrev pub landed_named : List ℕ → Option Bool
-landed_named = named ((codes "new", true) ∷ (codes "old", false) ∷ [])
+abbrev pub committed_named : List ℕ → Option Bool
+committed_named = named ((codes "new", true) ∷ (codes "old", false) ∷ [])
 
 -- Returns the day of a word of eight digits.
 abbrev pub day_of : List ℕ → Option Date

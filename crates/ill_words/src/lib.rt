@@ -1,5 +1,5 @@
-//! The words of a loan: of its actions, of outcomes, and of what a side shows; and what can be told of a side. The model
-//! of two sides stands on this crate, and so does the program.
+//! The words of a loan: of its actions, of outcomes, and of what a side shows; and what can be told of a side. The
+//! model of two sides stands on this crate, and so does the program.
 #![tactic(auto)]
 
 mod bytes;

@@ -31,7 +31,7 @@ pub enum Outcome {
     Garbled,
     /// The bytes are an APDU of this transaction that neither side has sent.
     Forged,
-    /// The side in memory was replaced by the one that has landed.
+    /// The side in memory was replaced by the one that is committed.
     Restarted,
 }
 

@@ -9,7 +9,7 @@ ghost use Rattle.std.specs.Bool.{OnTrue};
 ghost use Rattle.std.specs.List.{list_all};
 ghost use Rattle.std.specs.Int.{IsInRange};
 ghost use Rattle.std.specs.Char.{is_ascii_digit};
-ghost use Rattle.ill_words.specs.Words.{yes_of, who_named, landed_named, day_of, optional_day_of, is_numeral, decimal_value, due_of, days_after, number_of, bytes_of};
+ghost use Rattle.ill_words.specs.Words.{yes_of, who_named, committed_named, day_of, optional_day_of, is_numeral, decimal_value, due_of, days_after, number_of, bytes_of};
 
 use crate::bytes::Bytes;
 pub use actions::{deed, wish};
@@ -59,8 +59,8 @@ pub fn who(word: &[u8]) -> Option<Role>
 
 /// Returns true for `new` and false for `old`, if the word is either. It names the record that the store has after a
 /// failed save.
-pub fn landed(word: &[u8]) -> Option<bool>
-    ensures { result ≡ landed_named word.now }
+pub fn committed(word: &[u8]) -> Option<bool>
+    ensures { result ≡ committed_named word.now }
 {
     if is(word, "new") {
         Some(true)

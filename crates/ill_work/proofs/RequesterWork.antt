@@ -31,8 +31,8 @@ module _ (s : State) (declined received checked_in : Bool) (on : Dates) where
       → is_verb_among (filter (is_allowed None side) (requester_verbs_in s declined received)) verb ≡ true
   is_possible_some_day side verb is = search rules
 
-  -- Let `past` say that the deadline is past: the due date in SHIPPED or later, and else the expiry date. Then the turn is
-  -- the requester's if, and only if, its work wants a hand, or the item is with its reader.
+  -- Let `past` say that the deadline is past: the due date in SHIPPED or later, and else the expiry date. Then the turn
+  -- is the requester's if, and only if, its work wants a hand, or the item is with its reader.
   pub turn_alike : (past : Bool) → (is_among later s ≡ true → past ≡ on.is_overdue)
       → (is_among later s ≡ false → past ≡ on.has_expired)
       → is_turn Mine (if past && nat_lt 0 (length (requester_verbs_in s declined received)) then Mine

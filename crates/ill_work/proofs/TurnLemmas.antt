@@ -1,5 +1,5 @@
--- Proves that the deadline of a consistent side is its due date in SHIPPED or later, and else its expiry date. So its work
--- agrees with the turn on each day.
+-- Proves that the deadline of a consistent side is its due date in SHIPPED or later, and else its expiry date. So its
+-- work agrees with the turn on each day.
 use Rattle.std.proofs.Common.{rules, arith, ◌≡◌, ℕ, Bool, true, false, Option, None, Some, [], ◌∷◌, refl, ap, ◌∙◌}
 use Rattle.std.specs.Prelude.{◌||◌, is_some, if◌then◌else◌}
 use Rattle.std.specs.List.{last_or}

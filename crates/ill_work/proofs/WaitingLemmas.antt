@@ -1,5 +1,5 @@
--- Proves that a date that is past stays past, and that a due date that is soon stays soon. So no work becomes less pressing
--- because days pass.
+-- Proves that a date that is past stays past, and that a due date that is soon stays soon. So no work becomes less
+-- pressing because days pass.
 use Rattle.std.proofs.Common.{rules, arith, ◌≡◌, ◌≤◌, ◌+◌, ℕ, zero, suc, Bool, true, false, cond, Option, None, Some, Ok, Err}
 use Rattle.std.proofs.Common.{refl}
 use Rattle.std.specs.Prelude.{if◌then◌else◌, nat_lt, nat_le}

@@ -7,7 +7,8 @@ use Rattle.ill_work.specs.declared.work.Work.{Work}
 use Rattle.ill_work.specs.Work.{is_work_among, urgency_of}
 use Rattle.ill_work.specs.Table.{kind_of_work}
 
--- Returns the urgency of the work with `side` on the day `today`. A due date is soon if it is at most `ahead` days away.
+-- Returns the urgency of the work with `side` on the day `today`. A due date is soon if it is at most `ahead` days
+-- away.
 abbrev pub urgency_on : Date → ℕ → Side → ℕ
 urgency_on today ahead side = urgency_of (kind_of_work today ahead side)
 

@@ -29,7 +29,7 @@ use Rattle.ill_core.proofs.MessageLemmas.{message_says, says_message}
 use Rattle.ill_world.proofs.Sendings.{prefix_message}
 use Rattle.ill_world.proofs.Uniqueness.{message_number, answers_once, one_end}
 use Rattle.ill_world.proofs.Claims.{AreIssued, tells_grant, is_in_cancelled, has_issued, not_supplied_faces, shipped_by}
-use Rattle.ill_world.proofs.Claims.{landed_issues, live_issues}
+use Rattle.ill_world.proofs.Claims.{committed_issues, live_issues}
 
 -- ---- evidence
 
@@ -215,7 +215,7 @@ not_later txn x y responder_sent requester_sent requester_stands responder_stand
     let at = issued known.0 known.1 in
     granted_not_later y.issued at.0 known.0 d responder_stands.rules.rising at.1 (tells_grant known.0.body d known.2)
 
--- ---- live and landed records
+-- ---- live and committed records
 
 -- If `HoldsOfRecords P` holds, `P` holds of the records of two sides that satisfy the premises of `HoldsOfRecords`.
 facing : (P : RequesterRecord → ResponderRecord → Type 0) → HoldsOfRecords P
@@ -238,27 +238,27 @@ of_both_facing P pair txn w stands =
     let sent = w.responder.sent in
     let requester_sent = w.requester.sent in
     let live = live_issues w.responder stands.responder.saved in
-    let landed = landed_issues w.responder stands.responder.saved in
+    let committed = committed_issues w.responder stands.responder.saved in
     let heeded = live_issues w.requester stands.requester.saved in
-    let heeded_landed = landed_issues w.requester stands.requester.saved in
+    let heeded_committed = committed_issues w.requester stands.requester.saved in
     record {
       live = facing P pair txn w.requester.live w.responder.live sent requester_sent stands.requester.live stands.responder.live
           live heeded;
-      live_landed = facing P pair txn w.requester.live w.responder.landed sent requester_sent stands.requester.live
-          stands.responder.landed landed heeded;
-      landed_live = facing P pair txn w.requester.landed w.responder.live sent requester_sent stands.requester.landed
-          stands.responder.live live heeded_landed;
-      landed = facing P pair txn w.requester.landed w.responder.landed sent requester_sent stands.requester.landed
-          stands.responder.landed landed heeded_landed;
+      live_committed = facing P pair txn w.requester.live w.responder.committed sent requester_sent stands.requester.live
+          stands.responder.committed committed heeded;
+      committed_live = facing P pair txn w.requester.committed w.responder.live sent requester_sent stands.requester.committed
+          stands.responder.live live heeded_committed;
+      committed = facing P pair txn w.requester.committed w.responder.committed sent requester_sent stands.requester.committed
+          stands.responder.committed committed heeded_committed;
     }
 
 -- ---- one answer, and one end
 
--- If no two landed messages answer one number, no two sent messages do.
+-- If no two committed messages answer one number, no two sent messages do.
 once_sent : (answered : Body → Option ℕ) (p : Party) → SendsSaved p
-    → AnswersOnce answered (message (issued_of p.landed)) → AnswersOnce answered (sent_message p.sent)
+    → AnswersOnce answered (message (issued_of p.committed)) → AnswersOnce answered (sent_message p.sent)
 once_sent answered p saved once = λ m n k a b at_m at_n is_a is_b.
-    once m n k a b (saved.landed m a at_m) (saved.landed n b at_n) is_a is_b
+    once m n k a b (saved.committed m a at_m) (saved.committed n b at_n) is_a is_b
 
 -- No two messages of a requester's side reply to one number.
 replies_once : (txn : Qualifiers) (side : Side) (responder_sent : List (Option Apdu))
@@ -305,8 +305,8 @@ accepted_by txn w (sides.Responder y) saved stands =
     λ c e.
     let known = stands.knows (responder.Accepted c) e in
     let sent = known.1 in
-    let live = prefix_message (issued_of w.requester.landed) (issued_of w.requester.live) sent.0 known.0 saved.prefix
-    (saved.landed sent.0 known.0 sent.1) in
+    let live = prefix_message (issued_of w.requester.committed) (issued_of w.requester.live) sent.0 known.0 saved.prefix
+    (saved.committed sent.0 known.0 sent.1) in
     (sent.0, known.0, sent.1, live, tells_accepted known.0.number c known.0.body known.2)
 accepted_by txn w (sides.Requester x) saved stands = absurd stands
 
@@ -322,26 +322,26 @@ agrees txn w stands =
         conditions = (
           replies_once txn w.requester.live sent requester_stands.live,
           once_sent requester.replied_number w.requester requester_stands.saved
-              (replies_once txn w.requester.landed sent requester_stands.landed),
+              (replies_once txn w.requester.committed sent requester_stands.committed),
         );
         cancels = (
           cancels_once txn w.responder.live requester_sent responder_stands.live,
           once_sent (responder.answered_number responder.MayCancel) w.responder responder_stands.saved
-              (cancels_once txn w.responder.landed requester_sent responder_stands.landed),
+              (cancels_once txn w.responder.committed requester_sent responder_stands.committed),
         );
         renewals = (
           renewals_once txn w.responder.live requester_sent responder_stands.live,
           once_sent (responder.answered_number responder.MayRenew) w.responder responder_stands.saved
-              (renewals_once txn w.responder.landed requester_sent responder_stands.landed),
+              (renewals_once txn w.responder.committed requester_sent responder_stands.committed),
         );
       };
       ended = (
         ends_once txn w.responder.live requester_sent responder_stands.live,
-        ends_once txn w.responder.landed requester_sent responder_stands.landed,
+        ends_once txn w.responder.committed requester_sent responder_stands.committed,
       );
       accepted = (
         accepted_by txn w w.responder.live requester_stands.saved responder_stands.live,
-        accepted_by txn w w.responder.landed requester_stands.saved responder_stands.landed,
+        accepted_by txn w w.responder.committed requester_stands.saved responder_stands.committed,
       );
       dates = of_both_facing IsNotLater not_later txn w stands;
       says = of_both_facing SaysTrue says_true txn w stands;

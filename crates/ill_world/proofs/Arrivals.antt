@@ -34,7 +34,7 @@ use Rattle.ill_world.specs.Invariant.{RequesterInvariant, ResponderInvariant, Re
 use Rattle.ill_world.specs.Invariant.{Invariant}
 use Rattle.ill_core.proofs.MessageLemmas.{message_says}
 use Rattle.ill_world.proofs.Uniqueness.{message_number}
-use Rattle.ill_world.proofs.Claims.{AreIssued, has_issued, cancelled_faces, not_supplied_faces, shipped_by, landed_issues}
+use Rattle.ill_world.proofs.Claims.{AreIssued, has_issued, cancelled_faces, not_supplied_faces, shipped_by, committed_issues}
 use Rattle.ill_world.proofs.Claims.{live_issues}
 use Rattle.ill_world.proofs.Agreements.{tells_requested, cancel_is_open}
 
@@ -360,19 +360,19 @@ settles_responder rows txn p side responder_sent requester_sent n a found reques
 pub arrives : TransitionsSettle → (txn : Qualifiers) (w : Parties) (event : Event) → Invariant txn w → Arrives w event
 arrives rows txn w (events.Deliver who.Requester n) stands =
     λ a sent ends.
-    settles_requester rows txn w.requester w.responder.landed w.responder.sent w.requester.sent n a
-    (sent_message w.responder.sent n) stands.requester.live stands.responder.landed
-    (landed_issues w.responder stands.responder.saved) (live_issues w.requester stands.requester.saved)
-    (stands.responder.saved.landed n a sent) sent ends
+    settles_requester rows txn w.requester w.responder.committed w.responder.sent w.requester.sent n a
+    (sent_message w.responder.sent n) stands.requester.live stands.responder.committed
+    (committed_issues w.responder stands.responder.saved) (live_issues w.requester stands.requester.saved)
+    (stands.responder.saved.committed n a sent) sent ends
 arrives rows txn w (events.Deliver who.Responder n) stands =
     λ a sent returned.
-    settles_responder rows txn w.responder w.requester.landed w.responder.sent w.requester.sent n a
-    (sent_message w.requester.sent n) stands.requester.landed stands.responder.live
-    (live_issues w.responder stands.responder.saved) (stands.requester.saved.landed n a sent) sent returned
+    settles_responder rows txn w.responder w.requester.committed w.responder.sent w.requester.sent n a
+    (sent_message w.requester.sent n) stands.requester.committed stands.responder.live
+    (live_issues w.responder stands.responder.saved) (stands.requester.saved.committed n a sent) sent returned
 arrives rows txn w (events.Wish wish) stands = tt
 arrives rows txn w (events.Deed deed today) stands = tt
 arrives rows txn w (events.Save of) stands = tt
-arrives rows txn w (events.SaveFault of landed) stands = tt
+arrives rows txn w (events.SaveFault of committed) stands = tt
 arrives rows txn w (events.Send of n) stands = tt
 arrives rows txn w (events.Noise of bytes) stands = tt
 arrives rows txn w (events.Restart of) stands = tt

@@ -4,19 +4,19 @@ use Rattle.std.proofs.lemmas.Bool.{true≢false}
 use Rattle.ill_record.specs.declared.role.Role.TheVariants as who
 use Rattle.ill_words.specs.declared.outcome.Outcome.{Outcome}
 use Rattle.ill_world.specs.World.{Party, Parties}
-use Rattle.ill_world.specs.Changes.{OnlyLands, OnlyLandedChanges, MayChange, KeepsSent, can_be_seen}
+use Rattle.ill_world.specs.Changes.{OnlyCommits, OnlyCommittedChanges, MayChange, KeepsSent, can_be_seen}
 use Rattle.ill_world.specs.BadChanges.{DoesNothing, ChangesMore, ChangesTooMuch, LosesSent, IsUnseen, repeat, stale, conflict}
 use Rattle.ill_world.specs.BadChanges.{refusal, no_such_message, not_saved, not_sent, garbled, forged, live, released, sent}
 use Rattle.ill_world.specs.BadChanges.{by_nothing, by_a_fault, lost, wrong_role, no_memory}
 
--- If `OnlyLands` holds from `old` to `new`, `ChangesMore` does not.
-no_more : (old new : Party) → ChangesMore old new → OnlyLands old new → ⊥
-no_more old new (live other) lands = other lands.live
-no_more old new (released other) lands = other lands.released
-no_more old new (sent other) lands = other lands.sent
+-- If `OnlyCommits` holds from `old` to `new`, `ChangesMore` does not.
+no_more : (old new : Party) → ChangesMore old new → OnlyCommits old new → ⊥
+no_more old new (live other) commits = other commits.live
+no_more old new (released other) commits = other commits.released
+no_more old new (sent other) commits = other commits.sent
 
 -- An outcome that does nothing allows no change.
-still_same : (outcome : Outcome) (old new : Parties) → DoesNothing outcome → MayChange OnlyLandedChanges outcome old new
+still_same : (outcome : Outcome) (old new : Parties) → DoesNothing outcome → MayChange OnlyCommittedChanges outcome old new
     → new ≡ old
 still_same _ old new repeat same = same
 still_same _ old new stale same = same
@@ -30,7 +30,7 @@ still_same _ old new forged same = same
 
 -- No outcome allows a change of `ChangesTooMuch`.
 pub none_too_much : (outcome : Outcome) (old new : Parties) → ChangesTooMuch old new outcome
-    → MayChange OnlyLandedChanges outcome old new → ⊥
+    → MayChange OnlyCommittedChanges outcome old new → ⊥
 none_too_much _ old new (by_nothing outcome nothing changed) may = changed (still_same outcome old new nothing may)
 none_too_much _ old new (by_a_fault who.Requester more) may = no_more old.requester new.requester more may.0
 none_too_much _ old new (by_a_fault who.Responder more) may = no_more old.responder new.responder more may.1

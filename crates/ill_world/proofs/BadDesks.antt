@@ -32,7 +32,7 @@ use Rattle.ill_world.specs.DeskChanges.{ProjectsTo, IsPlain, Reaches, ReachesAt,
 use Rattle.ill_world.specs.BadDesks.{Names, IsNotReached, MissesHeld, ChangesUnreached, EndsIn, shipped, cancelled, expired}
 use Rattle.ill_world.specs.BadDesks.{desk_of, MayBegin, by_wish, by_deed, by_sending, by_delivery, MissesNew, begins_none}
 use Rattle.ill_world.specs.BadDesks.{overfills, finds_one}
-use Rattle.ill_world.specs.BadDesks.{misses_desk, Hides, hides_side, hides_release, hides_landed, hides_sent, IsMisseen}
+use Rattle.ill_world.specs.BadDesks.{misses_desk, Hides, hides_side, hides_release, hides_committed, hides_sent, IsMisseen}
 use Rattle.ill_world.specs.BadDesks.{other_outcome, other_world, no_event}
 use Rattle.ill_world.specs.BadDesks.{refused, IsUnheededAt, ArrivesInVainAt, end_in_vain, returned_in_vain}
 use Rattle.ill_world.proofs.BadWorlds.{heeded, final_ends}
@@ -80,11 +80,11 @@ unfolding events_for
 one_event txn w event = refl
 
 -- A save, a failed save and a restart of a desk are events of each transaction.
-pub whole_events : (txn : Qualifiers) (w : DeskParties) (role : Role) (landed : Bool)
-    → events_for txn w (events.Save role ∷ events.SaveFault role landed ∷ events.Restart role ∷ [])
-    ≡ plain (events.Save role) ∷ plain (events.SaveFault role landed) ∷ plain (events.Restart role) ∷ []
+pub whole_events : (txn : Qualifiers) (w : DeskParties) (role : Role) (committed : Bool)
+    → events_for txn w (events.Save role ∷ events.SaveFault role committed ∷ events.Restart role ∷ [])
+    ≡ plain (events.Save role) ∷ plain (events.SaveFault role committed) ∷ plain (events.Restart role) ∷ []
 unfolding events_for
-whole_events txn w role landed = refl
+whole_events txn w role committed = refl
 
 -- The events of `txn` in a list of one event are this event if `own` is true, and else none. `own` is the value of
 -- `is_event_of`.
@@ -181,7 +181,7 @@ none_in_vain_at w _ (returned_in_vain txn n a sent is unheeded) arrives =
 pub none_hidden : (p : DeskParty) (txn : Qualifiers) (shown : Party) → Hides p txn shown → ProjectsTo p txn shown → ⊥
 none_hidden p txn shown (hides_side held found other) shows = other (shows.live held found).0
 none_hidden p txn shown (hides_release held found other) shows = other (shows.live held found).1
-none_hidden p txn shown (hides_landed side found other) shows = other (shows.landed side found)
+none_hidden p txn shown (hides_committed side found other) shows = other (shows.committed side found)
 none_hidden p txn shown (hides_sent sending found other) shows = other (shows.sent sending found)
 
 -- If `own` is true, and `IsSeenAs` holds, the outcome and the new value are the expected ones.

@@ -11,7 +11,7 @@ use Rattle.ill_world.specs.Night.{asks, AtRest}
 use Rattle.ill_world.specs.BadNights.{MisjudgesAsking, over_asks, idle_asks, open_asks_not, Restless, open_requester}
 use Rattle.ill_world.specs.BadNights.{open_responder, unfaced}
 use Rattle.ill_words.proofs.SendingLemmas.{open_wants, over_is_silent}
-use Rattle.ill_world.proofs.OutOfStep.{faces_back}
+use Rattle.ill_world.proofs.HaveDiverged.{faces_back}
 
 -- ---- the sides that send
 

@@ -39,16 +39,17 @@ use Rattle.ill_world.specs.BadWorlds.{cancel_twice, renew_twice, ended_twice, ne
 
 -- ---- either record of a party
 
--- If `P` holds of a party's live and landed sides, it holds of each side that the party `Has`.
-of_record : (P : Side → Type 0) (p : Party) (side : Side) → P p.live → P p.landed → Has p side → P side
-of_record P p side live landed (inl is) = subst P is live
-of_record P p side live landed (inr is) = subst P is landed
+-- If `P` holds of a party's live and committed sides, it holds of each side that the party `Has`.
+of_record : (P : Side → Type 0) (p : Party) (side : Side) → P p.live → P p.committed → Has p side → P side
+of_record P p side live committed (inl is) = subst P is live
+of_record P p side live committed (inr is) = subst P is committed
 
 -- If `P` holds of all four pairs of sides, it holds of each pair that the parties have.
 of_pair : (P : Side → Side → Type 0) (w : Parties) (x y : Side) → OfBoth P w → Has w.requester x → Has w.responder y → P x y
 of_pair P w x y both requester_has responder_has =
-    of_record (P x) w.responder y (of_record (λ s. P s w.responder.live) w.requester x both.live both.landed_live requester_has)
-    (of_record (λ s. P s w.responder.landed) w.requester x both.live_landed both.landed requester_has) responder_has
+    of_record (P x) w.responder y (of_record (λ s. P s w.responder.live) w.requester x both.live both.committed_live
+    requester_has)
+    (of_record (λ s. P s w.responder.committed) w.requester x both.live_committed both.committed requester_has) responder_has
 
 -- ---- safety
 

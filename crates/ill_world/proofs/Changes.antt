@@ -22,7 +22,7 @@ use Rattle.ill_words.specs.declared.outcome.Outcome.{Outcome}
 use Rattle.ill_words.specs.declared.outcome.Outcome.TheVariants.{Done, Saved, Faulted, Sent, Answered, Restarted}
 use Rattle.ill_world.specs.World.{Party, Parties, party, with_party, who_of, sent_message, decides, sends, answer_to, receives}
 use Rattle.ill_world.specs.World.{hears, happens_to, happens, run_by, run_of}
-use Rattle.ill_world.specs.Changes.{OnlyLands, OnlyLandedChanges, MayChange, KeepsSent}
+use Rattle.ill_world.specs.Changes.{OnlyCommits, OnlyCommittedChanges, MayChange, KeepsSent}
 use Rattle.ill_world.specs.Invariant.{SendsSaved, Invariant}
 use Rattle.ill_world.proofs.Kept.{stays_sent}
 
@@ -35,12 +35,12 @@ pub record RefusalsChangeNothing : Type 0 where
 
 -- ---- one party
 
--- An unchanged party satisfies `OnlyLands`.
-same_lands : (p : Party) → OnlyLands p p
-same_lands p = record { live = refl; released = refl; sent = refl }
+-- An unchanged party satisfies `OnlyCommits`.
+same_commits : (p : Party) → OnlyCommits p p
+same_commits p = record { live = refl; released = refl; sent = refl }
 
 -- Each outcome allows a party to stay unchanged.
-nothing_changes : (outcome : Outcome) (p : Party) → MayChange OnlyLands outcome p p
+nothing_changes : (outcome : Outcome) (p : Party) → MayChange OnlyCommits outcome p p
 nothing_changes Done p = tt
 nothing_changes Saved p = tt
 nothing_changes Sent p = tt
@@ -49,23 +49,23 @@ nothing_changes (Answered Taken) p = tt
 nothing_changes (Answered Repeat) p = refl
 nothing_changes (Answered Stale) p = refl
 nothing_changes (Answered (Conflict state)) p = refl
-nothing_changes Faulted p = same_lands p
+nothing_changes Faulted p = same_commits p
 nothing_changes other p = refl
 
 -- The outcome of a decision allows the change that it makes.
-decides_changes : (p : Party) (result : Result Side Refusal) → MayChange OnlyLands (decides p result).0 p (decides p result).1
+decides_changes : (p : Party) (result : Result Side Refusal) → MayChange OnlyCommits (decides p result).0 p (decides p result).1
 decides_changes p (Ok new) = tt
 decides_changes p (Err refusal) = refl
 
--- A failed save changes at most the landed side.
-fails_changes : (p : Party) (partner_sent : List (Option Apdu)) (of : Role) (landed : Bool)
-    → OnlyLands p (happens_to p partner_sent (events.SaveFault of landed)).1
+-- A failed save changes at most the committed side.
+fails_changes : (p : Party) (partner_sent : List (Option Apdu)) (of : Role) (committed : Bool)
+    → OnlyCommits p (happens_to p partner_sent (events.SaveFault of committed)).1
 fails_changes p partner_sent of true = record { live = refl; released = refl; sent = refl }
-fails_changes p partner_sent of false = same_lands p
+fails_changes p partner_sent of false = same_commits p
 
 -- The outcome of a Send allows the change that it makes.
 sends_changes : (p : Party) (n : ℕ) (found : Option Apdu) (released : Bool)
-    → MayChange OnlyLands (sends p n found released).0 p (sends p n found released).1
+    → MayChange OnlyCommits (sends p n found released).0 p (sends p n found released).1
 sends_changes p n None released = refl
 sends_changes p n (Some a) true = tt
 sends_changes p n (Some a) false = refl
@@ -77,22 +77,22 @@ quiet rows (sides.Responder y) a = elim (rows.responder y a) [ inl taken ↦ inl
 
 -- The outcome of a delivery allows the change that it makes.
 receives_changes : RefusalsChangeNothing → (p : Party) (found : Option Apdu)
-    → MayChange OnlyLands (receives p found).0 p (receives p found).1
+    → MayChange OnlyCommits (receives p found).0 p (receives p found).1
 receives_changes rows p None = refl
 receives_changes rows p (Some a) =
     elim (quiet rows p.live a) [
-      | inl taken ↦ subst (λ answer. MayChange OnlyLands (answer_to answer) p (receives p (Some a)).1) (sym taken) tt
-      | inr same ↦ subst (λ side. MayChange OnlyLands (receives p (Some a)).0 p (record p { live = side })) (sym same)
+      | inl taken ↦ subst (λ answer. MayChange OnlyCommits (answer_to answer) p (receives p (Some a)).1) (sym taken) tt
+      | inr same ↦ subst (λ side. MayChange OnlyCommits (receives p (Some a)).0 p (record p { live = side })) (sym same)
           (nothing_changes (receives p (Some a)).0 p)
     ]
 
 -- The outcome of each event allows the change of its party.
 party_changes : RefusalsChangeNothing → (p : Party) (partner_sent : List (Option Apdu)) (event : Event)
-    → MayChange OnlyLands (happens_to p partner_sent event).0 p (happens_to p partner_sent event).1
+    → MayChange OnlyCommits (happens_to p partner_sent event).0 p (happens_to p partner_sent event).1
 party_changes rows p partner_sent (events.Wish wish) = decides_changes p (acts p.live (actions.Wish wish))
 party_changes rows p partner_sent (events.Deed deed today) = decides_changes p (acts p.live (actions.Deed deed today))
 party_changes rows p partner_sent (events.Save of) = tt
-party_changes rows p partner_sent (events.SaveFault of landed) = fails_changes p partner_sent of landed
+party_changes rows p partner_sent (events.SaveFault of committed) = fails_changes p partner_sent of committed
 party_changes rows p partner_sent (events.Send of n) = sends_changes p n _ _
 party_changes rows p partner_sent (events.Deliver of n) = receives_changes rows p (sent_message partner_sent n)
 party_changes rows p partner_sent (events.Noise of bytes) = nothing_changes (hears p (apdu_at bytes)) p
@@ -100,10 +100,11 @@ party_changes rows p partner_sent (events.Restart of) = tt
 
 -- ---- the world
 
--- If at most the landed side of one party has changed, `OnlyLandedChanges` holds of the world.
-landed_of_one : (w : Parties) (of : Role) (new : Party) → OnlyLands (party w of) new → OnlyLandedChanges w (with_party w of new)
-landed_of_one w who.Requester new lands = (lands, same_lands w.responder)
-landed_of_one w who.Responder new lands = (same_lands w.requester, lands)
+-- If at most the committed side of one party has changed, `OnlyCommittedChanges` holds of the world.
+committed_of_one : (w : Parties) (of : Role) (new : Party) → OnlyCommits (party w of) new
+    → OnlyCommittedChanges w (with_party w of new)
+committed_of_one w who.Requester new commits = (commits, same_commits w.responder)
+committed_of_one w who.Responder new commits = (same_commits w.requester, commits)
 
 -- If a party is replaced by itself, the world is unchanged.
 same_world : (w : Parties) (of : Role) (new : Party) → new ≡ party w of → with_party w of new ≡ w
@@ -112,7 +113,7 @@ same_world w who.Responder new same = ap (with_party w who.Responder) same
 
 -- If an outcome allows the change of one party, it allows the change of the world.
 changes_of_one : (outcome : Outcome) (w : Parties) (of : Role) (new : Party)
-    → MayChange OnlyLands outcome (party w of) new → MayChange OnlyLandedChanges outcome w (with_party w of new)
+    → MayChange OnlyCommits outcome (party w of) new → MayChange OnlyCommittedChanges outcome w (with_party w of new)
 changes_of_one Done w of new changes = tt
 changes_of_one Saved w of new changes = tt
 changes_of_one Sent w of new changes = tt
@@ -121,16 +122,16 @@ changes_of_one (Answered Taken) w of new changes = tt
 changes_of_one (Answered Repeat) w of new changes = same_world w of new changes
 changes_of_one (Answered Stale) w of new changes = same_world w of new changes
 changes_of_one (Answered (Conflict state)) w of new changes = same_world w of new changes
-changes_of_one Faulted w of new changes = landed_of_one w of new changes
+changes_of_one Faulted w of new changes = committed_of_one w of new changes
 changes_of_one other w of new changes = same_world w of new changes
 
 -- Each outcome allows a world to stay unchanged.
-pub same_changes : (w : Parties) (outcome : Outcome) → MayChange OnlyLandedChanges outcome w w
+pub same_changes : (w : Parties) (outcome : Outcome) → MayChange OnlyCommittedChanges outcome w w
 same_changes w outcome = changes_of_one outcome w who.Requester w.requester (nothing_changes outcome w.requester)
 
 -- The outcome of each event allows the change of the world.
 pub world_changes : RefusalsChangeNothing → (w : Parties) (event : Event)
-    → MayChange OnlyLandedChanges (happens w event).0 w (happens w event).1
+    → MayChange OnlyCommittedChanges (happens w event).0 w (happens w event).1
 world_changes rows w event =
     let of = who_of event in
     changes_of_one (happens w event).0 w of _ (party_changes rows (party w of) (party w (other of)).sent event)

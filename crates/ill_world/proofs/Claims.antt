@@ -168,17 +168,17 @@ shipped_pair txn (sides.Responder x) y responder_sent requester_sent requester_s
 shipped_pair txn (sides.Requester x) (sides.Requester y) responder_sent requester_sent requester_stands responder_stands issued =
     absurd responder_stands
 
--- ---- live and landed records
+-- ---- live and committed records
 
--- The landed side of a party has issued all messages that the party has sent.
-pub landed_issues : (p : Party) → SendsSaved p → AreIssued p.sent (issued_of p.landed)
-landed_issues p saved = λ a was. (was.0, saved.landed was.0 a was.1)
+-- The committed side of a party has issued all messages that the party has sent.
+pub committed_issues : (p : Party) → SendsSaved p → AreIssued p.sent (issued_of p.committed)
+committed_issues p saved = λ a was. (was.0, saved.committed was.0 a was.1)
 
 -- The live side of a party has issued all messages that the party has sent.
 pub live_issues : (p : Party) → SendsSaved p → AreIssued p.sent (issued_of p.live)
 live_issues p saved = λ a was. (
   was.0,
-  prefix_message (issued_of p.landed) (issued_of p.live) was.0 a saved.prefix (saved.landed was.0 a was.1),
+  prefix_message (issued_of p.committed) (issued_of p.live) was.0 a saved.prefix (saved.committed was.0 a was.1),
 )
 
 -- If `HoldsOfSides P` holds, and a world satisfies the invariant, `P` holds of its four pairs of sides.
@@ -187,15 +187,18 @@ of_both P pair txn w stands =
     let sent = w.responder.sent in
     let requester_sent = w.requester.sent in
     let live = live_issues w.responder stands.responder.saved in
-    let landed = landed_issues w.responder stands.responder.saved in
+    let committed = committed_issues w.responder stands.responder.saved in
     record {
       live = pair txn w.requester.live w.responder.live sent requester_sent stands.requester.live stands.responder.live live;
-      live_landed = pair txn w.requester.live w.responder.landed sent requester_sent stands.requester.live stands.responder.landed
-          landed;
-      landed_live = pair txn w.requester.landed w.responder.live sent requester_sent stands.requester.landed stands.responder.live
+      live_committed = pair txn w.requester.live w.responder.committed sent requester_sent stands.requester.live
+          stands.responder.committed
+          committed;
+      committed_live = pair txn w.requester.committed w.responder.live sent requester_sent stands.requester.committed
+          stands.responder.live
           live;
-      landed = pair txn w.requester.landed w.responder.landed sent requester_sent stands.requester.landed stands.responder.landed
-          landed;
+      committed = pair txn w.requester.committed w.responder.committed sent requester_sent stands.requester.committed
+          stands.responder.committed
+          committed;
     }
 
 -- `EndsAlike` holds of all four pairs of sides in a world that satisfies the invariant.

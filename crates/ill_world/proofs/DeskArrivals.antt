@@ -156,15 +156,15 @@ arrives_at projects reaches arrives w (desk_events.Deliver who.Requester txn n) 
     let shown = stands.each txn in
     let v = project txn w in
     settles_there projects reaches w stands txn n a who.Requester (settled_by a.body) sent
-    (asked txn v.requester.live v.responder.landed v.responder.sent v.requester.sent n a shown.requester.live
-    shown.responder.landed (live_issues v.requester shown.requester.saved) (shown.responder.saved.landed n a sent))
+    (asked txn v.requester.live v.responder.committed v.responder.sent v.requester.sent n a shown.requester.live
+    shown.responder.committed (live_issues v.requester shown.requester.saved) (shown.responder.saved.committed n a sent))
     (arrives txn v (events.Deliver who.Requester n) shown a sent ends)
 arrives_at projects reaches arrives w (desk_events.Deliver who.Responder txn n) stands =
     λ a sent returned.
     let shown = stands.each txn in
     let v = project txn w in
     settles_there projects reaches w stands txn n a who.Responder (states.Returned ∷ states.CheckedIn ∷ []) sent
-    (supplied txn v.requester.landed v.responder.live v.responder.sent v.requester.sent n a shown.requester.landed
+    (supplied txn v.requester.committed v.responder.live v.responder.sent v.requester.sent n a shown.requester.committed
     shown.responder.live (live_issues v.responder shown.responder.saved)
-    (shown.requester.saved.landed n a sent) returned) (arrives txn v (events.Deliver who.Responder n) shown a sent returned)
+    (shown.requester.saved.committed n a sent) returned) (arrives txn v (events.Deliver who.Responder n) shown a sent returned)
 arrives_at projects reaches arrives w event stands = tt

@@ -35,7 +35,7 @@ use Rattle.ill_words.specs.declared.outcome.Outcome.TheVariants.{NotSent}
 use Rattle.ill_world.specs.World.{sent_message, sends_by, happens_at, party, who_of}
 use Rattle.ill_world.specs.Desks.{DeskParty, DeskParties, Sending, sent_for, plain, desk_decides, desk_sends, desk_receives}
 use Rattle.ill_world.specs.Desks.{desk_happens_to, desks_happen, first_desks, project}
-use Rattle.ill_world.specs.DeskCounts.{is_one_of, AreAmong, AreApart, live_txns, landed_txns, Counts, DesksCount}
+use Rattle.ill_world.specs.DeskCounts.{is_one_of, AreAmong, AreApart, live_txns, committed_txns, Counts, DesksCount}
 use Rattle.ill_world.specs.DeskSafety.{DesksInvariant}
 use Rattle.ill_world.specs.DeskChanges.{Reaches}
 use Rattle.ill_world.proofs.Parties.{RowsGrow}
@@ -160,18 +160,18 @@ has_found key txn (item ∷ items) =
     either_some (is_same_txn txn (key item)) (is_one_of txn (map key items)) item (found_by key txn items)
     (has_found key txn items)
 
--- An event leaves the live and landed transactions unchanged. Or it begins a transaction of which `May` holds, if this
--- is not live, and fewer than 1,000 are. Or it lands the live ones, or replaces them by the landed ones.
-pub data Leads (May : Qualifiers → Type 0) (live landed new_live new_landed : List Qualifiers) : Type 0 where
-  stays : new_live ≡ live → new_landed ≡ landed → Leads May live landed new_live new_landed
+-- An event leaves the live and committed transactions unchanged. Or it begins a transaction of which `May` holds, if
+-- this is not live, and fewer than 1,000 are. Or it commits the live ones, or replaces them by the committed ones.
+pub data Leads (May : Qualifiers → Type 0) (live committed new_live new_committed : List Qualifiers) : Type 0 where
+  stays : new_live ≡ live → new_committed ≡ committed → Leads May live committed new_live new_committed
   begun : (txn : Qualifiers) → is_one_of txn live ≡ false → length live + 1 ≤ 1000 → May txn → new_live ≡ live ++ txn ∷ []
-      → new_landed ≡ landed → Leads May live landed new_live new_landed
-  lands : new_live ≡ live → new_landed ≡ live → Leads May live landed new_live new_landed
-  returns : new_live ≡ landed → new_landed ≡ landed → Leads May live landed new_live new_landed
+      → new_committed ≡ committed → Leads May live committed new_live new_committed
+  commits : new_live ≡ live → new_committed ≡ live → Leads May live committed new_live new_committed
+  returns : new_live ≡ committed → new_committed ≡ committed → Leads May live committed new_live new_committed
 
 -- `Leads` holds from the transactions of desk `p` to those of `new`.
 abbrev pub LeadsTo : (Qualifiers → Type 0) → DeskParty → DeskParty → Type 0
-LeadsTo May p new = Leads May (live_txns p) (landed_txns p) (live_txns new) (landed_txns new)
+LeadsTo May p new = Leads May (live_txns p) (committed_txns p) (live_txns new) (committed_txns new)
 
 -- Desk `new` is `p`, or is `p` with an entry of transaction `of` put in its live contents.
 abbrev Puts : Qualifiers → DeskParty → DeskParty → Type 0
@@ -299,61 +299,63 @@ module _ (grows : RowsGrow) (May : Qualifiers → Type 0) (p : DeskParty) where
   event_leads partner_sent (desk_events.Deed of deed today) may =
       decides_leads of (actions.Deed deed today) (λ is. absurd (true≢false (sym is))) (is_same_role p.live.role who.Responder)
   event_leads partner_sent (desk_events.Save role) may =
-      lands (map-map txn_held whole (map (λ (held : DeskEntry). held.side) p.live.held) ∙ held_txns) held_txns
-  event_leads partner_sent (desk_events.SaveFault role true) may = lands refl held_txns
+      commits (map-map txn_held whole (map (λ (held : DeskEntry). held.side) p.live.held) ∙ held_txns) held_txns
+  event_leads partner_sent (desk_events.SaveFault role true) may = commits refl held_txns
   event_leads partner_sent (desk_events.SaveFault role false) may = stays refl refl
   event_leads partner_sent (desk_events.Send role of n) may = send_leads of n (found_by txn_held of p.live.held)
   event_leads partner_sent (desk_events.Deliver role of n) may = receives_leads (sent_message (sent_for of partner_sent) n) may
   event_leads partner_sent (desk_events.Noise role bytes) may = stays refl refl
-  event_leads partner_sent (desk_events.Restart role) may = returns (map-map txn_held whole p.landed.sides) refl
+  event_leads partner_sent (desk_events.Restart role) may = returns (map-map txn_held whole p.committed.sides) refl
 
 -- ---- facts that each event of two desks keeps
 
--- If `P` holds of `live` and `landed`, it holds of two lists that are equal to them.
-both_are : (P : List Qualifiers → List Qualifiers → Type 0) (live landed new_live new_landed : List Qualifiers)
-    → new_live ≡ live → new_landed ≡ landed → P live landed → P new_live new_landed
-both_are P live landed new_live new_landed is there holds =
-    subst (λ l. P l new_landed) (sym is) (subst (P live) (sym there) holds)
+-- If `P` holds of `live` and `committed`, it holds of two lists that are equal to them.
+both_are : (P : List Qualifiers → List Qualifiers → Type 0) (live committed new_live new_committed : List Qualifiers)
+    → new_live ≡ live → new_committed ≡ committed → P live committed → P new_live new_committed
+both_are P live committed new_live new_committed is there holds =
+    subst (λ l. P l new_committed) (sym is) (subst (P live) (sym there) holds)
 
 -- If the requester's desk changes as `Leads` says, `Counts` holds after the change.
-requester_counts : (live landed new_live new_landed others others_landed : List Qualifiers)
-    → Leads (λ txn. Unit {0}) live landed new_live new_landed → Counts live landed others others_landed
-    → Counts new_live new_landed others others_landed
-requester_counts live landed new_live new_landed others others_landed leads (few, few_landed, known, known_landed) = go leads
+requester_counts : (live committed new_live new_committed others others_committed : List Qualifiers)
+    → Leads (λ txn. Unit {0}) live committed new_live new_committed → Counts live committed others others_committed
+    → Counts new_live new_committed others others_committed
+requester_counts live committed new_live new_committed others others_committed leads
+    (few, few_committed, known, known_committed) = go leads
   where
-    -- `Counts` holds with these live and landed transactions of the requester's desk.
+    -- `Counts` holds with these live and committed transactions of the requester's desk.
     P : List Qualifiers → List Qualifiers → Type 0
-    P l m = Counts l m others others_landed
+    P l m = Counts l m others others_committed
 
     -- Each change of `Leads` keeps `Counts`.
-    go : Leads (λ txn. Unit {0}) live landed new_live new_landed → P new_live new_landed
-    go (stays is there) = both_are P live landed new_live new_landed is there (few, few_landed, known, known_landed)
+    go : Leads (λ txn. Unit {0}) live committed new_live new_committed → P new_live new_committed
+    go (stays is there) = both_are P live committed new_live new_committed is there (few, few_committed, known, known_committed)
     go (begun txn none room may is there) =
-        both_are P (live ++ txn ∷ []) landed new_live new_landed is there (
+        both_are P (live ++ txn ∷ []) committed new_live new_committed is there (
           (apart_still txn live few.0 none, omega (arith, room, length-append live (txn ∷ []))),
-          few_landed,
+          few_committed,
           (known.0, (λ t among. has_still t txn live (known.1 t among)), known.2),
-          (known_landed.0, (λ t among. has_still t txn live (known_landed.1 t among)), known_landed.2),
+          (known_committed.0, (λ t among. has_still t txn live (known_committed.1 t among)), known_committed.2),
         )
-    go (lands is there) = both_are P live live new_live new_landed is there
-        (few, few, (known.0, known.1, known.1), (known_landed.0, known_landed.1, known_landed.1))
-    go (returns is there) = both_are P landed landed new_live new_landed is there
-        (few_landed, few_landed, (known.0, known.2, known.2), (known_landed.0, known_landed.2, known_landed.2))
+    go (commits is there) = both_are P live live new_live new_committed is there
+        (few, few, (known.0, known.1, known.1), (known_committed.0, known_committed.1, known_committed.1))
+    go (returns is there) = both_are P committed committed new_live new_committed is there
+        (few_committed, few_committed, (known.0, known.2, known.2), (known_committed.0, known_committed.2, known_committed.2))
 
--- `txn` is one of the requester's live transactions, and one of its landed ones.
+-- `txn` is one of the requester's live transactions, and one of its committed ones.
 abbrev IsKnown : List Qualifiers → List Qualifiers → Qualifiers → Type 0
-IsKnown live landed txn = (is_one_of txn live ≡ true) × (is_one_of txn landed ≡ true)
+IsKnown live committed txn = (is_one_of txn live ≡ true) × (is_one_of txn committed ≡ true)
 
 -- The responder's desk changes as `Leads` says, and begins only transactions that the requester's desk has. Then
 -- `Counts` holds after the change.
-responder_counts : (live landed others others_landed new new_landed : List Qualifiers)
-    → Leads (IsKnown live landed) others others_landed new new_landed → Counts live landed others others_landed
-    → Counts live landed new new_landed
-responder_counts live landed others others_landed new new_landed leads (few, few_landed, known, known_landed) = go leads
+responder_counts : (live committed others others_committed new new_committed : List Qualifiers)
+    → Leads (IsKnown live committed) others others_committed new new_committed → Counts live committed others others_committed
+    → Counts live committed new new_committed
+responder_counts live committed others others_committed new new_committed leads (few, few_committed, known, known_committed) =
+    go leads
   where
-    -- `Counts` holds with these live and landed transactions of the responder's desk.
+    -- `Counts` holds with these live and committed transactions of the responder's desk.
     P : List Qualifiers → List Qualifiers → Type 0
-    P l m = Counts live landed l m
+    P l m = Counts live committed l m
 
     -- If `txn` and each of `others` are among `those`, so is each of `others` with `txn` at the end.
     with_one : (those : List Qualifiers) (txn : Qualifiers) → is_one_of txn those ≡ true → AreAmong others those
@@ -363,22 +365,23 @@ responder_counts live landed others others_landed new new_landed leads (few, few
         [ inl there ↦ among t there | inr same ↦ subst (λ u. is_one_of u those ≡ true) (sym same) here ]
 
     -- Each change of `Leads` keeps `Counts`.
-    go : Leads (IsKnown live landed) others others_landed new new_landed → P new new_landed
-    go (stays is there) = both_are P others others_landed new new_landed is there (few, few_landed, known, known_landed)
+    go : Leads (IsKnown live committed) others others_committed new new_committed → P new new_committed
+    go (stays is there) = both_are P others others_committed new new_committed is there
+        (few, few_committed, known, known_committed)
     go (begun txn none room may is there) =
-        both_are P (others ++ txn ∷ []) others_landed new new_landed is there (
+        both_are P (others ++ txn ∷ []) others_committed new new_committed is there (
           few,
-          few_landed,
+          few_committed,
           (
             apart_still txn others known.0 none,
             with_one live txn may.0 known.1,
-            with_one landed txn may.1 known.2,
+            with_one committed txn may.1 known.2,
           ),
-          known_landed,
+          known_committed,
         )
-    go (lands is there) = both_are P others others new new_landed is there (few, few_landed, known, known)
-    go (returns is there) = both_are P others_landed others_landed new new_landed is there
-        (few, few_landed, known_landed, known_landed)
+    go (commits is there) = both_are P others others new new_committed is there (few, few_committed, known, known)
+    go (returns is there) = both_are P others_committed others_committed new new_committed is there
+        (few, few_committed, known_committed, known_committed)
 
 -- A side that has issued a message is found.
 issued_found : {X : Type 0} (side : X → Side) (idle : X) (found : Option X) (n : ℕ) (a : Apdu)
@@ -386,10 +389,10 @@ issued_found : {X : Type 0} (side : X → Side) (idle : X) (found : Option X) (n
 issued_found side idle (Some there) n a none at = refl
 issued_found side idle None n a none at = absurd (idle_issued [] n a refl (subst (λ l. message l n ≡ Some a) none at))
 
--- If the requester has sent a message in `of`, its desk has `of` as a live and a landed transaction.
+-- If the requester has sent a message in `of`, its desk has `of` as a live and a committed transaction.
 sent_known : (w : DeskParties) → DesksInvariant w → (of : Qualifiers) (n : ℕ) (a : Apdu)
     → sent_message (sent_for of w.requester.sent) n ≡ Some a
-    → IsKnown (live_txns w.requester) (landed_txns w.requester) of
+    → IsKnown (live_txns w.requester) (committed_txns w.requester) of
 unfolding side_with
 sent_known w stands of n a sent =
     let saved = (stands.each of).requester.saved in
@@ -398,9 +401,9 @@ sent_known w stands of n a sent =
       sym (has_found txn_held of p.live.held)
           ∙ issued_found (λ (held : DeskEntry). held.side) (idle_held p.live.role of) (found_by txn_held of p.live.held) live.0 a
           (idle_issues p.live.role of) live.1,
-      sym (has_found txn_of of p.landed.sides)
-          ∙ issued_found (λ side. side) (idle_side p.landed.role of) (found_by txn_of of p.landed.sides) n a
-          (idle_issues p.landed.role of) (saved.landed n a sent),
+      sym (has_found txn_of of p.committed.sides)
+          ∙ issued_found (λ side. side) (idle_side p.committed.role of) (found_by txn_of of p.committed.sides) n a
+          (idle_issues p.committed.role of) (saved.committed n a sent),
     )
 
 -- The requester's desk may begin each transaction.
@@ -411,10 +414,10 @@ all_permitted partner_sent event = tt
 
 -- An event at the responder's desk begins only a transaction that the requester's desk has.
 known_permitted : (w : DeskParties) → DesksInvariant w → (event : DeskEvent) → who_of (plain event) ≡ who.Responder
-    → Permits (IsKnown (live_txns w.requester) (landed_txns w.requester)) w.requester.sent event
+    → Permits (IsKnown (live_txns w.requester) (committed_txns w.requester)) w.requester.sent event
 known_permitted w stands (desk_events.Wish of wish) is = search rules
 known_permitted w stands (desk_events.Deliver role of n) is =
-    λ a sent. subst (IsKnown (live_txns w.requester) (landed_txns w.requester))
+    λ a sent. subst (IsKnown (live_txns w.requester) (committed_txns w.requester))
     ((keeps_to w who.Responder stands).txn_of_sent of n a sent) (sent_known w stands of n a sent)
 known_permitted w stands event is = tt
 
@@ -424,14 +427,15 @@ pub count_at : RowsGrow → (w : DeskParties) (event : DeskEvent) → DesksInvar
     → DesksCount (happens_at w role (λ p partner. desk_happens_to p partner.sent event)).1
 count_at grows w event stands who.Requester is =
     let new = (desk_happens_to w.requester w.responder.sent event).1 in
-    requester_counts (live_txns w.requester) (landed_txns w.requester) (live_txns new) (landed_txns new) (live_txns w.responder)
-    (landed_txns w.responder)
+    requester_counts (live_txns w.requester) (committed_txns w.requester) (live_txns new) (committed_txns new)
+    (live_txns w.responder)
+    (committed_txns w.responder)
     (event_leads grows (λ txn. Unit {0}) w.requester w.responder.sent event (all_permitted w.responder.sent event)) stands.counts
 count_at grows w event stands who.Responder is =
     let new = (desk_happens_to w.responder w.requester.sent event).1 in
-    responder_counts (live_txns w.requester) (landed_txns w.requester) (live_txns w.responder) (landed_txns w.responder)
-    (live_txns new) (landed_txns new)
-    (event_leads grows (IsKnown (live_txns w.requester) (landed_txns w.requester)) w.responder w.requester.sent event
+    responder_counts (live_txns w.requester) (committed_txns w.requester) (live_txns w.responder) (committed_txns w.responder)
+    (live_txns new) (committed_txns new)
+    (event_leads grows (IsKnown (live_txns w.requester) (committed_txns w.requester)) w.responder w.requester.sent event
     (known_permitted w stands event is)) stands.counts
 
 -- `DesksCount` holds of two desks that hold nothing.
@@ -471,8 +475,8 @@ pub none_sent : (w : DeskParties) → DesksInvariant w → (txn : Qualifiers) (n
 none_sent w stands txn n a sent none =
     let shown = stands.each txn in
     let v = project txn w in
-    asked txn v.requester.live v.responder.landed v.responder.sent v.requester.sent n a shown.requester.live
-    shown.responder.landed (live_issues v.requester shown.requester.saved) (shown.responder.saved.landed n a sent)
+    asked txn v.requester.live v.responder.committed v.responder.sent v.requester.sent n a shown.requester.live
+    shown.responder.committed (live_issues v.requester shown.requester.saved) (shown.responder.saved.committed n a sent)
     (ap (λ o. issued_of (found_or (idle_held w.requester.live.role txn) o).side) none ∙ idle_issues w.requester.live.role txn)
 
 -- If the requester's desk does not hold a transaction, a delivery to it is NotSent.

@@ -25,7 +25,7 @@ takes_one old new read a answer e takes = subst (λ r. DeskTakes many_sides old 
 kept_role : (old new : DeskContents) (a : Apdu) (answer : Result Taking DeskFault) → desk_takes old a ≡ (answer, new)
     → new.role ≡ old.role
 kept_role old new a answer is =
-    let p : DeskParty = record { live = old; landed = record { role = old.role; sides = [] }; sent = [] } in
+    let p : DeskParty = record { live = old; committed = record { role = old.role; sides = [] }; sent = [] } in
     sym (ap (λ (r : Result Taking DeskFault × DeskContents). r.1.role) is) ∙ (receives_role old.role p (Some a) (refl, refl)).0
 
 -- A desk that takes one APDU, or has no memory for it, keeps its role.

@@ -34,7 +34,7 @@ use Rattle.ill_world.specs.Desks.{desk_happens_to, desks_happen, desks_run, firs
 use Rattle.ill_world.specs.Desks.{is_event_of, events_for, IsSeenAs, Projects}
 use Rattle.ill_world.specs.Agreement.{KeepsDates}
 use Rattle.ill_world.specs.Invariant.{RequesterSideInvariant, ResponderSideInvariant, Invariant}
-use Rattle.ill_world.specs.Changes.{MayChange, OnlyLandedChanges, KeepsSent}
+use Rattle.ill_world.specs.Changes.{MayChange, OnlyCommittedChanges, KeepsSent}
 use Rattle.ill_world.specs.DeskChanges.{DeskMayChange}
 use Rattle.ill_words.specs.declared.outcome.DeskOutcome.TheVariants.{Plain, NoSuchTransaction, DeskFull}
 use Rattle.ill_world.specs.DeskCounts.{DesksCount}
@@ -111,14 +111,14 @@ keeps_to w who.Requester stands = record {
   role_held = λ txn. requesters txn (held_for txn w.requester.live).side (sent_for txn w.responder.sent)
       (stands.each txn).requester.live;
   txn_of_sent = λ txn n a at. let responder = (stands.each txn).responder in
-      responders_txn txn _ _ n a responder.landed (responder.saved.landed n a at);
+      responders_txn txn _ _ n a responder.committed (responder.saved.committed n a at);
 }
 keeps_to w who.Responder stands = record {
   role_is = stands.responder.0;
   role_held = λ txn. responders txn (held_for txn w.responder.live).side (sent_for txn w.requester.sent)
       (stands.each txn).responder.live;
   txn_of_sent = λ txn n a at. let requester = (stands.each txn).requester in
-      requesters_txn txn _ _ n a requester.landed (requester.saved.landed n a at);
+      requesters_txn txn _ _ n a requester.committed (requester.saved.committed n a at);
 }
 
 -- `Projects` holds of each event at two desks that satisfy `DesksInvariant`.
@@ -130,7 +130,7 @@ desk_projects grows rows txn w event stands =
 
 -- ---- a desk keeps its role
 
--- A decision at a held side leaves both roles of a desk unchanged, live and landed.
+-- A decision at a held side leaves both roles of a desk unchanged, live and committed.
 acted_role : (role : Role) (p : DeskParty) (held : DeskEntry) (result : Result Side Refusal) → IsDeskOf role p
     → IsDeskOf role (desk_decides p (acted_at p.live held result)).1
 acted_role role p held (Ok new) is = is
@@ -309,20 +309,20 @@ same_plain a b e = search rules
 -- If the expected outcome allows the expected change, the outcome at the desks allows the change of the projection.
 unchanged : (own : Bool) (expected : Outcome × Parties) (old new : Parties) (outcome : DeskOutcome)
     → IsSeenAs (if_reached outcome own) expected old outcome new
-    → MayChange OnlyLandedChanges expected.0 old expected.1
-    → ((outcome : Outcome) → MayChange OnlyLandedChanges outcome old old) → DeskMayChange outcome old new
+    → MayChange OnlyCommittedChanges expected.0 old expected.1
+    → ((outcome : Outcome) → MayChange OnlyCommittedChanges outcome old old) → DeskMayChange outcome old new
 unchanged true expected old new (Plain outcome) seen changes same =
     let is : expected.0 ≡ outcome = sym (same_plain outcome expected.0 seen.0) in
-    subst (λ o. MayChange OnlyLandedChanges o old new) is
-    (subst (MayChange OnlyLandedChanges expected.0 old) (sym seen.1) changes)
+    subst (λ o. MayChange OnlyCommittedChanges o old new) is
+    (subst (MayChange OnlyCommittedChanges expected.0 old) (sym seen.1) changes)
 unchanged false expected old new (Plain outcome) seen changes same =
-    subst (MayChange OnlyLandedChanges outcome old) (sym seen) (same outcome)
+    subst (MayChange OnlyCommittedChanges outcome old) (sym seen) (same outcome)
 unchanged own expected old new NoSuchTransaction seen changes same = seen
 unchanged own expected old new DeskFull seen changes same = seen
 
 -- If `MayChange` holds of each event of two parties, `DeskMayChange` holds of each event of two desks.
 pub desk_changes : EachProjects
-    → ((w : Parties) (event : Event) → MayChange OnlyLandedChanges (happens w event).0 w (happens w event).1)
+    → ((w : Parties) (event : Event) → MayChange OnlyCommittedChanges (happens w event).0 w (happens w event).1)
     → (txn : Qualifiers) (w : DeskParties) (event : DeskEvent) → DesksInvariant w
     → DeskMayChange (desks_happen w event).0 (project txn w) (project txn (desks_happen w event).1)
 desk_changes projects changes txn w event stands =

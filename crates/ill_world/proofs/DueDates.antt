@@ -70,45 +70,45 @@ takes_due : TransitionsKeepDue → (txn : Qualifiers) (old : Side) (a : Apdu) (p
 takes_due rows txn (sides.Requester x) a partner_sent stands = rows.takes x a stands.rules.parts.due
 takes_due rows txn (sides.Responder y) a partner_sent stands = absurd stands
 
--- A decision keeps or raises the requester's live due date, and leaves its landed side unchanged.
+-- A decision keeps or raises the requester's live due date, and leaves its committed side unchanged.
 decides_due : TransitionsKeepDue
     → (txn : Qualifiers) (p : Party) (partner_sent : List (Option Apdu)) (action : Action) (result : Result Side Refusal)
     → acts p.live action ≡ result → RequesterSideInvariant txn p.live partner_sent
-    → KeepsDue (due_date_of p.live) (due_date_of (decides p result).1.live) × ((decides p result).1.landed ≡ p.landed)
+    → KeepsDue (due_date_of p.live) (due_date_of (decides p result).1.live) × ((decides p result).1.committed ≡ p.committed)
 decides_due rows txn p partner_sent action (Ok new) e stands =
     (inr (inl (acts_due rows txn p.live new action partner_sent e stands)), refl)
 decides_due rows txn p partner_sent action (Err refusal) e stands = (stays (due_date_of p.live), refl)
 
--- A delivery keeps or raises the requester's live due date, and leaves its landed side unchanged.
+-- A delivery keeps or raises the requester's live due date, and leaves its committed side unchanged.
 receives_due : TransitionsKeepDue → (txn : Qualifiers) (p : Party) (partner_sent : List (Option Apdu)) (found : Option Apdu)
     → RequesterSideInvariant txn p.live partner_sent
-    → KeepsDue (due_date_of p.live) (due_date_of (receives p found).1.live) × ((receives p found).1.landed ≡ p.landed)
+    → KeepsDue (due_date_of p.live) (due_date_of (receives p found).1.live) × ((receives p found).1.committed ≡ p.committed)
 receives_due rows txn p partner_sent None stands = (stays (due_date_of p.live), refl)
 receives_due rows txn p partner_sent (Some a) stands = (takes_due rows txn p.live a partner_sent stands, refl)
 
--- A Send leaves the live and the landed side unchanged.
+-- A Send leaves the live and the committed side unchanged.
 sends_same : (p : Party) (n : ℕ) (found : Option Apdu) (released : Bool)
-    → ((sends p n found released).1.live ≡ p.live) × ((sends p n found released).1.landed ≡ p.landed)
+    → ((sends p n found released).1.live ≡ p.live) × ((sends p n found released).1.committed ≡ p.committed)
 sends_same p n None released = (refl, refl)
 sends_same p n (Some a) false = (refl, refl)
 sends_same p n (Some a) true = (refl, refl)
 
 -- If q has the sides of p, and `KeepsDue` holds of p's dates, it holds of q's dates.
-same_dates : (p q : Party) → (q.live ≡ p.live) × (q.landed ≡ p.landed)
-    → KeepsDue (due_date_of p.landed) (due_date_of p.live) → KeepsDue (due_date_of q.landed) (due_date_of q.live)
+same_dates : (p q : Party) → (q.live ≡ p.live) × (q.committed ≡ p.committed)
+    → KeepsDue (due_date_of p.committed) (due_date_of p.live) → KeepsDue (due_date_of q.committed) (due_date_of q.live)
 same_dates p q same kept = subst (λ side. KeepsDue (due_date_of side) (due_date_of q.live)) (sym same.1)
-    (subst (λ side. KeepsDue (due_date_of p.landed) (due_date_of side)) (sym same.0) kept)
+    (subst (λ side. KeepsDue (due_date_of p.committed) (due_date_of side)) (sym same.0) kept)
 
--- If q has the landed side of p, and keeps or raises the live date, `KeepsDue` holds of its dates.
-live_kept : (p q : Party) → KeepsDue (due_date_of p.live) (due_date_of q.live) × (q.landed ≡ p.landed)
-    → KeepsDue (due_date_of p.landed) (due_date_of p.live) → KeepsDue (due_date_of q.landed) (due_date_of q.live)
+-- If q has the committed side of p, and keeps or raises the live date, `KeepsDue` holds of its dates.
+live_kept : (p q : Party) → KeepsDue (due_date_of p.live) (due_date_of q.live) × (q.committed ≡ p.committed)
+    → KeepsDue (due_date_of p.committed) (due_date_of p.live) → KeepsDue (due_date_of q.committed) (due_date_of q.live)
 live_kept p q both kept = subst (λ side. KeepsDue (due_date_of side) (due_date_of q.live)) (sym both.1)
-    (keeps_on (due_date_of p.landed) (due_date_of p.live) (due_date_of q.live) kept both.0)
+    (keeps_on (due_date_of p.committed) (due_date_of p.live) (due_date_of q.live) kept both.0)
 
--- After each event the requester's live due date is not earlier than its landed one, if this held before.
+-- After each event the requester's live due date is not earlier than its committed one, if this held before.
 pub due_after : TransitionsKeepDue → (txn : Qualifiers) (p : Party) (partner_sent : List (Option Apdu)) (event : Event)
-    → RequesterSideInvariant txn p.live partner_sent → KeepsDue (due_date_of p.landed) (due_date_of p.live)
-    → KeepsDue (due_date_of (happens_to p partner_sent event).1.landed) (due_date_of (happens_to p partner_sent event).1.live)
+    → RequesterSideInvariant txn p.live partner_sent → KeepsDue (due_date_of p.committed) (due_date_of p.live)
+    → KeepsDue (due_date_of (happens_to p partner_sent event).1.committed) (due_date_of (happens_to p partner_sent event).1.live)
 due_after rows txn p partner_sent (events.Wish wish) stands kept =
     live_kept p (happens_to p partner_sent (events.Wish wish)).1
     (decides_due rows txn p partner_sent (actions.Wish wish) (acts p.live (actions.Wish wish)) refl stands) kept
@@ -125,35 +125,35 @@ due_after rows txn p partner_sent (events.Deliver of n) stands kept =
     live_kept p (happens_to p partner_sent (events.Deliver of n)).1
     (receives_due rows txn p partner_sent (sent_message partner_sent n) stands) kept
 due_after rows txn p partner_sent (events.Noise of bytes) stands kept = kept
-due_after rows txn p partner_sent (events.Restart of) stands kept = stays (due_date_of p.landed)
+due_after rows txn p partner_sent (events.Restart of) stands kept = stays (due_date_of p.committed)
 
 -- Equal sides have equal due dates.
 same_date : (a b : Side) → b ≡ a → KeepsDue (due_date_of a) (due_date_of b)
 same_date a b e = inr (inl (ap due_date_of e))
 
--- Each event keeps or raises the requester's due dates, live and landed, as `KeepsDates` states.
+-- Each event keeps or raises the requester's due dates, live and committed, as `KeepsDates` states.
 pub dates_kept : TransitionsKeepDue → (txn : Qualifiers) (w : Parties) (event : Event) → Invariant txn w
     → KeepsDates w event (happens w event).1
 dates_kept rows txn w (events.Wish wish) stands =
     let p = w.requester in
     let kept = decides_due rows txn p w.responder.sent (actions.Wish wish) (acts p.live (actions.Wish wish)) refl
     stands.requester.live in
-    (kept.0, same_date p.landed _ kept.1)
+    (kept.0, same_date p.committed _ kept.1)
 dates_kept rows txn w (events.Deed deed today) stands = (stays _, stays _)
 dates_kept rows txn w (events.Save who.Requester) stands = (stays _, stands.due)
 dates_kept rows txn w (events.Save who.Responder) stands = (stays _, stays _)
 dates_kept rows txn w (events.SaveFault who.Requester true) stands = (stays _, stands.due)
 dates_kept rows txn w (events.SaveFault who.Requester false) stands = (stays _, stays _)
-dates_kept rows txn w (events.SaveFault who.Responder landed) stands = (stays _, stays _)
+dates_kept rows txn w (events.SaveFault who.Responder committed) stands = (stays _, stays _)
 dates_kept rows txn w (events.Send who.Requester n) stands =
     let p = w.requester in
     let same = sends_same p n (message (issued_of p.live) n) (nat_le n p.released) in
-    (same_date p.live _ same.0, same_date p.landed _ same.1)
+    (same_date p.live _ same.0, same_date p.committed _ same.1)
 dates_kept rows txn w (events.Send who.Responder n) stands = (stays _, stays _)
 dates_kept rows txn w (events.Deliver who.Requester n) stands =
     let p = w.requester in
     let kept = receives_due rows txn p w.responder.sent (sent_message w.responder.sent n) stands.requester.live in
-    (kept.0, same_date p.landed _ kept.1)
+    (kept.0, same_date p.committed _ kept.1)
 dates_kept rows txn w (events.Deliver who.Responder n) stands = (stays _, stays _)
 dates_kept rows txn w (events.Noise who.Requester bytes) stands = (stays _, stays _)
 dates_kept rows txn w (events.Noise who.Responder bytes) stands = (stays _, stays _)

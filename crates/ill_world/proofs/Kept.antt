@@ -38,7 +38,7 @@ party_decides : (K : Side → List (Option Apdu) → Type 0) (p : Party) (partne
 party_decides K p partner_sent action (Ok new) grows keeps e stands = record {
   saved = live_grows p new (grows p.live new (acted action e)).1 stands.saved;
   live = keeps.acts p.live new action partner_sent e stands.live;
-  landed = stands.landed;
+  committed = stands.committed;
 }
 party_decides K p partner_sent action (Err refusal) grows keeps e stands = stands
 
@@ -51,14 +51,16 @@ party_receives K p partner_sent n None grows keeps e stands = stands
 party_receives K p partner_sent n (Some a) grows keeps e stands = record {
   saved = live_grows p (takes p.live a).1 (grows p.live (takes p.live a).1 (took a refl)).1 stands.saved;
   live = keeps.takes p.live a partner_sent (n, e) stands.live;
-  landed = stands.landed;
+  committed = stands.committed;
 }
 
 -- A failed save keeps `PartyInvariant`.
-party_fails : (K : Side → List (Option Apdu) → Type 0) (p : Party) (partner_sent : List (Option Apdu)) (who : _) (landed : Bool)
-    → PartyInvariant K p partner_sent → PartyInvariant K (happens_to p partner_sent (events.SaveFault who landed)).1 partner_sent
+party_fails : (K : Side → List (Option Apdu) → Type 0) (p : Party) (partner_sent : List (Option Apdu)) (who : _)
+    (committed : Bool)
+    → PartyInvariant K p partner_sent
+    → PartyInvariant K (happens_to p partner_sent (events.SaveFault who committed)).1 partner_sent
 party_fails K p partner_sent who true stands =
-    record { saved = saved_by_fault p true stands.saved; live = stands.live; landed = stands.live }
+    record { saved = saved_by_fault p true stands.saved; live = stands.live; committed = stands.live }
 party_fails K p partner_sent who false stands = stands
 
 -- A Send keeps `PartyInvariant`.
@@ -70,7 +72,7 @@ party_sends : (K : Side → List (Option Apdu) → Type 0) (p : Party) (partner_
 party_sends K p partner_sent n None released is e stands = stands
 party_sends K p partner_sent n (Some a) false is e stands = stands
 party_sends K p partner_sent n (Some a) true is e stands =
-    record { saved = saved_by_send p n (Some a) true is e stands.saved; live = stands.live; landed = stands.landed }
+    record { saved = saved_by_send p n (Some a) true is e stands.saved; live = stands.live; committed = stands.committed }
 
 -- Each event keeps `PartyInvariant`.
 pub party_kept : (K : Side → List (Option Apdu) → Type 0) (p : Party) (partner_sent : List (Option Apdu)) (event : Event)
@@ -81,15 +83,16 @@ party_kept K p partner_sent (events.Wish wish) grows keeps stands =
 party_kept K p partner_sent (events.Deed deed today) grows keeps stands =
     party_decides K p partner_sent (actions.Deed deed today) (acts p.live (actions.Deed deed today)) grows keeps refl stands
 party_kept K p partner_sent (events.Save who) grows keeps stands =
-    record { saved = saved_now p stands.saved; live = stands.live; landed = stands.live }
-party_kept K p partner_sent (events.SaveFault who landed) grows keeps stands = party_fails K p partner_sent who landed stands
+    record { saved = saved_now p stands.saved; live = stands.live; committed = stands.live }
+party_kept K p partner_sent (events.SaveFault who committed) grows keeps stands =
+    party_fails K p partner_sent who committed stands
 party_kept K p partner_sent (events.Send who n) grows keeps stands =
     party_sends K p partner_sent n (message (issued_of p.live) n) (nat_le n p.released) refl refl stands
 party_kept K p partner_sent (events.Deliver who n) grows keeps stands =
     party_receives K p partner_sent n (sent_message partner_sent n) grows keeps refl stands
 party_kept K p partner_sent (events.Noise who bytes) grows keeps stands = stands
 party_kept K p partner_sent (events.Restart who) grows keeps stands =
-    record { saved = saved_at_restart p stands.saved; live = stands.landed; landed = stands.landed }
+    record { saved = saved_at_restart p stands.saved; live = stands.committed; committed = stands.committed }
 
 -- `PartyInvariant` holds with `more` if it holds with `partner_sent`, and `more` has each message of `partner_sent`.
 pub more_sent : (K : Side → List (Option Apdu) → Type 0) (p : Party) (partner_sent more : List (Option Apdu)) → Keeps K
@@ -99,7 +102,7 @@ more_sent K p partner_sent more keeps stays stands =
     record {
       saved = stands.saved;
       live = keeps.more p.live partner_sent more stays stands.live;
-      landed = keeps.more p.landed partner_sent more stays stands.landed;
+      committed = keeps.more p.committed partner_sent more stays stands.committed;
     }
 
 -- ---- sent messages
@@ -115,8 +118,8 @@ receives_sends p None = refl
 receives_sends p (Some a) = refl
 
 -- A failed save leaves the sent messages unchanged.
-fails_sends : (p : Party) (partner_sent : List (Option Apdu)) (who : _) (landed : Bool)
-    → (happens_to p partner_sent (events.SaveFault who landed)).1.sent ≡ p.sent
+fails_sends : (p : Party) (partner_sent : List (Option Apdu)) (who : _) (committed : Bool)
+    → (happens_to p partner_sent (events.SaveFault who committed)).1.sent ≡ p.sent
 fails_sends p partner_sent who true = refl
 fails_sends p partner_sent who false = refl
 
@@ -128,8 +131,8 @@ stays_sent p partner_sent (events.Wish wish) saved m a was =
 stays_sent p partner_sent (events.Deed deed today) saved m a was =
     subst (λ s. sent_message s m ≡ Some a) (sym (decides_sends p (acts p.live (actions.Deed deed today)))) was
 stays_sent p partner_sent (events.Save who) saved m a was = was
-stays_sent p partner_sent (events.SaveFault who landed) saved m a was =
-    subst (λ s. sent_message s m ≡ Some a) (sym (fails_sends p partner_sent who landed)) was
+stays_sent p partner_sent (events.SaveFault who committed) saved m a was =
+    subst (λ s. sent_message s m ≡ Some a) (sym (fails_sends p partner_sent who committed)) was
 stays_sent p partner_sent (events.Send who n) saved m a was =
     sent_stays p n (message (issued_of p.live) n) (nat_le n p.released) refl refl saved m a was
 stays_sent p partner_sent (events.Deliver who n) saved m a was =

@@ -24,7 +24,7 @@ pub mod Kept
 pub mod Messages
 pub mod Nights
 pub mod OneRound
-pub mod OutOfStep
+pub mod HaveDiverged
 pub mod Outcomes
 pub mod Pairs
 pub mod Parties

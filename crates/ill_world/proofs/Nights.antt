@@ -1,4 +1,4 @@
--- After a night both sides are in step, or at rest.
+-- After a night both sides are converged, or at rest.
 use Rattle.std.proofs.Common.{rules, ◌≡◌, ◌⊎◌, inl, inr, Bool, true, false, not, ◌&&◌, List, [], ◌∷◌, ◌++◌, length, Option, refl}
 use Rattle.std.proofs.Common.{sym, ap, ◌∙◌, subst}
 use Rattle.std.proofs.lemmas.Bool.{and_from, or_right}
@@ -22,9 +22,9 @@ use Rattle.ill_world.specs.World.{Parties, happens, run_by, run_of}
 use Rattle.ill_world.specs.Agreement.{Facing}
 use Rattle.ill_world.specs.Invariant.{RequesterInvariant, ResponderInvariant, RequesterSideInvariant, ResponderSideInvariant}
 use Rattle.ill_world.specs.Invariant.{Invariant}
-use Rattle.ill_world.specs.Round.{sends_and_delivers, half_of, round_of, faced_in, AreInStep}
+use Rattle.ill_world.specs.Round.{sends_and_delivers, half_of, round_of, faced_in, AreConverged}
 use Rattle.ill_words.specs.Sending.{is_nobodys, is_over, wants_sending}
-use Rattle.ill_world.specs.Night.{asks, half_if, night_of, AtRest, AreAtRest, AreInStepOrAtRest}
+use Rattle.ill_world.specs.Night.{asks, half_if, night_of, AtRest, AreAtRest, AreConvergedOrAtRest}
 use Rattle.ill_world.proofs.Claims.{AreIssued, live_issues, cancelled_faces, not_supplied_faces}
 use Rattle.ill_world.proofs.Agreements.{says_true}
 use Rattle.ill_world.proofs.DeskArrivals.{idle_issued}
@@ -194,15 +194,15 @@ rest_after : (w : Parties) (events : List Event) → AreAtRest w → events ≡ 
 unfolding run_by
 rest_after w events rest is = subst (λ (l : List Event). AreAtRest (run_of w l)) (sym is) rest
 
--- If the loan is open for the requester, the night is a round, which brings both sides in step. If the loan is over,
--- both sides were at rest, and only save, so that they are at rest still.
+-- If the loan is open for the requester, the night is a round, which brings both sides to convergence. If the loan is
+-- over, both sides were at rest, and only save, so that they are at rest still.
 pub one_night : (w : Parties) → (is_over w.requester.live ≡ false → night_of w ≡ round_of w)
     → (is_over w.requester.live ≡ true → night_of w ≡ Save who.Requester ∷ Save who.Responder ∷ [])
-    → (is_over w.requester.live ≡ true → AreAtRest w) → AreInStep (run_of w (round_of w))
-    → AreInStepOrAtRest (run_of w (night_of w))
+    → (is_over w.requester.live ≡ true → AreAtRest w) → AreConverged (run_of w (round_of w))
+    → AreConvergedOrAtRest (run_of w (night_of w))
 one_night w rounds saves rests step = go (is_over w.requester.live) refl
   where
     -- If the loan is open for the requester, the night is a round. Otherwise it is a save of each side.
-    go : (over : Bool) → is_over w.requester.live ≡ over → AreInStepOrAtRest (run_of w (night_of w))
-    go false is = inl (subst (λ (l : List Event). AreInStep (run_of w l)) (sym (rounds is)) step)
+    go : (over : Bool) → is_over w.requester.live ≡ over → AreConvergedOrAtRest (run_of w (night_of w))
+    go false is = inl (subst (λ (l : List Event). AreConverged (run_of w l)) (sym (rounds is)) step)
     go true is = inr (rest_after w (night_of w) (rests is) (saves is))

@@ -1,4 +1,4 @@
--- After a round both sides are in step. In a round each side takes all messages of the other, in order.
+-- After a round both sides are converged. In a round each side takes all messages of the other, in order.
 use Rattle.std.proofs.Common.{rules, arith, ◌≡◌, ◌⊎◌, inl, inr, ℕ, zero, suc, ◌≤◌, ◌<◌, Bool, true, false, not, ◌&&◌, ◌||◌, List}
 use Rattle.std.proofs.Common.{[], ◌∷◌, length, Option, Some, refl, sym, ap, ◌∙◌, subst, append-nil}
 use Rattle.std.specs.Prelude.{slice_get}
@@ -36,11 +36,11 @@ use Rattle.ill_world.specs.World.{Parties, happens, run_of}
 use Rattle.ill_world.specs.Agreement.{Facing}
 use Rattle.ill_world.specs.Invariant.{RequesterInvariant, ResponderInvariant, RequesterSideInvariant, ResponderSideInvariant}
 use Rattle.ill_world.specs.Invariant.{Invariant}
-use Rattle.ill_world.specs.Round.{half_of, round_of, InStep, AreInStep, CanAnswer}
+use Rattle.ill_world.specs.Round.{half_of, round_of, HaveConverged, AreConverged, CanAnswer}
 use Rattle.ill_core.proofs.MessageLemmas.{message_says, says_message}
 use Rattle.ill_world.proofs.Claims.{AreIssued, live_issues}
 use Rattle.ill_world.proofs.Hearing.{taking, keeps_all, heard_later}
-use Rattle.ill_world.proofs.Pairs.{HaveHeard, in_step}
+use Rattle.ill_world.proofs.Pairs.{HaveHeard, converged}
 use Rattle.ill_world.proofs.Rounds.{takes_all, round_passes}
 use Rattle.ill_world.proofs.Runs.{run_stands}
 use Rattle.ill_world.proofs.Sendings.{prefix_of_prefix, prefix_of_itself}
@@ -366,9 +366,9 @@ module _ (rows : TransitionsHear) where
   responder_few txn (sides.Responder y) requester_sent stands = stands.few
   responder_few txn (sides.Requester x) requester_sent stands = absurd stands
 
-  -- Each side has taken all messages of the other, and the responder could answer before. Then the two sides are in
-  -- step.
-  sides_in_step : (txn : Qualifiers) (requester responder requester_after responder_after : Side)
+  -- Each side has taken all messages of the other, and the responder could answer before. Then the two sides have
+  -- converged.
+  sides_converged : (txn : Qualifiers) (requester responder requester_after responder_after : Side)
       (responder_sent requester_sent responder_sent_after requester_sent_after : List (Option Apdu))
       → RequesterSideInvariant txn requester responder_sent
       → ResponderSideInvariant txn responder requester_sent → RequesterSideInvariant txn requester_after responder_sent_after
@@ -377,8 +377,8 @@ module _ (rows : TransitionsHear) where
       → AreIssued requester_sent_after (issued_of requester_after) → CanAnswer responder
       → responder_after ≡ takes_all responder (issued_of requester)
       → requester_after ≡ takes_all requester (issued_of responder_after)
-      → Facing InStep requester_after responder_after
-  sides_in_step txn (sides.Requester x) (sides.Responder y) (sides.Requester x_after) (sides.Responder y_after) responder_sent
+      → Facing HaveConverged requester_after responder_after
+  sides_converged txn (sides.Requester x) (sides.Responder y) (sides.Requester x_after) (sides.Responder y_after) responder_sent
       requester_sent responder_sent_after requester_sent_after borrower lender borrower_after lender_after issued heeded can
       lends_it asks_it =
       let y_is : y_after ≡ taking lends y x.issued = same_responder _ _ (lends_it ∙ responder_taking y x.issued) in
@@ -389,23 +389,23 @@ module _ (rows : TransitionsHear) where
       (subst (λ r. ResponderInvariant txn r requester_sent_after) y_is lender_after) can in
       let hear_after : HaveHeard x_after y_after =
       subst (HaveHeard x_after) (sym y_is) (subst (λ r. HaveHeard r (taking lends y x.issued)) (sym x_too) hear) in
-      in_step txn x_after y_after responder_sent_after requester_sent_after borrower_after lender_after issued heeded hear_after
-  sides_in_step txn (sides.Responder y) responder requester_after responder_after responder_sent requester_sent
+      converged txn x_after y_after responder_sent_after requester_sent_after borrower_after lender_after issued heeded hear_after
+  sides_converged txn (sides.Responder y) responder requester_after responder_after responder_sent requester_sent
       responder_sent_after requester_sent_after borrower lender borrower_after lender_after issued heeded can lends_it asks_it =
       absurd borrower
-  sides_in_step txn (sides.Requester x) (sides.Requester z) requester_after responder_after responder_sent requester_sent
+  sides_converged txn (sides.Requester x) (sides.Requester z) requester_after responder_after responder_sent requester_sent
       responder_sent_after requester_sent_after borrower lender borrower_after lender_after issued heeded can lends_it asks_it =
       absurd lender
-  sides_in_step txn (sides.Requester x) (sides.Responder y) (sides.Responder z) responder_after responder_sent requester_sent
+  sides_converged txn (sides.Requester x) (sides.Responder y) (sides.Responder z) responder_after responder_sent requester_sent
       responder_sent_after requester_sent_after borrower lender borrower_after lender_after issued heeded can lends_it asks_it =
       absurd borrower_after
-  sides_in_step txn (sides.Requester x) (sides.Responder y) (sides.Requester x_after) (sides.Requester z) responder_sent
+  sides_converged txn (sides.Requester x) (sides.Responder y) (sides.Requester x_after) (sides.Requester z) responder_sent
       requester_sent responder_sent_after requester_sent_after borrower lender borrower_after lender_after issued heeded can
       lends_it asks_it = absurd lender_after
 
-  -- If a world satisfies the invariant, and the responder can answer, both sides are in step after a round.
+  -- If a world satisfies the invariant, and the responder can answer, both sides are converged after a round.
   pub one_round : (txn : Qualifiers) → ((w : Parties) (event : Event) → Invariant txn w → Invariant txn (happens w event).1)
-      → (w : Parties) → Invariant txn w → CanAnswer w.responder.live → AreInStep (run_of w (round_of w))
+      → (w : Parties) → Invariant txn w → CanAnswer w.responder.live → AreConverged (run_of w (round_of w))
   one_round txn after w stands can =
       let between : Parties = run_of w (half_of who.Requester w) in
       let new : Parties = run_of w (round_of w) in
@@ -415,7 +415,8 @@ module _ (rows : TransitionsHear) where
       stands.requester.saved.places
       (responder_few txn between.responder.live between.requester.sent stands_between.responder.live)
       stands_between.responder.saved.places in
-      sides_in_step txn w.requester.live w.responder.live new.requester.live new.responder.live w.responder.sent w.requester.sent
+      sides_converged txn w.requester.live w.responder.live new.requester.live new.responder.live w.responder.sent
+      w.requester.sent
       new.responder.sent new.requester.sent stands.requester.live stands.responder.live
       stands_new.requester.live stands_new.responder.live (live_issues new.responder stands_new.responder.saved)
       (live_issues new.requester stands_new.requester.saved) can rounds.responder rounds.requester

@@ -230,8 +230,8 @@ asking_receives txn w n None stands e = refl
 asking_receives txn w n (Some a) stands e =
     answer_seen (takes w.requester.live a).0
     (asking_seen txn w.requester.live w.responder.sent a stands.requester.live
-    (responders_own txn w.responder.landed w.requester.sent n a stands.responder.landed
-    (stands.responder.saved.landed n a e)))
+    (responders_own txn w.responder.committed w.requester.sent n a stands.responder.committed
+    (stands.responder.saved.committed n a e)))
 
 -- `can_be_seen` holds of the outcome of a delivery to the responder.
 asked_receives : (txn : Qualifiers) (w : Parties) (n : ℕ) (found : Option Apdu) → Invariant txn w
@@ -240,8 +240,8 @@ asked_receives txn w n None stands e = refl
 asked_receives txn w n (Some a) stands e =
     answer_seen (takes w.responder.live a).0
     (asked_seen txn w.responder.live w.requester.sent a stands.responder.live
-    (requesters_own txn w.requester.landed w.responder.sent n a stands.requester.landed
-    (stands.requester.saved.landed n a e)))
+    (requesters_own txn w.requester.committed w.responder.sent n a stands.requester.committed
+    (stands.requester.saved.committed n a e)))
 
 -- `can_be_seen` holds of the outcome of each event.
 pub outcome_seen : (txn : Qualifiers) (w : Parties) (event : Event) → Invariant txn w → can_be_seen (happens w event).0 ≡ true
@@ -252,7 +252,7 @@ outcome_seen txn w (events.Deed deed today) stands =
     decision_seen w.responder (acts w.responder.live (actions.Deed deed today))
     (deed_seen txn w.responder.live w.requester.sent deed today stands.responder.live)
 outcome_seen txn w (events.Save of) stands = refl
-outcome_seen txn w (events.SaveFault of landed) stands = refl
+outcome_seen txn w (events.SaveFault of committed) stands = refl
 outcome_seen txn w (events.Send of n) stands = send_seen (party w of) n _ _
 outcome_seen txn w (events.Deliver who.Requester n) stands = asking_receives txn w n (sent_message w.responder.sent n) stands refl
 outcome_seen txn w (events.Deliver who.Responder n) stands = asked_receives txn w n (sent_message w.requester.sent n) stands refl

@@ -1,4 +1,4 @@
--- After each record has taken all messages of the other, the two records are in step. Either then satisfies
+-- After each record has taken all messages of the other, the two records are converged. Either then satisfies
 -- `has_heard`: no message of the other would change it now.
 use Rattle.std.proofs.Common.{rules, arith, ◌≡◌, ◌⊎◌, inl, inr, ℕ, zero, suc, ◌≤◌, ◌<◌, Bool, true, false, not, ◌&&◌, nat_lt}
 use Rattle.std.proofs.Common.{List, [], ◌∷◌, length, Option, Some, None, is_some, refl, sym, ap, ◌∙◌, subst}
@@ -36,7 +36,7 @@ use Rattle.ill_core.specs.ResponderEvidence.{Question, MayCancel, MayRenew, answ
 use Rattle.ill_core.specs.ResponderNotices as records
 use Rattle.ill_core.specs.ResponderNotices.{is_recall, is_overdue_of, grant, grant_of}
 use Rattle.ill_world.specs.Invariant.{RequesterInvariant, ResponderInvariant}
-use Rattle.ill_world.specs.Round.{faced_in, InStep}
+use Rattle.ill_world.specs.Round.{faced_in, HaveConverged}
 use Rattle.ill_core.proofs.MessageLemmas.{message_says, says_message}
 use Rattle.ill_core.proofs.GrantLemmas.{same_itself, itself_not_before, granted_not_later}
 use Rattle.ill_world.proofs.Uniqueness.{message_number, same_apdu, found_among, answers_once, one_end}
@@ -1002,7 +1002,7 @@ module _ (txn : Qualifiers) (x : RequesterRecord) (y : ResponderRecord) (respond
       (waits_alike ∙ no.3) (later_alike ∙ no.4)
       (false_from_ne_true _ (not_accepted is))
 
-  -- ---- in step
+  -- ---- converged
 
   -- The states of both satisfy `StatesFit`.
   states_fit : StatesFit x.state y.state
@@ -1050,9 +1050,9 @@ module _ (txn : Qualifiers) (x : RequesterRecord) (y : ResponderRecord) (respond
       checked_in_heard x at.1.number at.1.body at.3 (hear.requester at.0 at.1 at.2 (checked_in_is_plain at.1.body at.3))
       (returned_alike ∙ home_is_back y.state is))
 
-  -- The two records are in step.
-  pub in_step : InStep x y
-  in_step = record {
+  -- The two records are converged.
+  pub converged : HaveConverged x y
+  converged = record {
     faced = face;
     undeclined = false_from_ne_true _ not_declined;
     received = marked;

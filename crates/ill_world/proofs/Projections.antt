@@ -87,7 +87,7 @@ whole_found : (role : Role) (txn : Qualifiers) (found : Option Side)
 whole_found role txn (Some side) = refl
 whole_found role txn None = whole_idle role txn
 
--- After a restart the entry of `txn` is its landed side, with all messages released.
+-- After a restart the entry of `txn` is its committed side, with all messages released.
 whole_for : (txn : Qualifiers) (all : SidesOf) → held_for txn (whole_of all) ≡ whole (side_for txn all)
 unfolding side_with
 whole_for txn all =
@@ -120,7 +120,7 @@ shows p txn = record {
   live = λ held found.
       let is = ap (found_or (idle_held p.live.role txn)) found in
       (ap (λ (h : DeskEntry). h.side) is, ap (λ (h : DeskEntry). h.released) is);
-  landed = λ side found. ap (found_or (idle_side p.landed.role txn)) found;
+  committed = λ side found. ap (found_or (idle_side p.committed.role txn)) found;
   sent = λ sending found. ap (λ o. (found_or {X = Sending} (record { txn = txn; sent = nothing_sent }) o).sent) found;
 }
 
@@ -367,20 +367,20 @@ desk_sends_seen p of n (Some held) e txn =
 saves_seen : (p : DeskParty) (txn : Qualifiers) → party_for txn (desk_saves p) ≡ saves (party_for txn p)
 saves_seen p txn =
     ap (λ (h : DeskEntry). record (party_for txn p)
-    { live = h.side; landed = side_for txn (sides_held p.live); released = h.released }) (whole_for txn (sides_held p.live))
-    ∙ ap (λ side. record (party_for txn p) { live = side; landed = side; released = length (issued_of side) })
+    { live = h.side; committed = side_for txn (sides_held p.live); released = h.released }) (whole_for txn (sides_held p.live))
+    ∙ ap (λ side. record (party_for txn p) { live = side; committed = side; released = length (issued_of side) })
     (side_of_held txn p.live)
 
 -- After a failed save a desk shows its earlier party as `fails_to_save` changes it.
-fault_of_save : (p : DeskParty) (txn : Qualifiers) (landed : Bool)
-    → party_for txn (desk_fails_to_save p landed) ≡ fails_to_save (party_for txn p) landed
-fault_of_save p txn true = ap (λ side. record (party_for txn p) { landed = side }) (side_of_held txn p.live)
+fault_of_save : (p : DeskParty) (txn : Qualifiers) (committed : Bool)
+    → party_for txn (desk_fails_to_save p committed) ≡ fails_to_save (party_for txn p) committed
+fault_of_save p txn true = ap (λ side. record (party_for txn p) { committed = side }) (side_of_held txn p.live)
 fault_of_save p txn false = refl
 
 -- After a restart a desk shows its earlier party as `restarts` changes it.
 pub restarts_seen : (p : DeskParty) (txn : Qualifiers) → party_for txn (desk_restarts p) ≡ restarts (party_for txn p)
 restarts_seen p txn = ap (λ (h : DeskEntry). record (party_for txn p) { live = h.side; released = h.released })
-    (whole_for txn p.landed)
+    (whole_for txn p.committed)
 
 -- ---- every event
 
@@ -440,7 +440,7 @@ party_seen grows rows p partner_sent (events.Wish of wish) keeps txn =
 party_seen grows rows p partner_sent (events.Deed of deed today) keeps txn =
     desk_decides_seen grows p of (actions.Deed deed today) (may_act p who.Responder keeps.role_is) txn
 party_seen grows rows p partner_sent (events.Save role) keeps txn = (refl, saves_seen p txn)
-party_seen grows rows p partner_sent (events.SaveFault role landed) keeps txn = (refl, fault_of_save p txn landed)
+party_seen grows rows p partner_sent (events.SaveFault role committed) keeps txn = (refl, fault_of_save p txn committed)
 party_seen grows rows p partner_sent (events.Send role of n) keeps txn =
     desk_sends_seen p of n (found_by txn_held of p.live.held) refl txn
 party_seen grows rows p partner_sent (events.Deliver role of n) keeps txn =

@@ -88,10 +88,11 @@ takes_reaches p a others =
 sent_by_other : (w : DeskParties) (role : Role) → DesksInvariant w → (txn : Qualifiers) (n : ℕ) (a : Apdu)
     → sent_message (sent_for txn (party w (other role)).sent) n ≡ Some a → is_own role a.body ≡ false
 sent_by_other w who.Requester stands txn n a sent =
-    let responder = (stands.each txn).responder in responders_own txn _ _ n a responder.landed (responder.saved.landed n a sent)
+    let responder = (stands.each txn).responder in
+    responders_own txn _ _ n a responder.committed (responder.saved.committed n a sent)
 sent_by_other w who.Responder stands txn n a sent =
     let requester = (stands.each txn).requester in
-    ap not (requesters_own txn _ _ n a requester.landed (requester.saved.landed n a sent))
+    ap not (requesters_own txn _ _ n a requester.committed (requester.saved.committed n a sent))
 
 -- `ReachesAt` holds of the delivery of a message that the other desk has sent.
 delivers_reaches : (w : DeskParties) (role : Role) → DesksInvariant w
@@ -116,6 +117,6 @@ reaches_side w (events.Send role txn n) stands =
 reaches_side w (events.Deliver role txn n) stands = λ a sent.
     delivers_reaches w role stands txn n a (sent_message (sent_for txn (party w (other role)).sent) n) sent sent
 reaches_side w (events.Save role) stands = tt
-reaches_side w (events.SaveFault role landed) stands = tt
+reaches_side w (events.SaveFault role committed) stands = tt
 reaches_side w (events.Noise role bytes) stands = tt
 reaches_side w (events.Restart role) stands = tt

@@ -1,4 +1,4 @@
--- A party sends only messages that have landed (`SendsSaved`), and each event keeps this.
+-- A party sends only messages that are committed (`SendsSaved`), and each event keeps this.
 use Rattle.std.proofs.Common.{rules, arith, ◌≡◌, ◌⊎◌, inl, inr, ℕ, zero, suc, ◌+◌, ◌≤◌, Bool, true, false, nat_le, List, [], ◌∷◌}
 use Rattle.std.proofs.Common.{◌++◌, length, Option, Some, None, refl, sym, ap, ◌∙◌, subst, append_assoc, append-nil}
 use Rattle.std.proofs.Common.{length-append}
@@ -95,8 +95,8 @@ some_is a b e = search rules
 pub live_grows : (p : Party) (new : Side) → IsPrefix (issued_of p.live) (issued_of new) → SendsSaved p
     → SendsSaved (record p { live = new })
 live_grows p new grows saved = record {
-  landed = saved.landed;
-  prefix = prefix_of_prefix (issued_of p.landed) (issued_of p.live) (issued_of new) saved.prefix grows;
+  committed = saved.committed;
+  prefix = prefix_of_prefix (issued_of p.committed) (issued_of p.live) (issued_of new) saved.prefix grows;
   released = saved.released;
   places = saved.places;
 }
@@ -104,32 +104,37 @@ live_grows p new grows saved = record {
 -- A save keeps `SendsSaved`.
 pub saved_now : (p : Party) → SendsSaved p → SendsSaved (saves p)
 saved_now p saved = record {
-  landed = λ n a e. prefix_message (issued_of p.landed) (issued_of p.live) n a saved.prefix (saved.landed n a e);
+  committed = λ n a e. prefix_message (issued_of p.committed) (issued_of p.live) n a saved.prefix (saved.committed n a e);
   prefix = prefix_of_itself (issued_of p.live);
   released = omega arith;
   places = saved.places;
 }
 
 -- A failed save keeps `SendsSaved`.
-pub saved_by_fault : (p : Party) (landed : Bool) → SendsSaved p → SendsSaved (fails_to_save p landed)
+pub saved_by_fault : (p : Party) (committed : Bool) → SendsSaved p → SendsSaved (fails_to_save p committed)
 saved_by_fault p true saved = record {
-  landed = λ n a e. prefix_message (issued_of p.landed) (issued_of p.live) n a saved.prefix (saved.landed n a e);
+  committed = λ n a e. prefix_message (issued_of p.committed) (issued_of p.live) n a saved.prefix (saved.committed n a e);
   prefix = prefix_of_itself (issued_of p.live);
-  released = omega (arith, saved.released, prefix_is_shorter (issued_of p.landed) (issued_of p.live) saved.prefix);
+  released = omega (arith, saved.released, prefix_is_shorter (issued_of p.committed) (issued_of p.live) saved.prefix);
   places = saved.places;
 }
 saved_by_fault p false saved = saved
 
 -- A restart keeps `SendsSaved`.
 pub saved_at_restart : (p : Party) → SendsSaved p → SendsSaved (restarts p)
-saved_at_restart p saved = record
-    { landed = saved.landed; prefix = prefix_of_itself (issued_of p.landed); released = omega arith; places = saved.places }
+saved_at_restart p saved = record {
+  committed = saved.committed;
+  prefix = prefix_of_itself (issued_of p.committed);
+  released = omega arith;
+  places =
+      saved.places;
+}
 
--- A message that is issued and released has landed.
-sent_landed : (p : Party) (n : ℕ) (a : Apdu) → SendsSaved p → message (issued_of p.live) n ≡ Some a
-    → nat_le n p.released ≡ true → message (issued_of p.landed) n ≡ Some a
-sent_landed p n a saved is released =
-    within_prefix (issued_of p.landed) (issued_of p.live) n a saved.prefix
+-- A message that is issued and released is committed.
+sent_committed : (p : Party) (n : ℕ) (a : Apdu) → SendsSaved p → message (issued_of p.live) n ≡ Some a
+    → nat_le n p.released ≡ true → message (issued_of p.committed) n ≡ Some a
+sent_committed p n a saved is released =
+    within_prefix (issued_of p.committed) (issued_of p.live) n a saved.prefix
     (omega (arith, leb-true n p.released released, saved.released)) is
 
 -- After `a` was sent as message n, sent message m is `a` if m is n, or was sent before.
@@ -153,11 +158,11 @@ pub saved_by_send : (p : Party) (n : ℕ) (found : Option Apdu) (released : Bool
 saved_by_send p n None released is e saved = saved
 saved_by_send p n (Some a) false is e saved = saved
 saved_by_send p n (Some a) true is e saved = record {
-  landed =
+  committed =
       λ m b was. elim (sent_with p.sent n m a b was) [
-        | inl here ↦ subst (λ x. message (issued_of p.landed) m ≡ Some x) (sym here.1)
-            (subst (λ k. message (issued_of p.landed) k ≡ Some a) (sym here.0) (sent_landed p n a saved is e))
-        | inr before ↦ saved.landed m b before
+        | inl here ↦ subst (λ x. message (issued_of p.committed) m ≡ Some x) (sym here.1)
+            (subst (λ k. message (issued_of p.committed) k ≡ Some a) (sym here.0) (sent_committed p n a saved is e))
+        | inr before ↦ saved.committed m b before
       ];
   prefix = saved.prefix;
   released = saved.released;
@@ -172,4 +177,4 @@ sent_stays p n None released is e saved m b was = was
 sent_stays p n (Some a) false is e saved m b was = was
 sent_stays p n (Some a) true is e saved m b was =
     sent_still p.sent n m a b was (λ at.
-    some_is a b (sym (sent_landed p n a saved is e) ∙ ap (message (issued_of p.landed)) (sym at) ∙ saved.landed m b was))
+    some_is a b (sym (sent_committed p n a saved is e) ∙ ap (message (issued_of p.committed)) (sym at) ∙ saved.committed m b was))

@@ -57,7 +57,7 @@ module _ (group : List ℕ) where
   event_at txn (events.Wish wish) is = is
   event_at txn (events.Deed deed today) is = is
   event_at txn (events.Save role) is = refl
-  event_at txn (events.SaveFault role landed) is = refl
+  event_at txn (events.SaveFault role committed) is = refl
   event_at txn (events.Send role n) is = is
   event_at txn (events.Deliver role n) is = is
   event_at txn (events.Noise role bytes) is = refl

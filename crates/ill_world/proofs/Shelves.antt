@@ -19,7 +19,7 @@ use Rattle.ill_words.specs.declared.outcome.DeskOutcome.TheVariants.{Plain, NoSu
 use Rattle.ill_world.specs.World.{Parties, party, happens, happens_at, first_world, sent_message, run_by, who_of}
 use Rattle.ill_world.specs.Desks.{DeskParty, DeskParties, Sending, sent_for, plain, first_desks, desk_happens_to, desks_happen}
 use Rattle.ill_world.specs.Desks.{desks_run, project, concerns, if_reached, IsSeenAs}
-use Rattle.ill_world.specs.DeskCounts.{is_one_of, live_txns, landed_txns}
+use Rattle.ill_world.specs.DeskCounts.{is_one_of, live_txns, committed_txns}
 use Rattle.ill_world.specs.DeskSafety.{DesksInvariant}
 use Rattle.ill_world.specs.BadDesks.{Names}
 use Rattle.ill_world.specs.Shelves.{Shelves, ShelfEvent, first_shelves, group_of, home, shelves_happen, shelves_run, events_at}
@@ -27,7 +27,7 @@ use Rattle.ill_world.proofs.Parties.{RowsGrow}
 use Rattle.ill_world.proofs.Projections.{first_project}
 use Rattle.ill_world.proofs.Desks.{EachProjects, EachStands, keeps_to}
 use Rattle.ill_world.proofs.BadDesks.{joined}
-use Rattle.ill_world.proofs.DeskCounts.{Leads, stays, begun, lands, returns, Permits, event_leads, has_found, has_not}
+use Rattle.ill_world.proofs.DeskCounts.{Leads, stays, begun, commits, returns, Permits, event_leads, has_found, has_not}
 
 -- ---- groups
 
@@ -76,9 +76,9 @@ shelves_run_at w group (e ∷ more) =
 
 -- ---- transactions of another group
 
--- The desk lacks `txn`: it holds no side of it, and no side of it has landed.
+-- The desk lacks `txn`: it holds no side of it, and no side of it is committed.
 abbrev pub Lacks : Qualifiers → DeskParty → Type 0
-Lacks txn p = (is_one_of txn (live_txns p) ≡ false) × (is_one_of txn (landed_txns p) ≡ false)
+Lacks txn p = (is_one_of txn (live_txns p) ≡ false) × (is_one_of txn (committed_txns p) ≡ false)
 
 -- Both desks lack `txn`.
 abbrev pub BothLack : Qualifiers → DeskParties → Type 0
@@ -89,17 +89,17 @@ abbrev IsOther : Qualifiers → Qualifiers → Type 0
 IsOther txn of = is_same_txn txn of ≡ false
 
 -- If a desk lacks `txn`, and an event begins only other transactions, the desk still lacks it.
-lacks_still : (txn : Qualifiers) (live landed new_live new_landed : List Qualifiers)
-    → Leads (IsOther txn) live landed new_live new_landed
-    → (is_one_of txn live ≡ false) × (is_one_of txn landed ≡ false)
-    → (is_one_of txn new_live ≡ false) × (is_one_of txn new_landed ≡ false)
-lacks_still txn live landed new_live new_landed (stays is there) lacks =
+lacks_still : (txn : Qualifiers) (live committed new_live new_committed : List Qualifiers)
+    → Leads (IsOther txn) live committed new_live new_committed
+    → (is_one_of txn live ≡ false) × (is_one_of txn committed ≡ false)
+    → (is_one_of txn new_live ≡ false) × (is_one_of txn new_committed ≡ false)
+lacks_still txn live committed new_live new_committed (stays is there) lacks =
     (ap (is_one_of txn) is ∙ lacks.0, ap (is_one_of txn) there ∙ lacks.1)
-lacks_still txn live landed new_live new_landed (begun of none room may is there) lacks =
+lacks_still txn live committed new_live new_committed (begun of none room may is there) lacks =
     (ap (is_one_of txn) is ∙ has_not txn of live lacks.0 may, ap (is_one_of txn) there ∙ lacks.1)
-lacks_still txn live landed new_live new_landed (lands is there) lacks =
+lacks_still txn live committed new_live new_committed (commits is there) lacks =
     (ap (is_one_of txn) is ∙ lacks.0, ap (is_one_of txn) there ∙ lacks.0)
-lacks_still txn live landed new_live new_landed (returns is there) lacks =
+lacks_still txn live committed new_live new_committed (returns is there) lacks =
     (ap (is_one_of txn) is ∙ lacks.1, ap (is_one_of txn) there ∙ lacks.1)
 
 -- The event names another transaction than `txn`, or none.
@@ -126,7 +126,7 @@ lack_at : RowsGrow → (txn : Qualifiers) (w : DeskParties) (event : DeskEvent) 
     → BothLack txn (happens_at w role (λ p partner. desk_happens_to p partner.sent event)).1
 lack_at grows txn w event stands names lack who.Requester =
     let new = (desk_happens_to w.requester w.responder.sent event).1 in (
-      lacks_still txn (live_txns w.requester) (landed_txns w.requester) (live_txns new) (landed_txns new)
+      lacks_still txn (live_txns w.requester) (committed_txns w.requester) (live_txns new) (committed_txns new)
           (event_leads grows (IsOther txn) w.requester w.responder.sent event
           (permits_other txn w.responder.sent event (keeps_to w who.Requester stands).txn_of_sent names)) lack.0,
       lack.1,
@@ -134,7 +134,7 @@ lack_at grows txn w event stands names lack who.Requester =
 lack_at grows txn w event stands names lack who.Responder =
     let new = (desk_happens_to w.responder w.requester.sent event).1 in (
       lack.0,
-      lacks_still txn (live_txns w.responder) (landed_txns w.responder) (live_txns new) (landed_txns new)
+      lacks_still txn (live_txns w.responder) (committed_txns w.responder) (live_txns new) (committed_txns new)
           (event_leads grows (IsOther txn) w.responder w.requester.sent event
           (permits_other txn w.requester.sent event (keeps_to w who.Responder stands).txn_of_sent names)) lack.1,
     )

@@ -287,13 +287,13 @@ first_stands : (K : Side → List (Option Apdu) → Type 0) (idle : Side) (partn
     → PartyInvariant K (first_party idle) partner_sent
 first_stands K idle partner_sent stands = record {
   saved = record {
-    landed = λ n a e. absurd (none_sent n a e);
+    committed = λ n a e. absurd (none_sent n a e);
     prefix = prefix_of_itself (issued_of idle);
     released = omega arith;
     places = refl;
   };
   live = stands;
-  landed = stands;
+  committed = stands;
 }
 
 -- The first world satisfies the invariant.

@@ -88,8 +88,8 @@ pub record SaysTrue (x : RequesterRecord) (y : ResponderRecord) : Type 0 where
 -- side are right.
 pub record Agrees (w : Parties) : Type 0 where
   pub answered : EachAnsweredOnce w
-  pub ended : EndsOnce w.responder.live × EndsOnce w.responder.landed
-  pub accepted : AcceptedBy w w.responder.live × AcceptedBy w w.responder.landed
+  pub ended : EndsOnce w.responder.live × EndsOnce w.responder.committed
+  pub accepted : AcceptedBy w w.responder.live × AcceptedBy w w.responder.committed
   pub dates : OfBoth (Facing IsNotLater) w
   pub says : OfBoth (Facing SaysTrue) w
 
@@ -105,12 +105,12 @@ abbrev pub KeepsLiveDate : Event → Party → Party → Type 0
 KeepsLiveDate (Restart Requester) old new = Unit {0}
 KeepsLiveDate event old new = KeepsDue (due_date_of old.live) (due_date_of new.live)
 
--- The event leads from `old` to `new`. If the requester has a landed due date, the event keeps or raises it. Unless the
--- event is the requester's restart, it keeps or raises the live due date too.
+-- The event leads from `old` to `new`. If the requester has a committed due date, the event keeps or raises it. Unless
+-- the event is the requester's restart, it keeps or raises the live due date too.
 abbrev pub KeepsDates : Parties → Event → Parties → Type 0
 KeepsDates old event new =
     KeepsLiveDate event old.requester new.requester
-    × KeepsDue (due_date_of old.requester.landed) (due_date_of new.requester.landed)
+    × KeepsDue (due_date_of old.requester.committed) (due_date_of new.requester.committed)
 
 -- Returns the states to which an APDU that ends the request leads a requester: SHIPPED and later after a Shipped,
 -- CANCELLED after a Cancel-Reply, and NOT-SUPPLIED after any other.

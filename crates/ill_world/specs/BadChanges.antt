@@ -24,14 +24,14 @@ pub data DoesNothing : Outcome → Type 0 where
   garbled : DoesNothing Garbled
   forged : DoesNothing Forged
 
--- A party has changed in more than its landed side.
+-- A party has changed in more than its committed side.
 pub data ChangesMore (old new : Party) : Type 0 where
   live : (new.live ≡ old.live → ⊥) → ChangesMore old new
   released : (new.released ≡ old.released → ⊥) → ChangesMore old new
   sent : (new.sent ≡ old.sent → ⊥) → ChangesMore old new
 
 -- The event with this outcome has changed too much. It did nothing, and the world has changed. Or its save failed, and
--- more than a landed side has changed.
+-- more than a committed side has changed.
 pub data ChangesTooMuch (old new : Parties) : Outcome → Type 0 where
   by_nothing : (outcome : Outcome) → DoesNothing outcome → (new ≡ old → ⊥) → ChangesTooMuch old new outcome
   by_a_fault : (who : Role) → ChangesMore (party old who) (party new who) → ChangesTooMuch old new Faulted

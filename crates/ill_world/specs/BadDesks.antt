@@ -89,13 +89,13 @@ ChangesUnreached outcome old new = IsNotReached outcome × (new ≡ old → ⊥)
 
 -- ---- projections
 
--- `shown` lacks something that desk `p` holds, has landed or has sent in `txn`.
+-- `shown` lacks something that desk `p` holds, is committed or has sent in `txn`.
 pub data Hides (p : DeskParty) (txn : Qualifiers) (shown : Party) : Type 0 where
   hides_side : (held : DeskEntry) → found_by txn_held txn p.live.held ≡ Some held → (shown.live ≡ held.side → ⊥) →
       Hides p txn shown
   hides_release : (held : DeskEntry) → found_by txn_held txn p.live.held ≡ Some held →
       (shown.released ≡ held.released → ⊥) → Hides p txn shown
-  hides_landed : (side : Side) → side_with txn p.landed.sides ≡ Some side → (shown.landed ≡ side → ⊥) →
+  hides_committed : (side : Side) → side_with txn p.committed.sides ≡ Some side → (shown.committed ≡ side → ⊥) →
       Hides p txn shown
   hides_sent : (sending : Sending) → found_by txn_sent txn p.sent ≡ Some sending → (shown.sent ≡ sending.sent → ⊥) →
       Hides p txn shown

@@ -1,5 +1,5 @@
 -- These are worlds that no round may leave, and worlds in which a message of a round is needed. In the latter a whole
--- round brings both sides in step. A round without the message does not.
+-- round brings both sides to convergence. A round without the message does not.
 use Rattle.std.specs.Prelude.{◌≡◌, ◌-◌, List, [], ◌∷◌, ◌++◌, length, None, codes}
 use Rattle.ill_values.specs.Day.{Date}
 use Rattle.ill_values.specs.TxnId.{Qualifiers}

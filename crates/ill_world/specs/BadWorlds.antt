@@ -26,9 +26,9 @@ use Rattle.ill_words.specs.declared.outcome.Outcome.{Outcome}
 use Rattle.ill_words.specs.declared.outcome.Outcome.TheVariants.{Answered}
 use Rattle.ill_world.specs.World.{Party, Parties, happens, sent_message}
 
--- `side` is the live or the landed side of `p`.
+-- `side` is the live or the committed side of `p`.
 abbrev pub Has : Party → Side → Type 0
-Has p side = (p.live ≡ side) ⊎ (p.landed ≡ side)
+Has p side = (p.live ≡ side) ⊎ (p.committed ≡ side)
 
 -- `says` holds of the body of no message that `at` gives.
 abbrev pub NoneSays : (ℕ → Option Apdu) → (Body → Type 0) → Type 0
@@ -111,11 +111,11 @@ IsTakenBack old new =
     (due : Date) × (old ≡ Some due) × ((now : Date) → new ≡ Some now → is_before now due ≡ true)
 
 -- The event takes the requester's due date back. It is the live date and the event is not its restart, or it is the
--- landed date.
+-- committed date.
 pub data TakesBack (old : Parties) (event : Event) (new : Parties) : Type 0 where
   in_memory : (event ≡ Restart Requester → ⊥) →
       IsTakenBack (due_date_of old.requester.live) (due_date_of new.requester.live) → TakesBack old event new
-  in_store : IsTakenBack (due_date_of old.requester.landed) (due_date_of new.requester.landed) →
+  in_store : IsTakenBack (due_date_of old.requester.committed) (due_date_of new.requester.committed) →
       TakesBack old event new
 
 -- The outcome is neither Taken nor a Repeat, or the side is in none of the states `among`.

@@ -9,26 +9,26 @@ use Rattle.ill_words.specs.declared.outcome.Outcome.{Outcome}
 use Rattle.ill_words.specs.declared.outcome.Outcome.TheVariants.{Done, Saved, Faulted, Sent, Answered, Refused, Restarted}
 use Rattle.ill_world.specs.World.{Party, Parties, party, sent_message}
 
--- A party has changed in its landed side at most.
-pub record OnlyLands (old new : Party) : Type 0 where
+-- A party has changed in its committed side at most.
+pub record OnlyCommits (old new : Party) : Type 0 where
   pub live : new.live ≡ old.live
   pub released : new.released ≡ old.released
   pub sent : new.sent ≡ old.sent
 
--- Both parties have changed in their landed sides at most.
-abbrev pub OnlyLandedChanges : Parties → Parties → Type 0
-OnlyLandedChanges old new = OnlyLands old.requester new.requester × OnlyLands old.responder new.responder
+-- Both parties have changed in their committed sides at most.
+abbrev pub OnlyCommittedChanges : Parties → Parties → Type 0
+OnlyCommittedChanges old new = OnlyCommits old.requester new.requester × OnlyCommits old.responder new.responder
 
 -- The outcome allows the change from `old` to `new`. Done, Saved, Sent, Restarted and Answered Taken allow any change.
--- After a failed save `Landed` holds of `old` and `new`. Each other outcome allows no change.
+-- After a failed save `Committed` holds of `old` and `new`. Each other outcome allows no change.
 abbrev pub MayChange : {P : Type 0} → (P → P → Type 0) → Outcome → P → P → Type 0
-MayChange Landed Done old new = Unit {0}
-MayChange Landed Saved old new = Unit {0}
-MayChange Landed Sent old new = Unit {0}
-MayChange Landed Restarted old new = Unit {0}
-MayChange Landed (Answered Taken) old new = Unit {0}
-MayChange Landed Faulted old new = Landed old new
-MayChange Landed other old new = new ≡ old
+MayChange Committed Done old new = Unit {0}
+MayChange Committed Saved old new = Unit {0}
+MayChange Committed Sent old new = Unit {0}
+MayChange Committed Restarted old new = Unit {0}
+MayChange Committed (Answered Taken) old new = Unit {0}
+MayChange Committed Faulted old new = Committed old new
+MayChange Committed other old new = new ≡ old
 
 -- Each message that either party had sent is still in its `sent`, under its number.
 abbrev pub KeepsSent : Parties → Parties → Type 0

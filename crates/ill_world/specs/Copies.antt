@@ -1,5 +1,5 @@
--- A copy of a landed record may be put back if it has every message that its party has sent. No event of a script puts
--- a copy back. These definitions are this profile's own.
+-- A copy of a committed record may be put back if it has every message that its party has sent. No event of a script
+-- puts a copy back. These definitions are this profile's own.
 use Rattle.std.specs.Prelude.{◌≡◌, ℕ, List, [], ◌∷◌, ◌++◌, Some}
 use Rattle.ill_values.specs.declared.apdu.Apdu.{Apdu}
 use Rattle.ill_values.specs.declared.apdu.AnswerResult.TheVariants.{Unfilled}
@@ -16,13 +16,13 @@ use Rattle.ill_world.specs.World.{Party, Parties, party, with_party, sent_messag
 use Rattle.ill_world.specs.Desks.{DeskParties, desk_restarts}
 use Rattle.ill_world.specs.BadRounds.{named_loan, request, arrival, first_day}
 
--- Returns `w` after `copy` was put back at `who`. The copy is its landed side, with which it restarts.
+-- Returns `w` after `copy` was put back at `who`. The copy is its committed side, with which it restarts.
 abbrev pub puts_back : Role → Side → Parties → Parties
-puts_back who copy w = with_party w who (restarts (record (party w who) { landed = copy }))
+puts_back who copy w = with_party w who (restarts (record (party w who) { committed = copy }))
 
 -- Returns two desks after `copy` was put back at desk `who`.
 abbrev pub desk_puts_back : Role → SidesOf → DeskParties → DeskParties
-desk_puts_back who copy w = with_party w who (desk_restarts (record (party w who) { landed = copy }))
+desk_puts_back who copy w = with_party w who (desk_restarts (record (party w who) { committed = copy }))
 
 -- The copy has each message that `p` has sent, under its number.
 abbrev pub HasAllSent : Side → Party → Type 0
@@ -42,4 +42,4 @@ since_copy = Deed (deeds.Answer Unfilled) first_day ∷ Save Responder ∷ Send 
 abbrev pub older_copy_back : Parties
 older_copy_back =
     let copied = run_of (first_world named_loan) until_copy in
-    puts_back Responder copied.responder.landed (run_of copied since_copy)
+    puts_back Responder copied.responder.committed (run_of copied since_copy)

@@ -14,14 +14,14 @@ use Rattle.ill_world.specs.declared.event.DeskEvent.TheVariants.{Wish, Deed, Sen
 use Rattle.ill_words.specs.declared.outcome.DeskOutcome.{DeskOutcome}
 use Rattle.ill_words.specs.declared.outcome.DeskOutcome.TheVariants.{Plain, NoSuchTransaction, DeskFull}
 use Rattle.ill_world.specs.World.{Party, Parties, party, sent_message}
-use Rattle.ill_world.specs.Changes.{MayChange, OnlyLandedChanges}
+use Rattle.ill_world.specs.Changes.{MayChange, OnlyCommittedChanges}
 use Rattle.ill_world.specs.Desks.{Sending, DeskParty, DeskParties, txn_sent, sent_for, desks_happen}
 
--- `shown` has the held side of `txn`, its landed side and its sent messages, if the desk has them.
+-- `shown` has the held side of `txn`, its committed side and its sent messages, if the desk has them.
 pub record ProjectsTo (p : DeskParty) (txn : Qualifiers) (shown : Party) : Type 0 where
   pub live : (held : DeskEntry) → found_by txn_held txn p.live.held ≡ Some held →
       (shown.live ≡ held.side) × (shown.released ≡ held.released)
-  pub landed : (side : Side) → side_with txn p.landed.sides ≡ Some side → shown.landed ≡ side
+  pub committed : (side : Side) → side_with txn p.committed.sides ≡ Some side → shown.committed ≡ side
   pub sent : (sending : Sending) → found_by txn_sent txn p.sent ≡ Some sending → shown.sent ≡ sending.sent
 
 -- The outcome is an outcome of the two-party model: neither NoSuchTransaction nor DeskFull.
@@ -58,5 +58,5 @@ ReachesSide w event = IsPlain (desks_happen w event).0
 
 -- The outcome allows the change of the projection. An event that reaches no side changes nothing.
 abbrev pub DeskMayChange : DeskOutcome → Parties → Parties → Type 0
-DeskMayChange (Plain outcome) old new = MayChange OnlyLandedChanges outcome old new
+DeskMayChange (Plain outcome) old new = MayChange OnlyCommittedChanges outcome old new
 DeskMayChange other old new = new ≡ old

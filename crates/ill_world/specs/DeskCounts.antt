@@ -29,25 +29,25 @@ AreApart (txn ∷ txns) = (is_one_of txn txns ≡ false) × AreApart txns
 abbrev pub live_txns : DeskParty → List Qualifiers
 live_txns p = map txn_held p.live.held
 
--- Returns the transactions of the sides of a desk that have landed.
-abbrev pub landed_txns : DeskParty → List Qualifiers
-landed_txns p = map txn_of p.landed.sides
+-- Returns the transactions of the sides of a desk that are committed.
+abbrev pub committed_txns : DeskParty → List Qualifiers
+committed_txns p = map txn_of p.committed.sides
 
 -- No transaction is twice in `txns`, and `txns` are 1,000 at most.
 abbrev pub AreFew : List Qualifiers → Type 0
 AreFew txns = AreApart txns × (length txns ≤ 1000)
 
--- No transaction is twice in `txns`. Each is one of `live`, and one of `landed`.
+-- No transaction is twice in `txns`. Each is one of `live`, and one of `committed`.
 abbrev pub AreKnown : List Qualifiers → List Qualifiers → List Qualifiers → Type 0
-AreKnown live landed txns = AreApart txns × AreAmong txns live × AreAmong txns landed
+AreKnown live committed txns = AreApart txns × AreAmong txns live × AreAmong txns committed
 
--- The requester's desk has 1,000 transactions at most, live and landed. Both lists have each transaction of the
+-- The requester's desk has 1,000 transactions at most, live and committed. Both lists have each transaction of the
 -- responder's two lists. No list has one twice.
 abbrev pub Counts : List Qualifiers → List Qualifiers → List Qualifiers → List Qualifiers → Type 0
-Counts live landed others others_landed =
-    AreFew live × AreFew landed × AreKnown live landed others × AreKnown live landed others_landed
+Counts live committed others others_committed =
+    AreFew live × AreFew committed × AreKnown live committed others × AreKnown live committed others_committed
 
--- `Counts` holds of the live and the landed transactions of two desks.
+-- `Counts` holds of the live and the committed transactions of two desks.
 abbrev pub DesksCount : DeskParties → Type 0
 DesksCount w =
-    Counts (live_txns w.requester) (landed_txns w.requester) (live_txns w.responder) (landed_txns w.responder)
+    Counts (live_txns w.requester) (committed_txns w.requester) (live_txns w.responder) (committed_txns w.responder)

@@ -9,7 +9,7 @@ use Rattle.ill_saved.specs.declared.fault.DeskFault.{DeskFault}
 use Rattle.ill_saved.specs.declared.fault.DeskFault.TheVariants as faults
 use Rattle.ill_record.specs.Sides.{SidesOf}
 use Rattle.ill_store.specs.Store.{MemoryStoreState}
-use Rattle.ill_saved.specs.Holdings.{is_refusal, landed_live}
+use Rattle.ill_saved.specs.Holdings.{is_refusal, committed_live}
 use Rattle.ill_saved.specs.Desk.{DeskOf}
 use Rattle.ill_saved.specs.ManySides.{DeskContents, many_sides, sides_held, whole_of}
 use Rattle.ill_words.specs.declared.outcome.DeskOutcome.{DeskOutcome}
@@ -31,20 +31,20 @@ BecomesAmong txn old (Some changed) back a new = (back ≡ None) × (new ≡ set
 
 -- ---- desks
 
--- Returns the sides that have landed in the store of `desk`.
-abbrev pub landed_at : DeskOf DeskContents MemoryStoreState → SidesOf
-landed_at desk = sides_held (read_or desk.live (landed_live many_sides desk.store.landed desk.live))
+-- Returns the sides that are committed in the store of `desk`.
+abbrev pub committed_at : DeskOf DeskContents MemoryStoreState → SidesOf
+committed_at desk = sides_held (read_or desk.live (committed_live many_sides desk.store.committed desk.live))
 
 -- Returns the desk of the model that `desk` and the messages `sent` from it represent.
 abbrev pub desk_party_of : DeskOf DeskContents MemoryStoreState → List Sending → DeskParty
-desk_party_of desk sent = record { live = desk.live; landed = landed_at desk; sent = sent }
+desk_party_of desk sent = record { live = desk.live; committed = committed_at desk; sent = sent }
 
--- The next call of the store works. The landed sides can be read, and have the desk's role. This holds between two
+-- The next call of the store works. The committed sides can be read, and have the desk's role. This holds between two
 -- events.
 pub record IsReadyDesk (desk : DeskOf DeskContents MemoryStoreState) : Type 0 where
   pub works : desk.store.next ≡ Works
-  pub landed : landed_live many_sides desk.store.landed desk.live ≡ Ok (whole_of (landed_at desk))
-  pub role : (landed_at desk).role ≡ desk.live.role
+  pub committed : committed_live many_sides desk.store.committed desk.live ≡ Ok (whole_of (committed_at desk))
+  pub role : (committed_at desk).role ≡ desk.live.role
 
 -- ---- answers
 

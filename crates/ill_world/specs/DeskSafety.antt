@@ -22,9 +22,9 @@ use Rattle.ill_world.specs.Invariant.{Invariant}
 
 -- ---- the invariant of two desks
 
--- The desk has this role, and so have its landed sides.
+-- The desk has this role, and so have its committed sides.
 abbrev pub IsDeskOf : Role → DeskParty → Type 0
-IsDeskOf role p = (p.live.role ≡ role) × (p.landed.role ≡ role)
+IsDeskOf role p = (p.live.role ≡ role) × (p.committed.role ≡ role)
 
 -- Each desk has its role, and `DesksCount` holds. The projection to each transaction satisfies the invariant.
 pub record DesksInvariant (w : DeskParties) : Type 0 where

@@ -47,7 +47,7 @@ abbrev pub in_txn : Qualifiers → Event → DeskEvent
 in_txn txn (events.Wish wish) = Wish txn wish
 in_txn txn (events.Deed deed today) = Deed txn deed today
 in_txn txn (events.Save who) = Save who
-in_txn txn (events.SaveFault who landed) = SaveFault who landed
+in_txn txn (events.SaveFault who committed) = SaveFault who committed
 in_txn txn (events.Send who n) = Send who txn n
 in_txn txn (events.Deliver who n) = Deliver who txn n
 in_txn txn (events.Noise who bytes) = Noise who bytes

@@ -6,11 +6,11 @@ use Rattle.ill_script.specs.declared.fault.SimFault.{SimFault}
 use Rattle.ill_world.specs.Desks.{DeskParties, first_desks, desks_happen, desks_run}
 use Rattle.ill_world.specs.DeskScript.{EventIn, desk_meaning, says_in}
 use Rattle.ill_world.specs.DeskTrace.{desk_line}
-use Rattle.ill_script.specs.Play.{Play, before_first, Said, end_reading, broken_reading, reading_from, trace_from, Plays}
+use Rattle.ill_script.specs.Replay.{Replay, before_first, Said, end_reading, broken_reading, reading_from, trace_from, Replays}
 
--- The play of two desks has three parts. `says` is the meaning of a line in the transaction in use, `next` the desks
+-- The replay of two desks has three parts. `says` is the meaning of a line in the transaction in use, `next` the desks
 -- after an event. `text` is the event's line of the trace. The transaction in use is carried from line to line.
-abbrev pub two_desks : Play DeskParties EventIn (Option Qualifiers)
+abbrev pub two_desks : Replay DeskParties EventIn (Option Qualifiers)
 two_desks = record {
   says = λ in_use bytes. says_in in_use (desk_meaning bytes);
   next = λ w e. (desks_happen w e.event).1;
@@ -47,5 +47,5 @@ desk_line_after events event =
 abbrev pub SimulatesDesks : Option (List ℕ) → Option (List ℕ) → Option (List ℕ) → Option (List ℕ) →
     Result ℕ SimFault → Type 0
 SimulatesDesks old new before after result =
-    Plays two_desks (before_first None first_desks) (record { left = old; written = before }) result
+    Replays two_desks (before_first None first_desks) (record { left = old; written = before }) result
     (record { left = new; written = after })

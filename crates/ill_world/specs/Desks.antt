@@ -1,5 +1,5 @@
--- The model of two desks is this profile's own. A desk holds sides of many transactions, has landed sides, and has sent
--- messages in each. Of each transaction it shows a party of the two-party model.
+-- The model of two desks is this profile's own. A desk holds sides of many transactions, commits sides, and has
+-- sent messages in each. Of each transaction it shows a party of the two-party model.
 use Rattle.std.specs.Prelude.{◌≡◌, ℕ, nat_le, Bool, true, false, if◌then◌else◌, List, [], ◌∷◌, Option, Some, None, Result, Ok}
 use Rattle.std.specs.Prelude.{Err}
 use Rattle.ill_values.specs.declared.apdu.Apdu.{Apdu}
@@ -37,21 +37,21 @@ pub record Sending : Type 0 where
   pub txn : Qualifiers
   pub sent : List (Option Apdu)
 
--- A desk has its contents in memory, its landed sides, and the messages that it has sent in each transaction.
+-- A desk has its contents in memory, its committed sides, and the messages that it has sent in each transaction.
 pub record DeskParty : Type 0 where
   pub live : DeskContents
-  pub landed : SidesOf
+  pub committed : SidesOf
   pub sent : List Sending
 
 -- A world of desks is two desks, of a requester and of a responder.
 abbrev pub DeskParties : Type 0
 DeskParties = TwoOf DeskParty
 
--- Returns a desk in `role` that holds nothing, and has landed and sent nothing.
+-- Returns a desk in `role` that holds nothing, and is committed and sent nothing.
 abbrev pub first_desk : Role → DeskParty
 first_desk role = record {
   live = record { role = role; held = [] };
-  landed = record { role = role; sides = [] };
+  committed = record { role = role; sides = [] };
   sent = [];
 }
 
@@ -78,7 +78,7 @@ abbrev pub plain : DeskEvent → Event
 plain (Wish txn wish) = events.Wish wish
 plain (Deed txn deed today) = events.Deed deed today
 plain (Save who) = events.Save who
-plain (SaveFault who landed) = events.SaveFault who landed
+plain (SaveFault who committed) = events.SaveFault who committed
 plain (Send who txn n) = events.Send who n
 plain (Deliver who txn n) = events.Deliver who n
 plain (Noise who bytes) = events.Noise who bytes
@@ -96,13 +96,13 @@ abbrev pub desk_decides : DeskParty → Result DeskContents DeskFault → DeskOu
 desk_decides p (Ok new) = (Plain Done, record p { live = new })
 desk_decides p (Err fault) = (fault_seen fault, p)
 
--- A save lands all live sides, and releases all their messages.
+-- A save commits all live sides, and releases all their messages.
 abbrev pub desk_saves : DeskParty → DeskParty
-desk_saves p = record p { live = whole_of (sides_held p.live); landed = sides_held p.live }
+desk_saves p = record p { live = whole_of (sides_held p.live); committed = sides_held p.live }
 
--- A save that fails lands the live sides if the Bool is true. It releases nothing.
+-- A save that fails commits the live sides if the Bool is true. It releases nothing.
 abbrev pub desk_fails_to_save : DeskParty → Bool → DeskParty
-desk_fails_to_save p true = record p { landed = sides_held p.live }
+desk_fails_to_save p true = record p { committed = sides_held p.live }
 desk_fails_to_save p false = p
 
 -- Returns the outcome of a Send of message n of `txn`, and the desk after it. The last argument is the held entry of
@@ -135,16 +135,16 @@ desk_hears (Ok (a, [])) = Forged
 desk_hears (Ok (a, byte ∷ rest)) = Garbled
 desk_hears (Err fault) = Garbled
 
--- A restart replaces the live sides by the landed ones, and releases all their messages.
+-- A restart replaces the live sides by the committed ones, and releases all their messages.
 abbrev pub desk_restarts : DeskParty → DeskParty
-desk_restarts p = record p { live = whole_of p.landed }
+desk_restarts p = record p { live = whole_of p.committed }
 
 -- Returns the outcome of an event, and desk `p` after it. `sent` has the messages of the other desk.
 abbrev pub desk_happens_to : DeskParty → List Sending → DeskEvent → DeskOutcome × DeskParty
 desk_happens_to p sent (Wish txn wish) = desk_decides p (desk_acts p.live txn (actions.Wish wish))
 desk_happens_to p sent (Deed txn deed today) = desk_decides p (desk_acts p.live txn (actions.Deed deed today))
 desk_happens_to p sent (Save who) = (Plain Saved, desk_saves p)
-desk_happens_to p sent (SaveFault who landed) = (Plain Faulted, desk_fails_to_save p landed)
+desk_happens_to p sent (SaveFault who committed) = (Plain Faulted, desk_fails_to_save p committed)
 desk_happens_to p sent (Send who txn n) = desk_sends p txn n (found_by txn_held txn p.live.held)
 desk_happens_to p sent (Deliver who txn n) = desk_receives p (sent_message (sent_for txn sent) n)
 desk_happens_to p sent (Noise who bytes) = (Plain (desk_hears (apdu_at bytes)), p)
@@ -160,11 +160,11 @@ desks_run w events = run_by desks_happen w events
 
 -- ---- one transaction
 
--- Returns the party that desk `p` shows of `txn`. A side that is not held, or has not landed, is idle.
+-- Returns the party that desk `p` shows of `txn`. A side that is not held, or has not committed, is idle.
 abbrev pub party_for : Qualifiers → DeskParty → Party
 party_for txn p = record {
   live = (held_for txn p.live).side;
-  landed = side_for txn p.landed;
+  committed = side_for txn p.committed;
   released = (held_for txn p.live).released;
   sent = sent_for txn p.sent;
 }
@@ -179,7 +179,7 @@ abbrev pub concerns : Qualifiers → DeskEvent → Bool
 concerns txn (Wish named wish) = is_same_txn txn named
 concerns txn (Deed named deed today) = is_same_txn txn named
 concerns txn (Save who) = true
-concerns txn (SaveFault who landed) = true
+concerns txn (SaveFault who committed) = true
 concerns txn (Send who named n) = is_same_txn txn named
 concerns txn (Deliver who named n) = is_same_txn txn named
 concerns txn (Noise who bytes) = false

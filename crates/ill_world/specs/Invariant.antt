@@ -93,26 +93,26 @@ ResponderSideInvariant txn (sides.Responder y) sent = ResponderInvariant txn y s
 
 -- ---- a party, and the messages that it has sent
 
--- Each sent message has landed, and only landed messages are released. The landed list is a prefix of the live one.
--- `p.sent` has a place for each number.
+-- Each sent message is committed, and only committed messages are released. The committed list is a prefix of the live
+-- one. `p.sent` has a place for each number.
 pub record SendsSaved (p : Party) : Type 0 where
-  pub landed : (n : ℕ) (a : Apdu) → sent_message p.sent n ≡ Some a → message (issued_of p.landed) n ≡ Some a
-  pub prefix : IsPrefix (issued_of p.landed) (issued_of p.live)
-  pub released : p.released ≤ length (issued_of p.landed)
+  pub committed : (n : ℕ) (a : Apdu) → sent_message p.sent n ≡ Some a → message (issued_of p.committed) n ≡ Some a
+  pub prefix : IsPrefix (issued_of p.committed) (issued_of p.live)
+  pub released : p.released ≤ length (issued_of p.committed)
   pub places : length p.sent ≡ 255
 
--- A party sends only messages that have landed. `K` holds of its live and its landed side with `partner_sent`, the
+-- A party sends only messages that are committed. `K` holds of its live and its committed side with `partner_sent`, the
 -- messages that the other party has sent.
 pub record PartyInvariant (K : Side → List (Option Apdu) → Type 0) (p : Party) (partner_sent : List (Option Apdu)) : Type 0 where
   pub saved : SendsSaved p
   pub live : K p.live partner_sent
-  pub landed : K p.landed partner_sent
+  pub committed : K p.committed partner_sent
 
 -- ---- a world
 
--- Both parties of `w` satisfy `PartyInvariant` for `txn`. The requester's live due date is not earlier than its landed
--- one.
+-- Both parties of `w` satisfy `PartyInvariant` for `txn`. The requester's live due date is not earlier than its
+-- committed one.
 pub record Invariant (txn : Qualifiers) (w : Parties) : Type 0 where
   pub requester : PartyInvariant (RequesterSideInvariant txn) w.requester w.responder.sent
   pub responder : PartyInvariant (ResponderSideInvariant txn) w.responder w.requester.sent
-  pub due : KeepsDue (due_date_of w.requester.landed) (due_date_of w.requester.live)
+  pub due : KeepsDue (due_date_of w.requester.committed) (due_date_of w.requester.live)

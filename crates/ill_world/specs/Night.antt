@@ -14,7 +14,7 @@ use Rattle.ill_world.specs.declared.event.Event.{Event}
 use Rattle.ill_world.specs.declared.event.Event.TheVariants.{Save}
 use Rattle.ill_world.specs.World.{Parties, run_of}
 use Rattle.ill_world.specs.Agreement.{Facing}
-use Rattle.ill_world.specs.Round.{half_of, faced_in, AreInStep}
+use Rattle.ill_world.specs.Round.{half_of, faced_in, AreConverged}
 use Rattle.ill_words.specs.Sending.{is_over, wants_sending}
 
 -- ---- the sides that send
@@ -52,6 +52,6 @@ pub record AtRest (x : RequesterRecord) (y : ResponderRecord) : Type 0 where
 abbrev pub AreAtRest : Parties → Type 0
 AreAtRest w = Facing AtRest w.requester.live w.responder.live
 
--- The live records of both sides are in step, or at rest.
-abbrev pub AreInStepOrAtRest : Parties → Type 0
-AreInStepOrAtRest w = AreInStep w ⊎ AreAtRest w
+-- The live records of both sides are converged, or at rest.
+abbrev pub AreConvergedOrAtRest : Parties → Type 0
+AreConvergedOrAtRest w = AreConverged w ⊎ AreAtRest w

@@ -11,7 +11,7 @@ use Rattle.ill_record.specs.declared.side.Side.{Side}
 use Rattle.ill_store.specs.declared.store.NextCall.TheVariants.{Works}
 use Rattle.ill_record.specs.Side.{idle_of}
 use Rattle.ill_store.specs.Store.{MemoryStoreState}
-use Rattle.ill_saved.specs.Holdings.{DeskEntry, landed_live, whole}
+use Rattle.ill_saved.specs.Holdings.{DeskEntry, committed_live, whole}
 use Rattle.ill_saved.specs.OneSide.{one_side}
 use Rattle.ill_saved.specs.Desk.{DeskOf}
 use Rattle.ill_world.specs.World.{Party}
@@ -37,24 +37,24 @@ is_of txn (Err fault) = false
 
 -- Returns the value that was read, or `live` if there was a fault. A correct store gives no fault.
 abbrev pub read_or : {V : Type 0} → V → Result V RecordFault → V
-read_or live (Ok landed) = landed
+read_or live (Ok committed) = committed
 read_or live (Err fault) = live
 
--- Returns the side that has landed in the store of `desk`.
-abbrev pub landed_of : DeskOf DeskEntry MemoryStoreState → Side
-landed_of desk = (read_or desk.live (landed_live one_side desk.store.landed desk.live)).side
+-- Returns the side that is committed in the store of `desk`.
+abbrev pub committed_of : DeskOf DeskEntry MemoryStoreState → Side
+committed_of desk = (read_or desk.live (committed_live one_side desk.store.committed desk.live)).side
 
 -- Returns the party of the model that `desk` and the messages `sent` from it represent.
 abbrev pub party_of : DeskOf DeskEntry MemoryStoreState → List (Option Apdu) → Party
 party_of desk sent =
-    record { live = desk.live.side; landed = landed_of desk; released = desk.live.released; sent = sent }
+    record { live = desk.live.side; committed = committed_of desk; released = desk.live.released; sent = sent }
 
--- The next call of the store works. The landed side can be read, and has the role and the transaction of the live one.
--- This holds between two events.
+-- The next call of the store works. The committed side can be read, and has the role and the transaction of the live
+-- one. This holds between two events.
 pub record IsReady (desk : DeskOf DeskEntry MemoryStoreState) : Type 0 where
   pub works : desk.store.next ≡ Works
-  pub landed : landed_live one_side desk.store.landed desk.live ≡ Ok (whole (landed_of desk))
-  pub idle : idle_of (landed_of desk) ≡ idle_of desk.live.side
+  pub committed : committed_live one_side desk.store.committed desk.live ≡ Ok (whole (committed_of desk))
+  pub idle : idle_of (committed_of desk) ≡ idle_of desk.live.side
 
 -- ---- answers
 

@@ -1,6 +1,6 @@
 -- In a round all messages of the requester reach the responder, in order. Then all messages of the responder reach the
--- requester. If the responder can answer a Conditional-Reply no, both records are in step after the round. The round is
--- this profile's own.
+-- requester. If the responder can answer a Conditional-Reply no, both records are converged after the round. The round
+-- is this profile's own.
 use Rattle.std.specs.Prelude.{◌≡◌, ◌⊎◌, ℕ, zero, suc, ◌+◌, ◌<◌, true, false, List, [], ◌∷◌, ◌++◌, length, Result, Ok, Err}
 use Rattle.ill_core.specs.declared.state.State.{State}
 use Rattle.ill_core.specs.declared.state.State.TheVariants as states
@@ -60,25 +60,25 @@ faced_in states.Recall = states.Recall ∷ []
 faced_in states.Returned = states.Returned ∷ states.CheckedIn ∷ []
 faced_in other = []
 
--- The two records are in step. Their states face each other, and no conditions are declined. A responder in SHIPPED or
--- later has the received mark exactly if the requester has issued a Received. The requester has the checked-in mark
+-- The two records are converged. Their states face each other, and no conditions are declined. A responder in SHIPPED
+-- or later has the received mark exactly if the requester has issued a Received. The requester has the checked-in mark
 -- exactly if the responder is in CHECKED-IN. The due dates are equal, unless the item was recalled or returned.
-pub record InStep (x : RequesterRecord) (y : ResponderRecord) : Type 0 where
+pub record HaveConverged (x : RequesterRecord) (y : ResponderRecord) : Type 0 where
   pub faced : is_among (faced_in x.state) y.state ≡ true
   pub undeclined : is_declined x ≡ false
   pub received : is_among later y.state ≡ true → y.received ≡ is_received_by x
   pub checked_in : x.checked_in ≡ is_among (states.CheckedIn ∷ []) y.state
   pub due : is_among (states.Recall ∷ states.Returned ∷ []) x.state ≡ false → x.due ≡ due_of y
 
--- The live records of both sides are in step.
-abbrev pub AreInStep : Parties → Type 0
-AreInStep w = Facing InStep w.requester.live w.responder.live
+-- The live records of both sides are converged.
+abbrev pub AreConverged : Parties → Type 0
+AreConverged w = Facing HaveConverged w.requester.live w.responder.live
 
 -- The responder can answer a Conditional-Reply no: it has ended the request, or has a number left.
 abbrev pub CanAnswer : Side → Type 0
 CanAnswer side = (has_message_with is_end (issued_of side) ≡ true) ⊎ (length (issued_of side) < 255)
 
--- ---- two records that are not in step
+-- ---- two records that are not converged
 
 -- Returns the states of a requester that a responder in this state may face.
 abbrev pub facing_in : State → List State
@@ -97,18 +97,19 @@ facing_in states.Returned = states.Returned ∷ []
 facing_in states.CheckedIn = states.Returned ∷ []
 facing_in other = []
 
--- The two records are not in step. Each case gives one reason.
-pub data OutOfStep (x : RequesterRecord) (y : ResponderRecord) : Type 0 where
+-- The two records are not converged. Each case gives one reason.
+pub data HaveDiverged (x : RequesterRecord) (y : ResponderRecord) : Type 0 where
   -- The two states do not face each other.
-  unfaced : is_among (facing_in y.state) x.state ≡ false → OutOfStep x y
+  unfaced : is_among (facing_in y.state) x.state ≡ false → HaveDiverged x y
   -- The conditions were declined, and the requester is still in CONDITIONAL.
-  declined : x.state ≡ states.Conditional → has_message_with declines x.issued ≡ true → OutOfStep x y
+  declined : x.state ≡ states.Conditional → has_message_with declines x.issued ≡ true → HaveDiverged x y
   -- The item was received, and the responder lacks the mark. Or it was not, and the responder has the mark.
-  unmarked : is_among later y.state ≡ true → has_message_with is_received x.issued ≡ true → y.received ≡ false → OutOfStep x y
-  unreceived : is_among later y.state ≡ true → has_message_with is_received x.issued ≡ false → y.received ≡ true → OutOfStep x y
+  unmarked : is_among later y.state ≡ true → has_message_with is_received x.issued ≡ true → y.received ≡ false → HaveDiverged x y
+  unreceived : is_among later y.state ≡ true → has_message_with is_received x.issued ≡ false → y.received ≡ true
+      → HaveDiverged x y
   -- The item was checked in, and the requester lacks the mark. Or it was not, and the requester has the mark.
-  not_yet_checked_in : y.state ≡ states.CheckedIn → x.checked_in ≡ false → OutOfStep x y
-  checked_in_early : (y.state ≡ states.CheckedIn → ⊥) → x.checked_in ≡ true → OutOfStep x y
+  not_yet_checked_in : y.state ≡ states.CheckedIn → x.checked_in ≡ false → HaveDiverged x y
+  checked_in_early : (y.state ≡ states.CheckedIn → ⊥) → x.checked_in ≡ true → HaveDiverged x y
   -- The due dates differ, and the item was neither recalled nor returned.
   due_apart : is_among (states.Recall ∷ states.Returned ∷ []) x.state ≡ false → (x.due ≡ due_of y → ⊥) →
-      OutOfStep x y
+      HaveDiverged x y

@@ -37,12 +37,12 @@ WasGranted requester responder =
 
 -- ---- worlds
 
--- `P` holds of the requester's live and landed side, each with the responder's live and landed side.
+-- `P` holds of the requester's live and committed side, each with the responder's live and committed side.
 pub record OfBoth (P : Side → Side → Type 0) (w : Parties) : Type 0 where
   pub live : P w.requester.live w.responder.live
-  pub live_landed : P w.requester.live w.responder.landed
-  pub landed_live : P w.requester.landed w.responder.live
-  pub landed : P w.requester.landed w.responder.landed
+  pub live_committed : P w.requester.live w.responder.committed
+  pub committed_live : P w.requester.committed w.responder.live
+  pub committed : P w.requester.committed w.responder.committed
 
 -- A world is safe: `EndsAlike`, `WasShipped` and `WasGranted` hold of all four pairs of sides.
 pub record Safe (w : Parties) : Type 0 where

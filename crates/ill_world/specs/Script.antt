@@ -7,7 +7,7 @@ use Rattle.ill_world.specs.declared.event.Event.{Event}
 use Rattle.ill_world.specs.declared.event.Event.TheVariants.{Wish, Deed, Save, SaveFault, Send, Deliver, Noise, Restart}
 use Rattle.ill_script.specs.declared.script_line.ScriptLine.{ScriptLine}
 use Rattle.ill_script.specs.declared.script_line.ScriptLine.TheVariants as lines
-use Rattle.ill_words.specs.Words.{◌>>=◌, named, who_named, landed_named, day_of, number_of, bytes_of, wish_of, deed_of}
+use Rattle.ill_words.specs.Words.{◌>>=◌, named, who_named, committed_named, day_of, number_of, bytes_of, wish_of, deed_of}
 
 -- Returns the words of a line: its nonempty parts between spaces.
 unfoldable pub words_of : List ℕ → List (List ℕ)
@@ -28,7 +28,7 @@ bare_event verb who = named ((codes "save", Save who) ∷ (codes "restart", Rest
 -- Returns the event of a verb, the side `who` and one more word, if they say one.
 abbrev pub event_with : List ℕ → List ℕ → Role → Option Event
 event_with verb word who =
-    if bytes_eq verb (codes "save-fault") then option_map (SaveFault who) (landed_named word)
+    if bytes_eq verb (codes "save-fault") then option_map (SaveFault who) (committed_named word)
     else if bytes_eq verb (codes "send") then option_map (Send who) (number_of word)
     else if bytes_eq verb (codes "deliver") then option_map (Deliver who) (number_of word)
     else if bytes_eq verb (codes "noise") then option_map (Noise who) (bytes_of word)

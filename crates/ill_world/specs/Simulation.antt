@@ -6,11 +6,11 @@ use Rattle.ill_script.specs.declared.fault.SimFault.{SimFault}
 use Rattle.ill_world.specs.World.{Parties, first_world, happens, run_of}
 use Rattle.ill_world.specs.Script.{meaning}
 use Rattle.ill_world.specs.Trace.{line}
-use Rattle.ill_script.specs.Play.{Play, before_first, Said, end_reading, broken_reading, reading_from, trace_from, Plays}
+use Rattle.ill_script.specs.Replay.{Replay, before_first, Said, end_reading, broken_reading, reading_from, trace_from, Replays}
 
--- The play of two sides has three parts. `says` is the meaning of a line, `next` the world after an event. `text` is
+-- The replay of two sides has three parts. `says` is the meaning of a line, `next` the world after an event. `text` is
 -- the event's line of the trace. No value is carried from line to line.
-abbrev pub two_sides : Play Parties Event (Unit {0})
+abbrev pub two_sides : Replay Parties Event (Unit {0})
 two_sides = record {
   says = λ none bytes. (meaning bytes, none);
   next = λ w event. (happens w event).1;
@@ -40,5 +40,5 @@ line_after txn events event =
 abbrev pub Simulates : Qualifiers → Option (List ℕ) → Option (List ℕ) → Option (List ℕ) →
     Option (List ℕ) → Result ℕ SimFault → Type 0
 Simulates txn old new before after result =
-    Plays two_sides (before_first tt (first_world txn)) (record { left = old; written = before }) result
+    Replays two_sides (before_first tt (first_world txn)) (record { left = old; written = before }) result
     (record { left = new; written = after })

@@ -1,5 +1,5 @@
--- The two-party model has two sides, the landed record of each, and the messages that each has sent. The model knows no
--- bytes but the bytes of noise, and no stores. It is this profile's own.
+-- The two-party model has two sides, the committed record of each, and the messages that each has sent. The model knows
+-- no bytes but the bytes of noise, and no stores. It is this profile's own.
 use Rattle.std.specs.Prelude.{ℕ, zero, suc, Bool, true, false, nat_le, List, [], ◌∷◌, length, replicate, slice_get, Option, Some}
 use Rattle.std.specs.Prelude.{None, Result, Ok, Err, if◌then◌else◌}
 use Rattle.std.specs.List.{slice_set}
@@ -25,11 +25,11 @@ use Rattle.ill_words.specs.declared.outcome.Outcome.TheVariants.{NotSaved, NotSe
 
 -- ---- the world
 
--- A party has its side in memory (`live`), its landed side, and the count of its released messages. The landed side is
--- idle if nothing has landed. `sent` has message n at place n - 1, or `None` if it was not sent.
+-- A party has its side in memory (`live`), its committed side, and the count of its released messages. The committed
+-- side is idle if nothing is committed. `sent` has message n at place n - 1, or `None` if it was not sent.
 pub record Party : Type 0 where
   pub live : Side
-  pub landed : Side
+  pub committed : Side
   pub released : ℕ
   pub sent : List (Option Apdu)
 
@@ -46,9 +46,9 @@ Parties = TwoOf Party
 abbrev pub nothing_sent : List (Option Apdu)
 nothing_sent = replicate 255 None
 
--- Returns a party with `idle` as its live and landed side, which has released and sent nothing.
+-- Returns a party with `idle` as its live and committed side, which has released and sent nothing.
 abbrev pub first_party : Side → Party
-first_party idle = record { live = idle; landed = idle; released = 0; sent = nothing_sent }
+first_party idle = record { live = idle; committed = idle; released = 0; sent = nothing_sent }
 
 -- Returns the first world of `txn`. Both parties are idle, and have released and sent nothing.
 abbrev pub first_world : Qualifiers → Parties
@@ -85,13 +85,13 @@ abbrev pub decides : Party → Result Side Refusal → Outcome × Party
 decides p (Ok new) = (Done, record p { live = new })
 decides p (Err refusal) = (Refused refusal, p)
 
--- A save lands the live side, and releases all its messages.
+-- A save commits the live side, and releases all its messages.
 abbrev pub saves : Party → Party
-saves p = record p { landed = p.live; released = length (issued_of p.live) }
+saves p = record p { committed = p.live; released = length (issued_of p.live) }
 
--- A save that fails lands the live side if the Bool is true. It releases nothing.
+-- A save that fails commits the live side if the Bool is true. It releases nothing.
 abbrev pub fails_to_save : Party → Bool → Party
-fails_to_save p true = record p { landed = p.live }
+fails_to_save p true = record p { committed = p.live }
 fails_to_save p false = p
 
 -- Returns the outcome of a Send at party `p`, and the party after it. The third argument is the issued message, if
@@ -129,16 +129,16 @@ hears p (Ok (a, [])) = if is_same_txn a.txn (txn_of p.live) then Forged else Ref
 hears p (Ok (a, byte ∷ rest)) = Garbled
 hears p (Err fault) = Garbled
 
--- A restart replaces the live side by the landed one, and releases all its messages.
+-- A restart replaces the live side by the committed one, and releases all its messages.
 abbrev pub restarts : Party → Party
-restarts p = record p { live = p.landed; released = length (issued_of p.landed) }
+restarts p = record p { live = p.committed; released = length (issued_of p.committed) }
 
 -- Returns the outcome of an event, and party `p` after it. `sent` has the messages of the other party.
 abbrev pub happens_to : Party → List (Option Apdu) → Event → Outcome × Party
 happens_to p sent (Wish wish) = decides p (acts p.live (actions.Wish wish))
 happens_to p sent (Deed deed today) = decides p (acts p.live (actions.Deed deed today))
 happens_to p sent (Save who) = (Saved, saves p)
-happens_to p sent (SaveFault who landed) = (Faulted, fails_to_save p landed)
+happens_to p sent (SaveFault who committed) = (Faulted, fails_to_save p committed)
 happens_to p sent (Send who n) = sends p n (message (issued_of p.live) n) (nat_le n p.released)
 happens_to p sent (Deliver who n) = receives p (sent_message sent n)
 happens_to p sent (Noise who bytes) = (hears p (apdu_at bytes), p)
@@ -149,7 +149,7 @@ abbrev pub who_of : Event → Role
 who_of (Wish wish) = Requester
 who_of (Deed deed today) = Responder
 who_of (Save who) = who
-who_of (SaveFault who landed) = who
+who_of (SaveFault who committed) = who
 who_of (Send who n) = who
 who_of (Deliver who n) = who
 who_of (Noise who bytes) = who

@@ -33,15 +33,15 @@ ghost use Rattle.ill_script.specs.BadTraces.{Leaves, IsOfNoPrefix, Misreports};
 ghost use Rattle.ill_world.specs.Changes.{KeepsSent};
 ghost use Rattle.ill_world.specs.Copies.{puts_back, desk_puts_back, HasAllSent};
 ghost use Rattle.ill_world.specs.DeskChanges.{DeskMayChange, ReachesSide, ProjectsTo};
-ghost use Rattle.ill_world.specs.Round.{round_of, CanAnswer, AreInStep};
+ghost use Rattle.ill_world.specs.Round.{round_of, CanAnswer, AreConverged};
 ghost use Rattle.ill_world.specs.DeskRound.{desk_round_of};
-ghost use Rattle.ill_world.specs.Night.{night_of, AreInStepOrAtRest};
+ghost use Rattle.ill_world.specs.Night.{night_of, AreConvergedOrAtRest};
 ghost use Rattle.ill_world.specs.DeskNight.{desk_night_of};
 ghost use Rattle.ill_world.specs.DeskSafety.{ArrivesAt, DesksInvariant, IsRunOfEach, IsSafeDeskRun, IsAgreeingDeskRun};
 
 use crate::laws;
 
-/// The projection of two desks to a transaction has all that they hold, have landed and have sent in it.
+/// The projection of two desks to a transaction has all that they hold, are committed and have sent in it.
 pub fn desks_show_what_they_hold()
     ensures { (txn : Qualifiers) (w : DeskParties) → ProjectsTo w.requester txn (project txn w).requester
         × ProjectsTo w.responder txn (project txn w).responder }
@@ -122,7 +122,7 @@ pub fn one_arrival_at_a_desk_is_enough()
 }
 
 /// If two desks satisfy `DesksInvariant`, few outcomes change the projection to a transaction. They are `Done`,
-/// `Saved`, `Sent`, `Restarted`, `Answered(Taken)` and `Faulted`. `Faulted` changes only the landed side.
+/// `Saved`, `Sent`, `Restarted`, `Answered(Taken)` and `Faulted`. `Faulted` changes only the committed side.
 pub fn few_desk_outcomes_change()
     ensures { (txn : Qualifiers) (w : DeskParties) (event : DeskEvent) → DesksInvariant w →
         let after = desks_happen w event in
@@ -160,9 +160,9 @@ pub fn transactions_have_their_events()
     ensures order { (txn : Qualifiers) (w : DeskParties) (before after : List DeskEvent) →
         events_for txn w (before ++ after)
         ≡ events_for txn w before ++ events_for txn (desks_run w before) after }
-    ensures whole { (txn : Qualifiers) (w : DeskParties) (who : Role) (landed : Bool) →
-        events_for txn w (Save who ∷ SaveFault who landed ∷ Restart who ∷ [])
-        ≡ events.Save who ∷ events.SaveFault who landed ∷ events.Restart who ∷ [] }
+    ensures whole { (txn : Qualifiers) (w : DeskParties) (who : Role) (committed : Bool) →
+        events_for txn w (Save who ∷ SaveFault who committed ∷ Restart who ∷ [])
+        ≡ events.Save who ∷ events.SaveFault who committed ∷ events.Restart who ∷ [] }
     ensures named { (txn : Qualifiers) (w : DeskParties) (event : DeskEvent) (outcome : Outcome) →
         Names txn event → (desks_happen w event).0 ≡ Plain outcome →
         events_for txn w (event ∷ []) ≡ plain event ∷ [] }
@@ -174,9 +174,9 @@ pub fn transactions_have_their_events()
         events_for txn w (Noise who bytes ∷ []) ≡ [] }
 {}
 
-/// No event of two desks misses a transaction that its desk holds, or one that it begins. None changes a transaction that
-/// it does not reach, or changes one too much. If `ArrivesAt` holds of it, neither an end of a request nor a Returned
-/// arrives in vain.
+/// No event of two desks misses a transaction that its desk holds, or one that it begins. None changes a transaction
+/// that it does not reach, or changes one too much. If `ArrivesAt` holds of it, neither an end of a request nor a
+/// Returned arrives in vain.
 pub fn no_bad_desk_event_passes()
     ensures reaches { (w : DeskParties) (event : DeskEvent) → MissesHeld w event → ReachesSide w event → ⊥ }
     ensures begins { (w : DeskParties) (event : DeskEvent) → MissesNew w event → ReachesSide w event → ⊥ }
@@ -189,13 +189,13 @@ pub fn no_bad_desk_event_passes()
 {}
 
 /// Two desks show a copy that is put back as a copy in each transaction. If two desks satisfy `DesksInvariant`, a copy
-/// of what has landed may be put back later. Then each transaction is safe in which the copy has every message that was
-/// sent.
+/// of what is committed may be put back later. Then each transaction is safe in which the copy has every message that
+/// was sent.
 pub fn a_copy_of_a_desk_may_be_put_back()
     ensures each { (txn : Qualifiers) (w : DeskParties) (who : Role) (copy : SidesOf) →
         project txn (desk_puts_back who copy w) ≡ puts_back who (side_for txn copy) (project txn w) }
     ensures safe { (txn : Qualifiers) (w : DeskParties) (more : List DeskEvent) (who : Role) → DesksInvariant w →
-        let copy = (party w who).landed in let now = desks_run w more in
+        let copy = (party w who).committed in let now = desks_run w more in
         HasAllSent (side_for txn copy) (party (project txn now) who) →
         Safe (project txn (desk_puts_back who copy now)) }
 {
@@ -207,8 +207,8 @@ pub fn a_copy_of_a_desk_may_be_put_back()
     laws::was_granted();
 }
 
-/// A party to which a desk projects hides nothing that the desk holds, has landed or has sent. If `Projects` holds, an
-/// event of a transaction is seen in it with its outcome and its world. Any other event changes nothing in it.
+/// A party to which a desk projects hides nothing that the desk holds, is committed or has sent. If `Projects` holds,
+/// an event of a transaction is seen in it with its outcome and its world. Any other event changes nothing in it.
 #[tactic(auto, using(crate::proofs::BadDesks::none_hidden, crate::proofs::BadDesks::none_misseen))]
 pub fn no_bad_projection_passes()
     ensures shows { (p : DeskParty) (txn : Qualifiers) (shown : Party) →
@@ -246,16 +246,16 @@ pub fn deliveries_find_room()
     desks_reach_what_they_hold();
 }
 
-/// A round of two desks is a round of both sides in each transaction. After it both sides are in step, if the responder
-/// can answer a Conditional-Reply no. This holds if the desks satisfy `DesksInvariant`, and so after any events of a
-/// run.
+/// A round of two desks is a round of both sides in each transaction. After it both sides are converged, if the
+/// responder can answer a Conditional-Reply no. This holds if the desks satisfy `DesksInvariant`, and so after any
+/// events of a run.
 pub fn one_desk_round_is_enough()
     ensures each { (txn : Qualifiers) (w : DeskParties) → DesksInvariant w →
         project txn (desks_run w (desk_round_of w)) ≡ run_of (project txn w) (round_of (project txn w)) }
-    ensures in_step { (txn : Qualifiers) (w : DeskParties) → DesksInvariant w →
-        CanAnswer (project txn w).responder.live → AreInStep (project txn (desks_run w (desk_round_of w))) }
+    ensures converged { (txn : Qualifiers) (w : DeskParties) → DesksInvariant w →
+        CanAnswer (project txn w).responder.live → AreConverged (project txn (desks_run w (desk_round_of w))) }
     ensures run { (txn : Qualifiers) (events : List DeskEvent) → let w = desks_run first_desks events in
-        CanAnswer (project txn w).responder.live → AreInStep (project txn (desks_run w (desk_round_of w))) }
+        CanAnswer (project txn w).responder.live → AreConverged (project txn (desks_run w (desk_round_of w))) }
 {
     desks_stand();
     desk_events_are_events();
@@ -263,16 +263,16 @@ pub fn one_desk_round_is_enough()
     laws::one_round_is_enough();
 }
 
-/// A night of two desks is a night of both sides in each transaction. After it both sides are in step or at rest, if
+/// A night of two desks is a night of both sides in each transaction. After it both sides are converged or at rest, if
 /// the responder can answer a Conditional-Reply no. This holds if the desks satisfy `DesksInvariant`, and so after any
 /// events of a run.
 pub fn one_desk_night_is_enough()
     ensures each { (txn : Qualifiers) (w : DeskParties) → DesksInvariant w →
         project txn (desks_run w (desk_night_of w)) ≡ run_of (project txn w) (night_of (project txn w)) }
-    ensures in_step { (txn : Qualifiers) (w : DeskParties) → DesksInvariant w →
-        CanAnswer (project txn w).responder.live → AreInStepOrAtRest (project txn (desks_run w (desk_night_of w))) }
+    ensures converged { (txn : Qualifiers) (w : DeskParties) → DesksInvariant w →
+        CanAnswer (project txn w).responder.live → AreConvergedOrAtRest (project txn (desks_run w (desk_night_of w))) }
     ensures run { (txn : Qualifiers) (events : List DeskEvent) → let w = desks_run first_desks events in
-        CanAnswer (project txn w).responder.live → AreInStepOrAtRest (project txn (desks_run w (desk_night_of w))) }
+        CanAnswer (project txn w).responder.live → AreConvergedOrAtRest (project txn (desks_run w (desk_night_of w))) }
 {
     desks_stand();
     desk_events_are_events();

@@ -28,7 +28,7 @@ pub struct DeskParty {
     sent: DeskSent,
 }
 
-/// Contracts see a desk party as a desk of the model. Its next save works, and its landed sides can be read.
+/// Contracts see a desk party as a desk of the model. Its next save works, and its committed sides can be read.
 impl Model for DeskParty {
     ghost Value = { desks.DeskParty };
 
@@ -38,7 +38,7 @@ impl Model for DeskParty {
 }
 
 impl DeskParty {
-    /// Returns a desk of this role that holds nothing. Nothing has landed, and nothing was sent.
+    /// Returns a desk of this role that holds nothing. Nothing is committed, and nothing was sent.
     pub fn new(alloc: Global, role: Role) -> Result<DeskParty, OutOfMemory>
         ensures { IfOk result (λ party. party ≡ desks.first_desk role) }
     {
@@ -91,13 +91,17 @@ impl DeskParty {
         }
     }
 
-    /// Tries to save the desk, and fails. The new record has landed if `landed` is true.
-    pub fn fail_to_save(&mut self, alloc: Global, landed: bool) -> Result<DeskOutcome, OutOfMemory>
-        ensures { GivesOutcome (desk_outcomes.Plain outcomes.Faulted, desks.desk_fails_to_save self.old landed)
+    /// Tries to save the desk, and fails. The new record is committed if `committed` is true.
+    pub fn fail_to_save(
+        &mut self,
+        alloc: Global,
+        committed: bool,
+    ) -> Result<DeskOutcome, OutOfMemory>
+        ensures { GivesOutcome (desk_outcomes.Plain outcomes.Faulted, desks.desk_fails_to_save self.old committed)
             self.old result self.new }
     {
         ill_saved::laws::sides_read_again();
-        self.desk.set_next(if landed {
+        self.desk.set_next(if committed {
             NextCall::FailsNew
         } else {
             NextCall::FailsOld
@@ -113,7 +117,7 @@ impl DeskParty {
         }
     }
 
-    /// Replaces the sides in memory by those that have landed.
+    /// Replaces the sides in memory by those that are committed.
     pub fn restart(&mut self, alloc: Global) -> Result<DeskOutcome, OutOfMemory>
         ensures { GivesOutcome (desk_outcomes.Plain outcomes.Restarted, desks.desk_restarts self.old)
             self.old result self.new }

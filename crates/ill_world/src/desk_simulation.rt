@@ -52,7 +52,7 @@ impl Performer for DeskWorld {
 
     ghost Event = { EventIn };
 
-    ghost play = { two_desks };
+    ghost replay = { two_desks };
 
     /// Performs a line. An event happens in the transaction `in_use`, and a line `use` puts another in use. If none is
     /// in use, an event is a bad line.

@@ -10,7 +10,7 @@ ghost use Rattle.ill_world.specs.Agreement.{KeepsDates};
 ghost use Rattle.ill_world.specs.DeskSafety.{DesksInvariant, ArrivesAt, IsRunOfEach, IsSafeDeskRun, IsAgreeingDeskRun};
 ghost use Rattle.ill_world.specs.PartyRefinement.{GivesOutcome};
 ghost use Rattle.ill_world.specs.DeskTrace.{desk_line};
-ghost use Rattle.ill_world.specs.Round.{Performs, CanAnswer, AreInStep};
+ghost use Rattle.ill_world.specs.Round.{Performs, CanAnswer, AreConverged};
 ghost use Rattle.ill_world.specs.DeskRound.{passes_side, saves_and_passes, desk_half_of, desk_round_of};
 
 use crate::desk_laws;
@@ -41,7 +41,7 @@ impl Model for DeskWorld {
 }
 
 impl DeskWorld {
-    /// Returns two desks that hold nothing. Nothing has landed, and nothing was sent.
+    /// Returns two desks that hold nothing. Nothing is committed, and nothing was sent.
     pub fn new(alloc: Global) -> Result<DeskWorld, OutOfMemory>
         ensures { IfOk result (λ world. world ≡ model.first_desks) }
     {
@@ -76,11 +76,11 @@ impl DeskWorld {
     /// Then it does all this for the responder's desk. If memory runs out, only a prefix of the events of the round has
     /// happened.
     ///
-    /// Both sides of a transaction are then in step, if its responder had ended the request or had numbers left.
+    /// Both sides of a transaction are then converged, if its responder had ended the request or had numbers left.
     pub fn exchange(&mut self, alloc: Global) -> Result<(), OutOfMemory>
         ensures performs { Performs model.desks_run (desk_round_of self.old) self.old result self.new }
-        ensures in_step { OnOk result ((txn : Qualifiers) →
-            CanAnswer (project txn self.old).responder.live → AreInStep (project txn self.new)) }
+        ensures converged { OnOk result ((txn : Qualifiers) →
+            CanAnswer (project txn self.old).responder.live → AreConverged (project txn self.new)) }
     {
         let _ = &self.requester; // makes the invariant of these desks known
         desk_laws::one_desk_round_is_enough();

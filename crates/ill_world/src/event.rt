@@ -24,7 +24,7 @@ pub enum Event {
     SaveFault {
         /// The side whose save fails.
         who: Role,
-        /// True if the new record has landed nevertheless.
+        /// True if the new record is committed nevertheless.
         landed: bool,
     },
     /// The side sends its message with this number.
@@ -33,7 +33,7 @@ pub enum Event {
     Deliver(Role, Number),
     /// This side gets bytes that the other side has not sent.
     Noise(Role, Bytes),
-    /// The side in memory is replaced by the one that has landed.
+    /// The side in memory is replaced by the one that is committed.
     Restart(Role),
 }
 
@@ -85,7 +85,7 @@ pub enum DeskEvent {
     SaveFault {
         /// The desk whose save fails.
         who: Role,
-        /// True if the new record has landed nevertheless.
+        /// True if the new record is committed nevertheless.
         landed: bool,
     },
     /// The desk sends its message with this number, in this transaction.
@@ -94,7 +94,7 @@ pub enum DeskEvent {
     Deliver(Role, TxnId, Number),
     /// This desk gets bytes that the other desk has not sent.
     Noise(Role, Bytes),
-    /// The sides in memory are replaced by those that have landed.
+    /// The sides in memory are replaced by those that are committed.
     Restart(Role),
 }
 

@@ -37,10 +37,10 @@ ghost use Rattle.ill_script.specs.BadTraces.{Leaves, IsOfNoPrefix, Misreports};
 ghost use Rattle.ill_world.specs.BadRounds.{IsAmiss, cut_round, last_unheard, late_round, two_unheard};
 ghost use Rattle.ill_world.specs.BadChanges.{ChangesTooMuch, LosesSent, IsUnseen};
 ghost use Rattle.ill_world.specs.Copies.{puts_back, HasAllSent, older_copy_back};
-ghost use Rattle.ill_world.specs.Changes.{MayChange, OnlyLandedChanges, KeepsSent, can_be_seen};
-ghost use Rattle.ill_world.specs.Round.{round_of, Performs, CanAnswer, AreInStep, InStep, OutOfStep};
+ghost use Rattle.ill_world.specs.Changes.{MayChange, OnlyCommittedChanges, KeepsSent, can_be_seen};
+ghost use Rattle.ill_world.specs.Round.{round_of, Performs, CanAnswer, AreConverged, HaveConverged, HaveDiverged};
 ghost use Rattle.ill_words.specs.Sending.{is_over, wants_sending};
-ghost use Rattle.ill_world.specs.Night.{asks, night_of, AreAtRest, AreInStepOrAtRest, AtRest};
+ghost use Rattle.ill_world.specs.Night.{asks, night_of, AreAtRest, AreConvergedOrAtRest, AtRest};
 ghost use Rattle.ill_words.specs.BadSending.{MisjudgesEnd, MisjudgesSending};
 ghost use Rattle.ill_world.specs.BadNights.{MisjudgesAsking, Restless};
 ghost use Rattle.ill_world.specs.Invariant.{WasSent, RequesterInvariant, ResponderInvariant, Invariant};
@@ -162,14 +162,14 @@ pub fn one_arrival_is_enough()
     ill_core::laws::responder_follows();
 }
 
-/// After a round both sides are in step, if the responder can answer a Conditional-Reply no. This holds if the world
+/// After a round both sides are converged, if the responder can answer a Conditional-Reply no. This holds if the world
 /// satisfies the invariant, and so after any events of a run.
 pub fn one_round_is_enough()
     ensures stands { (txn : Qualifiers) (w : Parties) → Invariant txn w → CanAnswer w.responder.live →
-        AreInStep (run_of w (round_of w)) }
+        AreConverged (run_of w (round_of w)) }
     ensures run { (txn : Qualifiers) (events : List Event) →
         CanAnswer (run_of (first_world txn) events).responder.live →
-        AreInStep (run_of (run_of (first_world txn) events) (round_of (run_of (first_world txn) events))) }
+        AreConverged (run_of (run_of (first_world txn) events) (round_of (run_of (first_world txn) events))) }
 {
     world_stands();
     ill_core::laws::requester_keeps_txn();
@@ -182,40 +182,41 @@ pub fn one_round_is_enough()
     ill_core::laws::responder_has_heard();
 }
 
-/// A round without the last message of a side does not always bring both sides in step. For either side a run leads to
-/// a world in which such a round leaves the sides out of step. A whole round brings both sides of this world in step.
-#[tactic(auto, using(crate::proofs::BadRounds::cut_leaves_apart, crate::proofs::BadRounds::whole_brings_in_step))]
+/// A round without the last message of a side does not always bring both sides to convergence. For either side a run
+/// leads to a world in which such a round leaves the sides diverged. A whole round brings both sides of this world to
+/// convergence.
+#[tactic(auto, using(crate::proofs::BadRounds::cut_leaves_apart, crate::proofs::BadRounds::whole_converges))]
 pub fn no_round_may_be_cut_short()
     ensures cut { (who : Role) →
-        AreInStep (run_of (last_unheard who) (cut_round who (last_unheard who))) → ⊥ }
+        AreConverged (run_of (last_unheard who) (cut_round who (last_unheard who))) → ⊥ }
     ensures whole { (who : Role) →
-        AreInStep (run_of (last_unheard who) (round_of (last_unheard who))) }
+        AreConverged (run_of (last_unheard who) (round_of (last_unheard who))) }
 {}
 
-/// A round without the first message of a side does not always bring both sides in step. Later messages do arrive. For
-/// either side a run leads to a world in which such a round leaves the sides out of step. A whole round brings both
-/// sides of this world in step.
-#[tactic(auto, using(crate::proofs::BadRounds::late_leaves_apart, crate::proofs::BadRounds::whole_brings_both_in_step))]
+/// A round without the first message of a side does not always bring both sides to convergence. Later messages do
+/// arrive. For either side a run leads to a world in which such a round leaves the sides diverged. A whole round brings
+/// both sides of this world to convergence.
+#[tactic(auto, using(crate::proofs::BadRounds::late_leaves_apart, crate::proofs::BadRounds::whole_converges_both))]
 pub fn no_round_may_begin_late()
     ensures late { (who : Role) →
-        AreInStep (run_of (two_unheard who) (late_round who (two_unheard who))) → ⊥ }
+        AreConverged (run_of (two_unheard who) (late_round who (two_unheard who))) → ⊥ }
     ensures whole { (who : Role) →
-        AreInStep (run_of (two_unheard who) (round_of (two_unheard who))) }
+        AreConverged (run_of (two_unheard who) (round_of (two_unheard who))) }
 {}
 
-/// Two records of which `OutOfStep` holds are not in step. Their states do not face each other, or the requester has
-/// declined conditions. Or a mark of receipt or check-in is wrong, or the due dates differ.
-pub fn no_pair_out_of_step_is_in_step()
-    ensures { (x : RequesterRecord) (y : ResponderRecord) → OutOfStep x y → InStep x y → ⊥ }
+/// Two records of which `HaveDiverged` holds are not converged. Their states do not face each other, or the requester
+/// has declined conditions. Or a mark of receipt or check-in is wrong, or the due dates differ.
+pub fn no_diverged_pair_is_converged()
+    ensures { (x : RequesterRecord) (y : ResponderRecord) → HaveDiverged x y → HaveConverged x y → ⊥ }
 {}
 
-/// Sides whose records are out of step are not in step. Sides whose records are restless are not at rest. If the records
-/// are both, the sides are neither in step nor at rest. Nor are they if one has the role of the other.
-#[tactic(auto, using(crate::proofs::BadRounds::none_out_of_step, crate::proofs::BadRounds::none_restless, crate::proofs::BadRounds::none_of_both))]
-pub fn no_world_amiss_is_in_step_or_at_rest()
-    ensures step { (w : Parties) → IsAmiss OutOfStep w → AreInStep w → ⊥ }
+/// Sides whose records are diverged are not converged. Sides whose records are restless are not at rest. If the records
+/// are both, the sides are neither converged nor at rest. Nor are they if one has the role of the other.
+#[tactic(auto, using(crate::proofs::BadRounds::none_diverged, crate::proofs::BadRounds::none_restless, crate::proofs::BadRounds::none_of_both))]
+pub fn no_world_amiss_is_converged_or_at_rest()
+    ensures step { (w : Parties) → IsAmiss HaveDiverged w → AreConverged w → ⊥ }
     ensures rest { (w : Parties) → IsAmiss Restless w → AreAtRest w → ⊥ }
-    ensures neither { (w : Parties) → IsAmiss OutOfStep w → IsAmiss Restless w → AreInStepOrAtRest w → ⊥ }
+    ensures neither { (w : Parties) → IsAmiss HaveDiverged w → IsAmiss Restless w → AreConvergedOrAtRest w → ⊥ }
 {}
 
 /// A side can answer if it has issued fewer than 255 messages, or one that ends the request.
@@ -234,35 +235,36 @@ pub fn no_other_world_is_performed()
         IsOfNoPrefix (run_of old) events new → Performs run_of events old (Err memory) new → ⊥ }
 {}
 
-/// If two records are in step, the loan is over for both, or for neither. If for neither, one has the turn and a verb.
-/// Both have the turn only if a requester in CONDITIONAL faces a responder in IN-PROCESS.
-pub fn one_of_two_in_step_acts()
-    ensures over { (x : RequesterRecord) (y : ResponderRecord) → InStep x y →
+/// If two records are converged, the loan is over for both, or for neither. If for neither, one has the turn and a
+/// verb. Both have the turn only if a requester in CONDITIONAL faces a responder in IN-PROCESS.
+pub fn one_of_two_converged_sides_acts()
+    ensures over { (x : RequesterRecord) (y : ResponderRecord) → HaveConverged x y →
         (requester_turn x ≡ Over) ↔ (responder_turn y ≡ Over) }
-    ensures acts { (x : RequesterRecord) (y : ResponderRecord) → InStep x y →
+    ensures acts { (x : RequesterRecord) (y : ResponderRecord) → HaveConverged x y →
         (requester_turn x ≡ Over → ⊥) →
         ((requester_turn x ≡ Mine) × (requester_verbs x ≡ [] → ⊥))
         ⊎ ((responder_turn y ≡ Mine) × (responder_verbs y ≡ [] → ⊥)) }
-    ensures both { (x : RequesterRecord) (y : ResponderRecord) → InStep x y →
+    ensures both { (x : RequesterRecord) (y : ResponderRecord) → HaveConverged x y →
         requester_turn x ≡ Mine → responder_turn y ≡ Mine →
         (x.state ≡ states.Conditional) × (y.state ≡ states.InProcess) }
 {
     ill_core::laws::turns_have_verbs();
 }
 
-/// The library that has the turn can act if it has a number left: the requester by a wish, and the responder by a deed that
-/// each day allows. So if two records are in step, the loan is not over, and both have numbers left, one library can act.
+/// The library that has the turn can act if it has a number left: the requester by a wish, and the responder by a deed
+/// that each day allows. So if two records are converged, the loan is not over, and both have numbers left, one library
+/// can act.
 pub fn who_has_the_turn_can_act()
     ensures asks { (x : RequesterRecord) → requester_turn x ≡ Mine → length x.issued < 255 →
         (wish : Wish) × IsOk (requester_actions.acts x wish) }
     ensures lends { (y : ResponderRecord) → responder_turn y ≡ Mine → length y.issued < 255 →
         (deed : Deed) × ((today : Date) → IsOk (responder_actions.acts y deed today)) }
-    ensures in_step { (x : RequesterRecord) (y : ResponderRecord) → InStep x y → (requester_turn x ≡ Over → ⊥) →
+    ensures converged { (x : RequesterRecord) (y : ResponderRecord) → HaveConverged x y → (requester_turn x ≡ Over → ⊥) →
         length x.issued < 255 → length y.issued < 255 →
         ((wish : Wish) × IsOk (requester_actions.acts x wish))
         ⊎ ((deed : Deed) × ((today : Date) → IsOk (responder_actions.acts y deed today))) }
 {
-    one_of_two_in_step_acts();
+    one_of_two_converged_sides_acts();
 }
 
 /// If a world satisfies the invariant, and the loan is over for the requester, both sides are at rest. The loan is over
@@ -284,13 +286,13 @@ pub fn nights_are_rounds()
     requester_is_over_last();
 }
 
-/// After a night both sides are in step or at rest, if the responder can answer a Conditional-Reply no. This holds if
+/// After a night both sides are converged or at rest, if the responder can answer a Conditional-Reply no. This holds if
 /// the world satisfies the invariant, and so after any events of a run.
 pub fn one_night_is_enough()
     ensures stands { (txn : Qualifiers) (w : Parties) → Invariant txn w → CanAnswer w.responder.live →
-        AreInStepOrAtRest (run_of w (night_of w)) }
+        AreConvergedOrAtRest (run_of w (night_of w)) }
     ensures run { (txn : Qualifiers) (events : List Event) → let w = run_of (first_world txn) events in
-        CanAnswer w.responder.live → AreInStepOrAtRest (run_of w (night_of w)) }
+        CanAnswer w.responder.live → AreConvergedOrAtRest (run_of w (night_of w)) }
 {
     world_stands();
     one_round_is_enough();
@@ -369,10 +371,10 @@ pub fn no_bad_trace_is_written()
 {}
 
 /// Only `Done`, `Saved`, `Sent`, `Restarted`, `Answered(Taken)` and `Faulted` change the world. `Faulted` changes
-/// only the landed side.
+/// only the committed side.
 pub fn few_outcomes_change()
     ensures { (w : Parties) (event : Event) →
-        MayChange OnlyLandedChanges (happens w event).0 w (happens w event).1 }
+        MayChange OnlyCommittedChanges (happens w event).0 w (happens w event).1 }
 {
     ill_core::laws::requester_is_quiet();
     ill_core::laws::responder_is_quiet();
@@ -389,32 +391,32 @@ pub fn sent_stays_sent()
     world_stands();
 }
 
-/// An event that did nothing has not changed the world. A save that failed has changed no more than a landed side. No sent
-/// message is lost. No event is refused for a wrong role, or for a lack of memory.
+/// An event that did nothing has not changed the world. A save that failed has changed no more than a committed side.
+/// No sent message is lost. No event is refused for a wrong role, or for a lack of memory.
 #[tactic(auto, using(crate::proofs::BadChanges::none_too_much, crate::proofs::BadChanges::none_lost, crate::proofs::BadChanges::none_unseen))]
 pub fn no_bad_change_is_allowed()
     ensures changes { (outcome : Outcome) (old new : Parties) →
-        ChangesTooMuch old new outcome → MayChange OnlyLandedChanges outcome old new → ⊥ }
+        ChangesTooMuch old new outcome → MayChange OnlyCommittedChanges outcome old new → ⊥ }
     ensures sent { (old new : Parties) → LosesSent old new → KeepsSent old new → ⊥ }
     ensures seen { (outcome : Outcome) → IsUnseen outcome → can_be_seen outcome ≡ true → ⊥ }
 {}
 
-/// If a world satisfies the invariant, the record that has landed last has every message that was sent.
-pub fn what_landed_last_has_all_that_was_sent()
+/// If a world satisfies the invariant, the record that was committed last has every message that was sent.
+pub fn what_was_committed_last_has_all_that_was_sent()
     ensures { (txn : Qualifiers) (w : Parties) (who : Role) → Invariant txn w →
-        HasAllSent (party w who).landed (party w who) }
+        HasAllSent (party w who).committed (party w who) }
 {}
 
-/// A copy of a record that has landed may be put back later, if it has every message that was sent. The invariant holds
-/// then, and so the world is safe after any further events.
+/// A copy of a record that is committed may be put back later, if it has every message that was sent. The invariant
+/// holds then, and so the world is safe after any further events.
 pub fn a_copy_with_all_that_was_sent_may_be_put_back()
     ensures stands { (txn : Qualifiers) (w : Parties) (more : List Event) (who : Role) → Invariant txn w →
-        HasAllSent (party w who).landed (party (run_of w more) who) →
-        Invariant txn (puts_back who (party w who).landed (run_of w more)) }
+        HasAllSent (party w who).committed (party (run_of w more) who) →
+        Invariant txn (puts_back who (party w who).committed (run_of w more)) }
     ensures run { (txn : Qualifiers) (events more further : List Event) (who : Role) →
         let copied = run_of (first_world txn) events in let now = run_of copied more in
-        HasAllSent (party copied who).landed (party now who) →
-        IsSafeRun (puts_back who (party copied who).landed now) further }
+        HasAllSent (party copied who).committed (party now who) →
+        IsSafeRun (puts_back who (party copied who).committed now) further }
 {
     world_stands();
     ends_alike();

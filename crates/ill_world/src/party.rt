@@ -26,7 +26,7 @@ pub struct Party {
     sent: Sent,
 }
 
-/// Contracts see a party as one of the model. Its next save works, and its landed side can be read.
+/// Contracts see a party as one of the model. Its next save works, and its committed side can be read.
 impl Model for Party {
     ghost Value = { model.Party };
 
@@ -36,7 +36,7 @@ impl Model for Party {
 }
 
 impl Party {
-    /// Returns the party of a new side. Nothing has landed, and nothing was sent.
+    /// Returns the party of a new side. Nothing is committed, and nothing was sent.
     pub fn new(alloc: Global, first: Side) -> Result<Party, OutOfMemory>
         requires idle { first ≡ idle_of first }
         ensures { IfOk result (λ party. party ≡ model.first_party first) }
@@ -88,13 +88,13 @@ impl Party {
         }
     }
 
-    /// Tries to save the side, and fails. The new record has landed if `landed` is true.
-    pub fn fail_to_save(&mut self, alloc: Global, landed: bool) -> Result<Outcome, OutOfMemory>
-        ensures { GivesOutcome (outcomes.Faulted, model.fails_to_save self.old landed)
+    /// Tries to save the side, and fails. The new record is committed if `committed` is true.
+    pub fn fail_to_save(&mut self, alloc: Global, committed: bool) -> Result<Outcome, OutOfMemory>
+        ensures { GivesOutcome (outcomes.Faulted, model.fails_to_save self.old committed)
             self.old result self.new }
     {
         ill_saved::laws::read_again();
-        self.desk.set_next(if landed {
+        self.desk.set_next(if committed {
             NextCall::FailsNew
         } else {
             NextCall::FailsOld
@@ -110,7 +110,7 @@ impl Party {
         }
     }
 
-    /// Replaces the side in memory by the one that has landed.
+    /// Replaces the side in memory by the one that is committed.
     pub fn restart(&mut self, alloc: Global) -> Result<Outcome, OutOfMemory>
         ensures { GivesOutcome (outcomes.Restarted, model.restarts self.old)
             self.old result self.new }

@@ -22,7 +22,7 @@ use std::alloc::Global;
 /// | `requester` and the words of a `wish` | `Wish` |
 /// | `responder TODAY` and the words of a `deed` | `Deed` |
 /// | `save SIDE` | `Save` |
-/// | `save-fault SIDE old` or `new` | `SaveFault`; with `new` the record has landed |
+/// | `save-fault SIDE old` or `new` | `SaveFault`; with `new` the record is committed |
 /// | `restart SIDE` | `Restart` |
 /// | `send SIDE NUMBER` | `Send` |
 /// | `deliver SIDE NUMBER` | `Deliver` |

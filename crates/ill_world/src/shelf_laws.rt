@@ -11,7 +11,7 @@ ghost use Rattle.ill_world.specs.BadDesks.{Names};
 ghost use Rattle.ill_world.specs.Safety.{Safe};
 ghost use Rattle.ill_world.specs.Agreement.{Agrees};
 ghost use Rattle.ill_world.specs.Round.{CanAnswer};
-ghost use Rattle.ill_world.specs.Night.{AreInStepOrAtRest};
+ghost use Rattle.ill_world.specs.Night.{AreConvergedOrAtRest};
 ghost use Rattle.ill_world.specs.DeskNight.{desk_night_of};
 ghost use Rattle.ill_world.specs.Shelves.{Shelves, ShelfEvent, first_shelves, home, shelves_happen, shelves_run, in_group, events_at, IsSafeShelfRun, IsAgreeingShelfRun};
 
@@ -87,7 +87,8 @@ pub fn no_transaction_has_two_homes()
 }
 
 /// All events of a night of the desks of a group have their home at this group. The night brings both sides of each
-/// transaction of the group in step, or to rest. For this the responder must be able to answer a Conditional-Reply no.
+/// transaction of the group to convergence or to rest. For this the responder must be able to answer a
+/// Conditional-Reply no.
 pub fn a_night_of_a_group_is_enough()
     ensures home { (group : List ℕ) (events : List ShelfEvent) →
         let night = desk_night_of (shelves_run first_shelves events group) in
@@ -95,7 +96,7 @@ pub fn a_night_of_a_group_is_enough()
     ensures run { (txn : Qualifiers) (events : List ShelfEvent) → let w = shelves_run first_shelves events in
         CanAnswer (project txn (w txn.group)).responder.live →
         let night = in_group txn.group (desk_night_of (w txn.group)) in
-        AreInStepOrAtRest (project txn (shelves_run w night txn.group)) }
+        AreConvergedOrAtRest (project txn (shelves_run w night txn.group)) }
 {
     ill_saved::laws::rows_grow();
     desk_laws::desks_stand();

@@ -50,7 +50,7 @@ impl Performer for World {
 
     ghost Event = { Event };
 
-    ghost play = { two_sides };
+    ghost replay = { two_sides };
 
     /// Performs a line. If it has an event, its line of the trace is appended to `shown`.
     fn perform_line(

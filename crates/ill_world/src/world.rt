@@ -9,7 +9,7 @@ ghost use Rattle.ill_world.specs.Safety.{IsSafeRun};
 ghost use Rattle.ill_world.specs.Agreement.{IsAgreeingRun, KeepsDates, Arrives};
 ghost use Rattle.ill_world.specs.Invariant.{Invariant};
 ghost use Rattle.ill_world.specs.PartyRefinement.{GivesOutcome};
-ghost use Rattle.ill_world.specs.Round.{sends_and_delivers, half_of, round_of, Performs, CanAnswer, AreInStep};
+ghost use Rattle.ill_world.specs.Round.{sends_and_delivers, half_of, round_of, Performs, CanAnswer, AreConverged};
 ghost use Rattle.ill_world.specs.declared.event.Event.TheVariants.{Save};
 
 use crate::event::Event;
@@ -43,7 +43,7 @@ impl Model for World {
 }
 
 impl World {
-    /// Returns two idle sides of `txn`. Nothing has landed, and nothing was sent.
+    /// Returns two idle sides of `txn`. Nothing is committed, and nothing was sent.
     pub fn new(alloc: Global, txn: &TxnId) -> Result<World, OutOfMemory>
         ensures { IfOk result (λ world. world ≡ model.first_world txn.now) }
     {
@@ -59,9 +59,9 @@ impl World {
     /// Performs an event, and returns its outcome. If memory runs out, nothing has changed.
     ///
     /// Only `Done`, `Saved`, `Sent`, `Restarted`, `Answered(Taken)` and `Faulted` change the world. `Faulted` changes
-    /// only the landed side. An event other than the requester's restart keeps or raises the requester's due date. One
-    /// `Deliver` of the message that ended the request leads the requester to the states of this end. One `Deliver` of
-    /// a Returned leads the responder to RETURNED or CHECKED-IN.
+    /// only the committed side. An event other than the requester's restart keeps or raises the requester's due date.
+    /// One `Deliver` of the message that ended the request leads the requester to the states of this end. One `Deliver`
+    /// of a Returned leads the responder to RETURNED or CHECKED-IN.
     pub fn step(&mut self, alloc: Global, event: &Event) -> Result<Outcome, OutOfMemory>
         ensures gives { GivesOutcome (model.happens self.old event.now) self.old result self.new }
         ensures dates { KeepsDates self.old event.now self.new }
@@ -79,10 +79,10 @@ impl World {
     /// Performs a round. It saves the requester's side, and sends and delivers all its messages in order. Then it does
     /// so for the responder's side. If memory runs out, only a prefix of the events of the round has happened.
     ///
-    /// If the responder had ended the request before, or had a number left, both sides are then in step.
+    /// If the responder had ended the request before, or had a number left, both sides are then converged.
     pub fn exchange(&mut self, alloc: Global) -> Result<(), OutOfMemory>
         ensures performs { Performs model.run_of (round_of self.old) self.old result self.new }
-        ensures in_step { OnOk result (CanAnswer self.old.responder.live → AreInStep self.new) }
+        ensures converged { OnOk result (CanAnswer self.old.responder.live → AreConverged self.new) }
     {
         let _ = &self.requester; // makes the invariant of this world known
         laws::one_round_is_enough();

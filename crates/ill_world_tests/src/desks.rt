@@ -81,7 +81,7 @@ fn two_loans(events: &mut Events, alloc: Global) {
     events.push(delivered(alloc, SECOND));
 }
 
-/// Adds two requests. The first is lost in the mail, and so is the Shipped of the second.
+/// Adds two requests. The first is lost on the way, and so is the Shipped of the second.
 fn two_losses(events: &mut Events, alloc: Global) {
     events.push(request(alloc, FIRST, b"Maps"));
     events.push(request(alloc, SECOND, b"Atlas"));
@@ -114,11 +114,14 @@ fn kinds(events: &mut Events, alloc: Global) {
     push_restart(events, Role::Responder);
 }
 
-/// Adds noise for `who`, and two saves of `who` that fail. Only the record of the second lands.
+/// Adds noise for `who`, and two saves of `who` that fail. Only the record of the second is committed.
 fn push_faults(events: &mut Events, alloc: Global, who: Role) {
     events.push(noise(alloc, who));
-    for landed in [false, true] {
-        events.push(Some(DeskEvent::SaveFault { who, landed }));
+    for committed in [false, true] {
+        events.push(Some(DeskEvent::SaveFault {
+            who,
+            landed: committed,
+        }));
     }
 }
 

@@ -126,10 +126,10 @@ fn push_unchanging(events: &mut Events, alloc: Global, who: Role, unsaved: u8) {
     events.push(delivered(who, 1));
 }
 
-/// Adds two saves of `who` that fail. Only the record of the second lands.
+/// Adds two saves of `who` that fail. Only the record of the second is committed.
 fn push_faults(events: &mut Events, who: Role) {
-    for landed in [false, true] {
-        events.push(Some(save_fault(who, landed)));
+    for committed in [false, true] {
+        events.push(Some(save_fault(who, committed)));
     }
 }
 
@@ -195,7 +195,10 @@ fn noise(alloc: Global, who: Role, bytes: &[u8]) -> Option<Event> {
     Some(Event::Noise(who, bytes))
 }
 
-/// Returns the event of a save that fails. If `landed`, the record lands in spite of the failure.
-fn save_fault(who: Role, landed: bool) -> Event {
-    Event::SaveFault { who, landed }
+/// Returns the event of a save that fails. If `committed`, the record is committed in spite of the failure.
+fn save_fault(who: Role, committed: bool) -> Event {
+    Event::SaveFault {
+        who,
+        landed: committed,
+    }
 }

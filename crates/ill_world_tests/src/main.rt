@@ -7,9 +7,10 @@
 //! `sed -n '/^script a Shipped that comes again$/,/^$/p' stdin > file`.
 //! Then `rt try < file | diff file -` prints nothing if all is right.
 //!
-//! Marks surround calls of `ill_world`, and a call is repeated while a growth is refused (`tries`, `performing`). So
-//! `tools/out-of-memory` refuses each growth of each call once, and the printed page must not change. Ample memory is
-//! given to scripts that are longer than `performing` says, and to the events of `ending`.
+//! Marks (`ill_test_kit::marks`) surround calls of `ill_world`. A call is repeated while an allocation is refused
+//! (`tries`, `performing`). So `tools/out-of-memory` refuses each allocation of each call once, and the printed page
+//! must not change. Ample memory is given to scripts that are longer than `performing` says, and to the events of
+//! `ending`.
 #![tactic(auto)]
 
 mod desks;

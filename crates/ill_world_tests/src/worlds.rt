@@ -36,7 +36,8 @@ impl Tried for World {
         print_world(alloc, page, self)
     }
 
-    /// Prints all fields of the world, also the landed records and the sent messages, of which `print` prints nothing.
+    /// Prints all fields of the world, also the committed records and the sent messages, of which `print` prints
+    /// nothing.
     fn print_more(&self, _alloc: Global, page: &mut Page) -> Option<()> {
         page.show_parts(self);
         Some(())

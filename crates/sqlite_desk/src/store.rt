@@ -60,15 +60,15 @@ impl<S: Alter + Drop> SqliteStore<S> {
     }
 }
 
-/// The state of this store is not honest, and its landed bytes are not stated. The contracts of `sqlite` hold only as
-/// long as the disk is clean, which may end at any call. An honest store is honest for good. Each call that answers
+/// The state of this store is not correct, and its committed bytes are not stated. The contracts of `sqlite` hold only
+/// as long as the disk is clean, which may end at any call. A correct store is correct for good. Each call that answers
 /// `Failed` is counted.
 impl<S: Alter + Drop> Store for SqliteStore<S> {
     ghost state = { λ s. record {
       path = None;
-      landed = None;
+      committed = None;
       failures = s.failures;
-      is_honest = false;
+      is_correct = false;
       plan = None;
     } };
 

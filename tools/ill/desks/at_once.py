@@ -23,7 +23,7 @@ DAY = ("--today", "20250301")
 
 # What a command has left: its exit status, the lines of its output, and its standard error. `was_killed` is true if
 # this script killed it.
-Told = collections.namedtuple("Told", "status lines errors was_killed")
+Outcome = collections.namedtuple("Outcome", "status lines errors was_killed")
 
 
 class Failed(Exception):
@@ -60,14 +60,14 @@ class Desks:
 
     def together(self, commands, killed=None):
         """Starts commands, one right after another. Each is a tuple of the arguments of `start`. Kills the command with
-        the index `killed` after 20 ms at most, or none if that is None. Returns a `Told` of each command, in their
+        the index `killed` after 20 ms at most, or none if that is None. Returns an `Outcome` of each command, in their
         order."""
         started = [self.start(*command) for command in commands]
         if killed is not None:
             time.sleep(self.random.random() * 0.02)
             started[killed].kill()
         ended = [process.communicate(timeout=harness.SECONDS) for process in started]
-        return [Told(process.returncode, output.decode().splitlines(), errors.decode().strip(), at == killed)
+        return [Outcome(process.returncode, output.decode().splitlines(), errors.decode().strip(), at == killed)
                 for at, (process, (output, errors)) in enumerate(zip(started, ended))]
 
     def fresh(self, name):
@@ -79,7 +79,7 @@ class Desks:
 
     def left(self):
         """Returns the names of the files that may not stay beside the desk, such as `desk.new`. What came, the diary
-        and the folder of mail may stay, and are left out."""
+        and the folder of message files may stay, and are left out."""
         kept = ("desk.came", "desk.diary", "desk.mail")
         return sorted(name for name in os.listdir(self.folder) if name.startswith("desk.") and name not in kept)
 
@@ -95,10 +95,10 @@ class Desks:
         return self.run(["show"], sent).decode().splitlines()
 
 
-def fine(told):
-    """Raises `Failed` if a command that was not killed has another status than 0, or a line of standard error. `told`
-    has a `Told` of each command."""
-    for one in told:
+def fine(outcomes):
+    """Raises `Failed` if a command that was not killed has another status than 0, or a line of standard error.
+    `outcomes` has an `Outcome` of each command."""
+    for one in outcomes:
         if not one.was_killed and (one.status or one.errors):
             raise Failed(f"status {one.status}: {one.errors or one.lines}")
 
@@ -116,8 +116,8 @@ def new_loans(desks):
     """Four commands ask for a book each."""
     desks.fresh("requester")
     loans = [("G1", f"N{at}") for at in range(4)]
-    told = desks.together([(["act", "desk", *loan, "request", "none", "Maps"],) for loan in loans])
-    fine(told)
+    outcomes = desks.together([(["act", "desk", *loan, "request", "none", "Maps"],) for loan in loans])
+    fine(outcomes)
     found = desks.loans()
     for loan in loans:
         if found.get(loan, {}).get("messages") != "1/1":
@@ -134,23 +134,23 @@ def answers(desks, killed=None):
     desks.fresh("responder")
     results = list(RESULTS[:3]) + [RESULTS[0]]
     desks.random.shuffle(results)
-    told = desks.together([answer(result) for result in results], killed)
+    outcomes = desks.together([answer(result) for result in results], killed)
     done = {}
-    for result, one in zip(results, told):
+    for result, one in zip(results, outcomes):
         is_refused = one.status == 1 and one.lines[0].startswith("not-now")
         if not is_refused:
             fine([one])
         for line in one.lines:
             if line.startswith("done") and done.setdefault(issued(line), result) != result:
-                raise Failed(f"the number {issued(line)} was told twice")
-    if sum(line.startswith("done") for one in told for line in one.lines) != len(done):
-        raise Failed("a number was told twice")
+                raise Failed(f"the number {issued(line)} was acknowledged twice")
+    if sum(line.startswith("done") for one in outcomes for line in one.lines) != len(done):
+        raise Failed("a number was acknowledged twice")
     for number, result in done.items():
         if f"result {result}" not in desks.message(number):
             raise Failed(f"the message {number} is not {result}")
     count = int(desks.loans()[LOAN]["messages"].split("/")[1])
     if count not in (len(done), len(done) + (killed is not None)):
-        raise Failed(f"{len(done)} answers were told, and {count} are there")
+        raise Failed(f"{len(done)} answers were acknowledged, and {count} are there")
 
 
 def a_killed_answer(desks):
@@ -161,12 +161,12 @@ def a_killed_answer(desks):
 def a_take_beside(desks):
     """Two commands act, one takes three messages, and one shows the desk."""
     desks.fresh("requester")
-    told = desks.together([
+    outcomes = desks.together([
         (["act", "desk", "G1", "N0", "request", "none", "Maps"],),
         (["take", "desk"], read(desks.path("mail"))),
         (["status", "desk"],),
         (["act", "desk", "G1", "N1", "request", "none", "Maps"],)])
-    fine(told)
+    fine(outcomes)
     found = desks.loans()
     if [found[loan]["state"] for loan in (("G1", "T1"), ("G1", "T2"), ("G1", "T3"))] != ["SHIPPED"] * 3:
         raise Failed("a message that was taken is lost")
@@ -178,10 +178,10 @@ def new_desks(desks):
     """Four commands begin one desk."""
     desks.fresh(None)
     roles = ("requester", "responder", "requester", "responder")
-    told = desks.together([(["new", "desk", role],) for role in roles])
-    if sorted(one.status for one in told) != [0, 1, 1, 1]:
-        raise Failed(f"four desks began, with {[one.status for one in told]}")
-    if any(one.status and one.errors != "ill: exists" for one in told):
+    outcomes = desks.together([(["new", "desk", role],) for role in roles])
+    if sorted(one.status for one in outcomes) != [0, 1, 1, 1]:
+        raise Failed(f"four desks began, with {[one.status for one in outcomes]}")
+    if any(one.status and one.errors != "ill: exists" for one in outcomes):
         raise Failed("another fault than that the desk exists")
 
 
@@ -190,25 +190,25 @@ def nights(desks, killed=None):
     desks.fresh("requester")
     for folder in ("in", "out"):
         os.mkdir(desks.path(folder))
-    mail = read(desks.path("mail"))
-    size = len(mail) // 3
+    message_file = read(desks.path("mail"))
+    size = len(message_file) // 3
     for at in range(3):
-        write(desks.path(f"in/{at}"), mail[at * size:(at + 1) * size])
-    told = desks.together([
+        write(desks.path(f"in/{at}"), message_file[at * size:(at + 1) * size])
+    outcomes = desks.together([
         (["act", "desk", "G1", "N0", "request", "none", "Maps"],), (["inbox", "desk", "in"],),
         (["outbox", "desk", "out"],), (["exchange", "desk", "in", "out", "--copy", "copy"],)], killed)
-    fine(told)
+    fine(outcomes)
     if killed is not None:
         desks.run(["exchange", "desk", "in", "out", "--copy", "copy"])
     found = desks.loans()
     if [found[loan]["state"] for loan in (("G1", "T1"), ("G1", "T2"), ("G1", "T3"))] != ["SHIPPED"] * 3:
-        raise Failed("a mail is lost")
+        raise Failed("a message file is lost")
     if os.listdir(desks.path("in")) or os.listdir(desks.path("desk.mail/in")):
-        raise Failed("a mail is left")
-    if told[0].lines and ("G1", "N0") not in found:
+        raise Failed("a message file is left")
+    if outcomes[0].lines and ("G1", "N0") not in found:
         raise Failed("an action that was done is lost")
-    if sum(" taken SHIPPED " in line for one in told for line in one.lines) > 3:
-        raise Failed("a mail was taken twice")
+    if sum(" taken SHIPPED " in line for one in outcomes for line in one.lines) > 3:
+        raise Failed("a message file was taken twice")
     if len(os.listdir(desks.path("out"))) not in (3, 4) and killed is None:
         raise Failed("not all messages have left")
 
@@ -235,9 +235,9 @@ def prepare(desks):
     desks.run(["take", "responder"], desks.run(["send", "requester", "G1", "T1", "1"]))
 
 
-def play(desks, kind, rounds):
-    """Plays so many rounds of a kind, up to the first that fails. Prints one line, which begins with the docstring of
-    the kind."""
+def perform(desks, kind, rounds):
+    """Performs so many rounds of a kind, up to the first that fails. Prints one line, which begins with the docstring
+    of the kind."""
     for at in range(rounds):
         try:
             kind(desks)
@@ -247,16 +247,16 @@ def play(desks, kind, rounds):
         except (Failed, subprocess.TimeoutExpired) as why:
             REPORT.fail(f"{kind.__doc__} Round {at + 1}: {why}")
             return
-    REPORT.tell(f"{kind.__doc__} {rounds} rounds.")
+    REPORT.case(f"{kind.__doc__} {rounds} rounds.")
 
 
 def main(program, rounds="20", seed=None):
-    """Plays rounds in the folder in which it is called. Each kind has as many, and all together at least `rounds`.
+    """Performs rounds in the folder in which it is called. Each kind has as many, and all together at least `rounds`.
     Without a seed it draws one. Returns the exit status."""
     rounds, seed = int(rounds), int(seed) if seed else random.randrange(1 << 16)
     print(f"the seed is {seed}")
     desks = Desks(os.path.realpath(program), os.getcwd(), seed)
     prepare(desks)
     for kind in KINDS:
-        play(desks, kind, (rounds + len(KINDS) - 1) // len(KINDS))
+        perform(desks, kind, (rounds + len(KINDS) - 1) // len(KINDS))
     return REPORT.status()

@@ -50,7 +50,7 @@ REPORT = harness.Report()
 TODAY, SHIPS, LATE = "20250320", "20250301", "20250401"
 # How many loans are looked at one by one: of a large desk, and of a desk with the longest record.
 SAMPLE, FEW = 12, 2
-# The greatest count of numbers left of which `act` and `list` tell.
+# The greatest count of numbers left that `act` and `list` print.
 FEW_NUMBERS = 10
 
 # Titles in many scripts: wide, combining, bidirectional and invisible characters, and some on which a terminal acts.
@@ -65,7 +65,7 @@ TITLES = [
     "\u0600\u06dd\U000110bd", "\U0010ffff\uffff\ue000"]
 
 
-# The line that tells of a file whose name is no UTF-8.
+# The line that reports a file whose name is no UTF-8.
 NO_NAME = "ill: shelf/no\\xffdesk\\x1b: no UTF-8"
 
 
@@ -175,7 +175,7 @@ LISTED = {"": WORKS, "--open": [name for name in WORKS if name != OVER], "--mine
 def listed(sides, flag, today=None, due_before=None, state=None, ahead=AHEAD, find=None, notes=None, news=None):
     """Yields each loan that `list` lists as the words of its work and its side, in the order of the list. `flag` is a
     key of `LISTED`. The next five parameters are the values of options, and None stands for one that is not given.
-    `notes` has the notes of loans, and `news` what is printed of each. With `--mine` a loan that has news is listed,
+    `notes` has the notes of loans, and `news` what is printed about each. With `--mine` a loan that has news is listed,
     whatever its work."""
     for name in WORKS:
         for side in by_deadline(sides):
@@ -193,7 +193,7 @@ def left_out(sides, due_before=None, state=None):
 
 
 def left_out_line(path, count):
-    """Returns the line on standard error that tells how many loans were left out, or an empty text if none was."""
+    """Returns the line on standard error that says how many loans were left out, or an empty text if none was."""
     words = "loan may want a hand by its date" if count == 1 else "loans may want a hand by their dates"
     return f"ill: {path}: {count} more {words}: give --today DAY\n" if count else ""
 
@@ -225,12 +225,12 @@ def list_lines(sides, flag, today=None, due_before=None, state=None, ahead=AHEAD
         if days and tuple(side.txn) in days:
             lines.append(f"    since {days[tuple(side.txn)]}")
         lines += [f"    news {words}" for _, words in (news or {}).get(tuple(side.txn), [])]
-    told = counts(sides, today, ahead)
-    return [*lines, "loans {loans}, open {open}, to do {todo}, room for {room}".format(**told)]
+    counted = counts(sides, today, ahead)
+    return [*lines, "loans {loans}, open {open}, to do {todo}, room for {room}".format(**counted)]
 
 
 def morning_lines(sides, today, news, notes=None, days=None):
-    """Returns the lines of `list --mine --since DAY`. `news` has what is printed of each loan, and `notes` the notes
+    """Returns the lines of `list --mine --since DAY`. `news` has what is printed about each loan, and `notes` the notes
     that are shown. `days` has the day since which a loan stands as it does."""
     rows = list(listed(sides, "--mine", today, news=news))
     cells = [["  " + (side.due or "-") if name in HANDS else "news:", column(side.txn[0]), column(side.txn[1]),
@@ -267,7 +267,7 @@ def heard_objects(side, news):
 
 
 def numbers_lines(path, sides):
-    """Returns the lines on standard error in which `list` tells of each open loan with at most ten numbers left."""
+    """Returns the lines on standard error in which `list` reports each open loan with at most ten numbers left."""
     left = [(side, 255 - len(side.issued)) for side in sides if side.turn() != "over"]
     return [f"ill: {path}: {side.txn[0]} {side.txn[1]}: {count} number{'' if count == 1 else 's'} left\n"
             for side, count in left if count <= FEW_NUMBERS]
@@ -440,8 +440,8 @@ class Judge:
                   [json.loads(json.dumps(value), object_pairs_hook=list) for value in wanted])
 
     def part(self, name):
-        """Tells of a part by the first five of its faults, and forgets all."""
-        REPORT.tell(name, *self.faults[:5])
+        """Reports a part by the first five of its faults, and forgets all."""
+        REPORT.case(name, *self.faults[:5])
         self.faults = []
 
 
@@ -473,9 +473,9 @@ def check_list(judge, path, sides):
         judge.lines(["list", path, *words], list_lines(sides, flag, today, due, state, ahead, has_actions))
         judge.objects(["list", path, "--json", *words], list_objects(sides, flag, today, due, state, ahead))
         if flag == "--mine":
-            told = judge.run(["list", path, *words]).errors.decode().rpartition(" more loans\n")[2]
+            printed = judge.run(["list", path, *words]).errors.decode().rpartition(" more loans\n")[2]
             line = "" if today else left_out_line(path, left_out(sides, due, state))
-            judge.same(f"what {' '.join(words)} leaves out of {path}", told, line)
+            judge.same(f"what {' '.join(words)} leaves out of {path}", printed, line)
     warned = judge.run(["list", path]).errors.decode()
     room = [f"ill: {path} has room for {1000 - len(sides)} more loans\n"] if len(sides) >= 900 else []
     judge.same(f"the warnings of {path}", warned, "".join([*numbers_lines(path, sides), *room]))
@@ -763,7 +763,7 @@ def followers(here, there, course, events):
                 yield pair["r"], pair["s"], [*course, (who, apdu["number"])]
 
 
-def play(judge, course, folder):
+def perform(judge, course, folder):
     """Performs a course by commands, at two desks in a folder. Returns the paths of the desks by `r` and `s`."""
     desks = {"r": f"{folder}/r", "s": f"{folder}/s"}
     for who, role in (("r", "requester"), ("s", "responder")):
@@ -783,9 +783,9 @@ def check_kind(judge, role, course, side):
     roles is tried. The parameters are what `paths` returns of the kind."""
     folder = tempfile.mkdtemp(dir=".")
     try:
-        desk = play(judge, course, folder)["rs"[role]]
-        told = judge.text(["loan", desk, *side.txn]).split("\n")
-        verbs = [line[4:].split(" ") for line in told if line.startswith("now ")][0]
+        desk = perform(judge, course, folder)["rs"[role]]
+        printed = judge.text(["loan", desk, *side.txn]).split("\n")
+        verbs = [line[4:].split(" ") for line in printed if line.startswith("now ")][0]
         verbs = [] if verbs == ["-"] else verbs
         judge.same(f"the verbs of {kind_of(side)}", verbs, side.possible())
         judge.same(f"the record of {kind_of(side)}", read(desk), desk_record(role, [side]))
@@ -826,21 +826,21 @@ def check_words(judge, desk, side, words, day):
     judge.same(place, (outcome, done.status), (wanted, int(wanted != "done")))
 
 
-def check_played(judge):
+def check_performed(judge):
     """Makes the desks of each kind of loan by commands. Their files must have the bytes of the model."""
     for name, loans in (("kinds", kinds()), ("titles", titled())):
         wanted = both(loans)
         for role in ROLES:
             judge.text(["new", f"played-{role}", role])
         for place, (course, txn, item) in enumerate(loans):
-            play_course(judge, course, txn, place, item)
+            perform_course(judge, course, txn, place, item)
         for role, sides in wanted.items():
-            played = f"played-{ROLES[role]}"
-            judge.same(f"{name} of a {ROLES[role]}, by the commands", read(played), desk_record(role, sides))
-            os.remove(played)
+            path = f"played-{ROLES[role]}"
+            judge.same(f"{name} of a {ROLES[role]}, by the commands", read(path), desk_record(role, sides))
+            os.remove(path)
 
 
-def play_course(judge, course, txn, place, item):
+def perform_course(judge, course, txn, place, item):
     """Performs the course of a loan at both desks."""
     here, there = "played-requester", "played-responder"
     for who, words, carried in steps(course, place, item):
@@ -888,8 +888,8 @@ def check_folder(judge, desks):
     os.link("kinds-responder", "shelf/G2.responder")
     wanted = [*list_lines(desks["kinds-requester"][1], "--mine", TODAY), "",
               *list_lines(desks["kinds-responder"][1], "--mine", TODAY)]
-    told = [line for line in judge.text(words).split("\n")[:-1] if not line.startswith("shelf/")]
-    judge.same("a shelf", told, wanted)
+    printed = [line for line in judge.text(words).split("\n")[:-1] if not line.startswith("shelf/")]
+    judge.same("a shelf", printed, wanted)
 
 
 def check_news_of_folder(judge, names, desks):
@@ -930,7 +930,7 @@ def check_desks(judge):
 def main(program):
     """Performs all comparisons, in the folder in which it is called. Returns the exit status."""
     judge = Judge(program)
-    check_played(judge)
+    check_performed(judge)
     judge.part("the commands make the records of the model")
     check_desks(judge)
     found = paths()

@@ -1,11 +1,11 @@
-"""Plays random scripts with a round after each, and judges the pair of states that the round leaves.
+"""Performs random scripts with a round after each, and judges the pair of states that the round leaves.
 
 It draws many scripts of one loan, and a tenth as many of two desks with three loans, from a seed. The script loses,
 repeats and reorders messages, fails saves and crashes. After it stand the lines of a round: the requester saves, and
 all its messages are sent and delivered in order; then the responder does the same. The program performs the whole. The
 last line of a loan must show a pair of states of docs/PROTOCOL.md's table of both sides, and equal due dates, unless
-the item was recalled or returned. It tells how often each pair was met. It fails if a loan is out of step, or if a pair
-of the table was never met.
+the item was recalled or returned. It says how often each pair was met. It fails if a loan has diverged, or if a pair of
+the table was never met.
 
 Four scripts are no random ones: a request that is lost and then cancelled; conditions that were withdrawn; a renewal
 that crosses a Recall; and a crash of both sides before the round.
@@ -133,7 +133,7 @@ def worked(lines):
 
 def judge(program, script, pairs):
     """Performs a script. Returns a list of the pairs of states in which its loans end, and a list of what is wrong.
-    `pairs` are the pairs in step. If the program fails, the first list is empty."""
+    `pairs` are the converged pairs. If the program fails, the first list is empty."""
     words = ["simulate", "G1", "T1"] if script.loans == 1 else ["simulate-desks"]
     text = "".join(f"{line}\n" for line in script.lines)
     ran = program.run(words, piped=text.encode())
@@ -152,10 +152,10 @@ def judge(program, script, pairs):
 
 
 def main(path, count="10000", seed="1"):
-    """Plays the scripts of `WORKED`, `count` scripts of one loan, and a tenth as many of three loans. `seed` is that of
-    the first script. Returns the exit status."""
+    """Performs the scripts of `WORKED`, `count` scripts of one loan, and a tenth as many of three loans. `seed` is that
+    of the first script. Returns the exit status."""
     program, count, seed = harness.Program(path), int(count), int(seed)
-    pairs, met, failed = harness.pairs_in_step(), collections.Counter(), 0
+    pairs, met, failed = harness.converged_pairs(), collections.Counter(), 0
     named = [(name, worked(lines)) for name, lines in WORKED.items()]
     named += [(f"seed {seed + i}, one loan", drawn(seed + i, 1)) for i in range(count)]
     named += [(f"seed {seed + i}, three loans", drawn(seed + i, 3)) for i in range(count // 10)]

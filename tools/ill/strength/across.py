@@ -1,9 +1,9 @@
 """Tries what goes across two crates, since the edits in strength/ stay within one.
 
 A crate of others may not release a message that no store has had: it cannot name the calls, and a bound that reaches
-them does not give it a store's Ok. A wrong contract in one crate must be refused by a crate above. Its body is
-changed with it, so that its own crate is proved. All is tried on a copy, a few minutes of proofs. A line tells what
-became of each.
+them does not give it a store's Ok. A wrong contract in one crate must be refused by a crate above. Its body is changed
+with it, so that its own crate is proved. All is tried on a copy, a few minutes of proofs. A line says what became of
+each.
 """
 import functools
 import re

@@ -1,4 +1,4 @@
-"""Tries the wrong bodies that the prover must refuse at what they change.
+"""Tries the mutants that the prover must refuse at what they change.
 
 It works on copies, over the libraries below a crate as `make check` has proved them, and builds those that are not
 there. LANES says how many checks are made side by side.
@@ -9,10 +9,10 @@ that must be.
 
 How it is tried: a function is proved from the contracts of what it calls, whatever bodies these have. So in a copy of
 the crate the bodies and proofs of all functions that no edit is about are left out, and their theorems are taken as
-axioms. A wrong body stands in that copy as a function beside the right one, with the same contract and the same
-proof. One check of the copy tries all of them: the right function must be proved, and each wrong one refused at a goal
-of its own. What is no body of a function with a name of its own, as a constant, a definition or a method of a trait,
-is changed in place, in a further copy; there edits of different bodies, or of different sources, are tried together.
+axioms. A mutant stands in that copy as a function beside the right one, with the same contract and the same proof. One
+check of the copy tries all of them: the right function must be proved, and each wrong one refused at a goal of its own.
+What is no body of a function with a name of its own, as a constant, a definition or a method of a trait, is changed in
+place, in a further copy; there edits of different bodies, or of different sources, are tried together.
 
 How it is refused: the proof of a function may have answers, which fit its goals and no others. If a right function has
 none, `search` proves it, and fails at a goal of the wrong one. If it has answers, they do not fit the wrong one. Both
@@ -52,9 +52,9 @@ axiom pub {name}_spec : {{M : Type 1}} → statement M
 # What antt says of a name that is not there, and of a text that it cannot read: neither makes a statement false.
 UNNAMED = r"^record `|is not in scope|has no field|has no `"
 UNREAD = UNNAMED + r"|is no name|operand is missing|expected the end|cannot continue"
-# What is printed of an error, and not of a macro whose name has the word, as `by-macro: thiserror::Error`.
+# The line that is printed about an error, and not of a macro whose name has the word, as `by-macro: thiserror::Error`.
 ERROR = r"(?!by-macro: ).*\berror\b"
-# What may become of an edit, and how that is reported of a wrong body and of a right one.
+# What may become of an edit, and how that is reported of a mutant and of a right one.
 AT_GOAL, BY_ANSWERS, FOR_WANT, PROVED, UNTRIED = "at a goal", "by answers", "for want", "proved", "untried"
 WRONG = {AT_GOAL: "refused at a goal", BY_ANSWERS: "refused by an answer of the right body",
          FOR_WANT: "refused, but open for want of a proof alone", PROVED: "NOT REFUSED", UNTRIED: "NOT REFUSED"}
@@ -282,7 +282,7 @@ class Trial:
             self.copy(f"{room}/beside", self.beside)
 
     def copy(self, folder, beside):
-        """Copies the crate: without the bodies that no edit is about, and with wrong bodies beside the right ones."""
+        """Copies the crate: without the bodies that no edit is about, and with mutants beside the right ones."""
         for part in filter(lambda part: os.path.isdir(f"{self.source}/{part}"), PARTS):
             shutil.copytree(f"{self.source}/{part}", f"{folder}/{part}")
         for it in sorted(self.functions.values(), key=lambda it: -it.begin):
@@ -302,7 +302,7 @@ class Trial:
         write(f"{proof}/Proof.antt", AXIOM.format(crate=self.crate, path=path, name=path.rpartition(".")[2]))
 
     def wrong(self, folder, path, edit):
-        """Returns the text of a wrong body as a function of this path. Its proof is a copy of that of the right one."""
+        """Returns the text of a mutant as a function of this path. Its proof is a copy of that of the right one."""
         it = edit.body_of
         right = f"{self.source}/{proof_of(it.path)}"
         files = [f"{proof_of(it.path)}/{file}" for file in os.listdir(right)] if os.path.isdir(right) else []
@@ -390,8 +390,8 @@ class Trial:
         known = {kind_of(goal) for goal in open_goals(right_bare, right)}
         own = [goal for goal in goals if kind_of(goal) not in known]
         if own:
-            return AT_GOAL, f"without its answers, at {', '.join(own)}, and the right body at nothing alike"
-        return FOR_WANT, f"{', '.join(goals)}, as of the right body"
+            return AT_GOAL, f"without its answers, at {', '.join(own)}, where the right body leaves nothing open"
+        return FOR_WANT, f"without its answers, at {', '.join(goals)}, which the right body leaves open too"
 
     def judge_in_place(self, number, edits, right_bare):
         """Returns what became of edits that are made together in place, in the round of this number."""
@@ -473,7 +473,7 @@ def refusal(said, printed, path):
 
 def try_crate(crate, names, is_gate):
     """Tries the edits of a crate: those of these names, or all if `names` is empty. Returns how many came to each
-    verdict, of the wrong bodies and of the right ones."""
+    verdict, of the mutants and of the right ones."""
     functions = functions_of(full("crates", crate))
     edits = edits_of(folders_of(crate, is_gate), crate, functions)
     edits = [edit for edit in edits if not names or edit.name in names]
@@ -482,20 +482,20 @@ def try_crate(crate, names, is_gate):
         for edit, verdict, what in Trial(crate, edits, functions, room, is_gate).judge():
             is_right = edit is not None and edit.is_right
             (right if is_right else wrong)[verdict] += 1
-            told = f"right, and {RIGHT[verdict]}" if is_right else WRONG[verdict]
-            print(f"{crate}: {edit.name if edit else 'all'}: {told}: {what}", flush=True)
+            words = f"right, and {RIGHT[verdict]}" if is_right else WRONG[verdict]
+            print(f"{crate}: {edit.name if edit else 'all'}: {words}: {what}", flush=True)
     return wrong, right
 
 
-def tell(counts):
-    """Prints what became of all edits. Returns true if each wrong body was refused, and no right one at a goal."""
+def report(counts):
+    """Prints what became of all edits. Returns true if each mutant was refused, and no right one at a goal."""
     wrong, right = (sum(numbers, collections.Counter()) for numbers in zip(*counts))
     refused = wrong[AT_GOAL] + wrong[BY_ANSWERS] + wrong[FOR_WANT]
     by_answers = f"{wrong[BY_ANSWERS]} by answers, " if wrong[BY_ANSWERS] else ""
-    print(f"{refused} of {wrong.total()} wrong bodies were refused: {wrong[AT_GOAL]} at a goal, {by_answers}"
+    print(f"{refused} of {wrong.total()} mutants were refused: {wrong[AT_GOAL]} at a goal, {by_answers}"
           f"{wrong[FOR_WANT]} open for want of a proof alone")
     let_be = right[PROVED] + right[FOR_WANT]
-    print(f"{let_be} of {right.total()} right bodies were refused at no goal")
+    print(f"{let_be} of {right.total()} equivalent mutants were refused at no goal")
     return refused == wrong.total() and let_be == right.total()
 
 
@@ -513,4 +513,4 @@ def perform(asked, is_gate):
     # The longest first. While a crate waits for a lane, the checks of others go on.
     order = sorted(asked, key=lambda crate: -len(known(is_gate)[crate]))
     with concurrent.futures.ThreadPoolExecutor(2 * LANES) as lanes:
-        return tell(list(lanes.map(lambda crate: try_crate(crate, asked[crate], is_gate), order)))
+        return report(list(lanes.map(lambda crate: try_crate(crate, asked[crate], is_gate), order)))

@@ -1,9 +1,9 @@
-"""Tries the wrong bodies in strength/tests/: those that no contract refuses, and a program of tests must.
+"""Tries the mutants in strength/tests/: those that no contract refuses, and a program of tests must.
 
 An edit stands in the folder of the program that is to refuse it, and begins with the cases that do: `cases:` and a
 pattern of lines, or `case:` and the name of a case. It is made in a copy of the repository. There the program, built
 without proof, reads these lines of its stdin, or all of it and the name. The lines have the answers too, and what it
-writes must differ from them. A line tells what became of each.
+writes must differ from them. A line says what became of each.
 """
 import re
 import shutil

@@ -188,4 +188,4 @@ def compare():
             at += len(box)
         COMPARED.expect("pictures", len(found) == len(wanted), f"{PAGE}:{lines[0][0]}: it has {len(found)} boxes")
         known.append(data)
-    return COMPARED.faults, f"{PAGE} has {COMPARED.told()} of bytes"
+    return COMPARED.faults, f"{PAGE} has {COMPARED.summary()} of bytes"

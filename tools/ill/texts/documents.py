@@ -6,11 +6,11 @@ It looks through each .md of the repository. In a document it looks up
 - each word in backquotes or in a block that looks like a path of the repository. A name in capitals, as in
   `strength/gate/NAME/`, stands for any. Under a heading that names crates a source stands in one of these, or of their
   rooms: libraries that they stand on, and no crate of tests does;
-- each word in backquotes of several parts, as `is_over` or `InStep`: a name of the sources, the definitions or the
-  proofs, or a crate;
+- each word in backquotes of several parts, as `is_over` or `HaveConverged`: a name of the sources, the definitions or
+  the proofs, or a crate;
 - each target that they give to make, and each file of tools/, wherever it is named;
-- each number of wrong bodies, against those that are there; docs/TESTS.md has to say how many stand where, and how
-  those of each crate are refused, in one row each or in one of several crates;
+- each number of mutants, against those that are there; docs/TESTS.md has to say how many stand where, and how those of
+  each crate are refused, in one row each or in one of several crates;
 - what it says that a crate prints, after `$ cd crates/NAME && rt try`, against the crate's stdout;
 - each block of Rust, against the sources: one has its lines, one after another, however far they are indented;
 - that each line of the crates.txt that it shows, but for one of `yours`, stands there.
@@ -155,8 +155,7 @@ def with_rooms(crates):
 
 
 def counts(everything):
-    """Returns how many wrong bodies the gate has, how many there are beside it, and the least and the most of a
-    crate."""
+    """Returns how many mutants the gate has, how many there are beside it, and the least and the most of a crate."""
     edits = collections.Counter(path.split("/")[2] for path in everything if matches(path, [GATE]))
     beside = sum(matches(path, ["strength/*.edit"]) and not matches(path, [CONTROLS, GATE]) for path in everything)
     return sum(edits.values()), beside + len(across.CASES), min(edits.values()), max(edits.values())
@@ -168,33 +167,32 @@ def value(word):
 
 
 def check_counts(document, text, counted):
-    """Expects that each number of wrong bodies in a text is right. `counted` is what `counts` returns."""
+    """Expects that each number of mutants in a text is right. `counted` is what `counts` returns."""
     gate, beside, least, most = counted
-    for number, more in re.findall(NUMBER + r" wrong bodies( more)?(?! in the gate)", text):
+    for number, more in re.findall(NUMBER + r" mutants( more)?(?! in the gate)", text):
         wanted = beside if more else gate
-        said = f"{number} wrong bodies{more}"
+        said = f"{number} mutants{more}"
         expect("numbers", value(number) == wanted, document, f"it says {said}, and there are {wanted}")
-    for low, high in re.findall(NUMBER + r" to " + NUMBER + r" (?:a crate|wrong bodies in the gate)", text):
+    for low, high in re.findall(NUMBER + r" to " + NUMBER + r" (?:a crate|mutants in the gate)", text):
         expect("numbers", (value(low), value(high)) == (least, most), document,
-               f"it says {low} to {high} wrong bodies a crate, and there are {least} to {most}")
+               f"it says {low} to {high} mutants a crate, and there are {least} to {most}")
 
 
-def places_of_wrong_bodies(everything):
-    """Returns what docs/TESTS.md says of each place of wrong bodies, with N for their number; and how many stand
-    there."""
+def places_of_mutants(everything):
+    """Returns what docs/TESTS.md says of each place of mutants, with N for their number; and how many stand there."""
     beside = [path.split("/")[1] for path in everything if matches(path, ["strength/*/*.edit"])]
     others = sum(beside.count(folder) for folder in ("tests", "controls", "gate"))
-    return {"The gate has N wrong bodies, in `strength/gate/NAME/`": counts(everything)[0],
+    return {"The gate has N mutants, in `strength/gate/NAME/`": counts(everything)[0],
             "tries N more, in `strength/NAME/`": len(beside) - others,
-            "The N right bodies in `strength/controls/`": beside.count("controls"),
+            "The N equivalent mutants in `strength/controls/`": beside.count("controls"),
             "`strength/NAME/`, and N across two crates": len(across.CASES),
             "The N that no contract can refuse[^.:]* are in `strength/tests/`": beside.count("tests")}
 
 
 def check_places(everything):
-    """Expects that docs/TESTS.md says once of each place of wrong bodies how many stand there."""
+    """Expects that docs/TESTS.md says once of each place of mutants how many stand there."""
     text = " ".join(read("docs/TESTS.md").split())
-    for sentence, wanted in places_of_wrong_bodies(everything).items():
+    for sentence, wanted in places_of_mutants(everything).items():
         said = re.findall(re.sub(r"\bN\b", lambda _: NUMBER, sentence), text)
         expect("numbers", [value(number.lower()) for number in said] == [wanted], "docs/TESTS.md",
                f"it says {said or 'no number'} in \"{sentence}\", and there are {wanted}")
@@ -202,8 +200,8 @@ def check_places(everything):
 
 
 def check_table_of_places(everything):
-    """Expects that the table of docs/TESTS.md has each crate with wrong bodies in one row. Each row must have the
-    number that is there."""
+    """Expects that the table of docs/TESTS.md has each crate with mutants in one row. Each row must have the number
+    that is there."""
     edits = [path for path in everything if matches(path, ["strength/*.edit"])
              and not matches(path, [CONTROLS, "strength/tests/*"])]
     crates = collections.Counter(path.split("/")[-2] for path in edits)
@@ -217,7 +215,7 @@ def check_table_of_places(everything):
         expect("numbers", all_of_it == at_goal + for_want == wanted, "docs/TESTS.md",
                f"it says {at_goal} and {for_want} of {all_of_it} for {', '.join(row)}, and there are {wanted}")
     expect("numbers", sorted(named) == sorted(crates), "docs/TESTS.md",
-           f"the table of wrong bodies has {', '.join(named)}, and these have some: {', '.join(sorted(crates))}")
+           f"the table of mutants has {', '.join(named)}, and these have some: {', '.join(sorted(crates))}")
 
 
 def check_document(document, everything, targets, known):
@@ -410,4 +408,4 @@ def compare():
     check_lines(everything)
     check_ways(everything)
     check_arrows()
-    return list(dict.fromkeys(COMPARED.faults)), COMPARED.told()
+    return list(dict.fromkeys(COMPARED.faults)), COMPARED.summary()

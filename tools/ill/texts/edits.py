@@ -1,12 +1,12 @@
-"""Compares the wrong bodies in strength/ with the sources that they change, and tries none.
+"""Compares the mutants in strength/ with the sources that they change, and tries none.
 
 Each old text of an edit must stand once in what the edit changes. That is the body of a function, or else a source, and
 then the edit must name the functions that are to be refused, and the crate must have them. So a source that changes
-takes its wrong bodies along.
+takes its mutants along.
 """
 import os
 
-from ill.bodies import BODIES
+from ill.bodies import MUTANTS
 from ill.repository import full, libraries, read
 from ill.strength import contracts
 from ill.strength.edits import BadEdit, changed
@@ -42,15 +42,15 @@ def fault_of(edit, crate, names):
     return f"the crate has no {missing[0]}, which must be refused" if missing else None
 
 
-def faults_of_bodies():
-    """Returns the faults of the wrong bodies that a script refuses: an old text that does not stand once in its source."""
-    return [f"tools/ill/bodies.py: {name}: {file} has not once: {old}" for name, _, _, file, changes in BODIES
+def faults_of_mutants():
+    """Returns the faults of the mutants that a script refuses: an old text that does not stand once in its source."""
+    return [f"tools/ill/bodies.py: {name}: {file} has not once: {old}" for name, _, _, file, changes in MUTANTS
             for old, _ in changes if read(full("crates", file)).count(old) != 1]
 
 
 def compare():
     """Returns the faults that were found, and how much was compared."""
-    faults, count = faults_of_bodies(), len(BODIES)
+    faults, count = faults_of_mutants(), len(MUTANTS)
     for crate in libraries():
         functions = contracts.functions_of(full("crates", crate))
         names = {path.rpartition("::")[2] for path in functions}
@@ -59,4 +59,4 @@ def compare():
             fault = fault_of(edit, crate, names)
             if fault:
                 faults.append(f"strength: {crate}/{edit.name}: {fault}")
-    return faults, f"the {count} wrong bodies that the prover or a script must refuse fit the sources that they change"
+    return faults, f"the {count} mutants that the prover or a script must refuse fit the sources that they change"

@@ -21,17 +21,18 @@ from ill.texts.words import HELP, MAN, body, find, named
 
 EXPLAIN = "crates/ill_explain/src"
 (SCRIPT, WORLD, WORDS, TEXT, BESIDE, SHOW, ROWS, LIST, NEWS, REPORT, SLIP, COUNTED, DESK, NIGHT, INBOX, FILES, KEY,
- COMMANDS, VISITS, MAIL, MAILBOX, SHELF, ROOM) = (
+ COMMANDS, VISITS, EXCHANGE, FOLDERS, SHELF, ROOM) = (
     f"crates/ill_{room}/src"
     for room in ("script", "world", "words", "text", "beside", "show", "rows", "list", "news", "report", "slip", "figures",
-                 "desk", "night", "inbox", "files", "key", "commands", "visits", "mail", "mailbox", "shelf", "room"))
+                 "desk", "night", "inbox", "files", "key", "commands", "visits", "exchange", "folders", "shelf", "room"))
 # The arguments that name a desk, or files of it, and those that name the file of a key.
 OF_DESKS = {"FILE", "PATH"}
 OF_KEYS = {"KEYFILE", "key"}
-# The sources of the commands on a file: what locks it is told by their bodies.
-FILED = (f"{COMMANDS}/commands.rt", f"{VISITS}/visits.rt", f"{COMMANDS}/note.rt", f"{MAIL}/exchange.rt", f"{MAIL}/rooms.rt")
+# The sources of the commands on a file: what locks it is found in their bodies.
+FILED = (f"{COMMANDS}/commands.rt", f"{VISITS}/visits.rt", f"{COMMANDS}/note.rt",
+         f"{EXCHANGE}/exchange.rt", f"{EXCHANGE}/rooms.rt")
 # The source of what a command does after it has opened what it works on.
-ENGINES = {"exchange": (f"{MAIL}/rooms.rt",)}
+ENGINES = {"exchange": (f"{EXCHANGE}/rooms.rt",)}
 FIGURES = ("one two three four five six seven eight nine ten eleven twelve thirteen fourteen fifteen sixteen "
            "seventeen eighteen nineteen twenty").split()
 NUMBER = r"(?<![\w.])(?:\d+(?:,\d{3})*|" + "|".join(FIGURES) + r")(?![\w])"
@@ -75,15 +76,15 @@ it has {first} to {qualifier} characters; has bytes: it has {qualifier} at most
 The item has bytes: it has {item} at most; The note has bytes: it has {item} at most
 a day has {day_digits} digits, as {day}; the years are {first_year} to {last_year}; last day of the calendar, {last_day}
 no number of a message: it is {first} to {last}; stand one to {days_digits} digits; counted from {zero}
-makes {made} desks at most; mail of one run makes {made} desks at most
+makes {made} desks at most
 which {roles} libraries hold; {key_groups} groups of four digits; has {key_groups} groups of four
 It has {key} bytes, and nobody but its owner; a key, which has {key} bytes; no file of a key: that has {key} bytes
 It has {sealed} bytes more; as many as fit into {letter} bytes; at most the first {letter_first} bytes of the letter
 `letter-` and {letter_digits} digits of its SHA
 so no loan can come to {roles} of them; as `%` and {escaped} digits; with % and {escaped} digits
 is {well} after `done`, and {refused} after `not-now`; is {well} if the shelf is saved, and {refused} with `exists`
-If none fails, it is {failed} if mails are left, {refused} if one was put aside or in conflict, else {well}.
-If none fails, it is {failed} if mails are left, or with; Else it is {refused} if a mail wants a person, or {well}.
+If none fails, it is {failed} if files are deferred, {refused} if one was quarantined or in conflict, else {well}.
+If none fails, it is {failed} if files are deferred, or with; Else it is {refused} if a file wants a person, or {well}.
 If DIR is no shelf, it is {refused} with `no-record`
 A due date is soon if it is at most {soon} days away
 """
@@ -96,14 +97,13 @@ KEY_FAULTS = ["key missing", "key unreadable", "key open", "key size", "key digi
 
 # What the sentences on the exit status of a command name, by the keys of STATUS below.
 CAUSES = {
-    "the desk is saved": "ok", "all mails are done": "ok", "one was put aside or in conflict": "refused",
+    "the desk is saved": "ok", "all files are done": "ok", "one was quarantined or in conflict": "refused",
     "the action is done": "ok", "each was taken, a repeat or stale": "ok", "the message is written": "ok",
     "the loan is shown": "ok", "the slip is written": "ok", "all messages are there": "ok",
     "the note is kept": "ok", "nothing wants a person": "ok",
     "the key is made, shown or read": "ok",
     "all of them are shown": "ok", "they are counted": "ok", "the whole script was performed": "ok",
     "it is refused": "refused", "one was anything else": "refused", "something does": "refused",
-    "a mail stays for the next run": "left",
     "a bad record": "record",
     "the input has a faulty message or too many": "der, too-many",
     "one has a fault or there are too many": "der, too-many", "a line that is no event and no use": "script",
@@ -112,15 +112,15 @@ CAUSES = {
 LINE_OF = {"ok": "well", "der": "tag at N", "script": "script at line N", "record": "record short"}
 # The causes of faults whose lines have other names, by their variants.
 CAUSE_OF = {"ToolFault::Der": "der", "ToolFault::Script": "script", "DeskFault::Saved": "record"}
-# Faults of a desk that no command tells as a fault: refusals are outcomes, and no command gives a desk bytes.
-UNTOLD = {"DeskFault::Core", "DeskFault::DeskFull", "DeskFault::Bytes", "DeskFault::Trailing"}
+# Faults of a desk that no command prints as a fault: refusals are outcomes, and no command gives a desk bytes.
+UNPRINTED = {"DeskFault::Core", "DeskFault::DeskFull", "DeskFault::Bytes", "DeskFault::Trailing"}
 
 # The variants whose words `act` and `take` may write, beside `done` and what all desks answer.
 ACTED = ["NotNow", "DateEarlier", "DateNotLater", "NotDue", "NotExpired", "NumbersUsed"]
 TAKEN = ["Taken", "Repeat", "Stale", "Conflict", "WrongRole", "NumbersUsed"]
 AT_DESKS = ["NoSuchTransaction", "DeskFull"]
 # The forms of an argument of an action or an event, by the call that reads it.
-FORMS = {"yes": ["yes", "no"], "landed": ["old", "new"], "optional_day": ["WISHED"], "read": ["RESULT"],
+FORMS = {"yes": ["yes", "no"], "committed": ["old", "new"], "optional_day": ["WISHED"], "read": ["RESULT"],
          "due": ["DUE"], "number": ["NUMBER"], "bytes": ["HEX"], "request": ["EXPIRY ITEM"], "bare": [""]}
 # Words in capitals that stand for others.
 CAPITALS = set("ACL APDU APDUs ASCII COMMAND CSV DAY DAYS DER DESK DIGEST DIR DUE EXPIRY FILE FOLDER GROUP HEX HTML ILL IN "
@@ -160,8 +160,8 @@ def numbers_of():
         "loans": constant("SIDES_LIMIT", f"{record}/sides.rt"), "messages": constant("MAX_APDUS", f"{TEXT}/input.rt"),
         "many": constant("MANY", f"{VISITS}/listing.rt"), "few": constant("FEW", f"{SHOW}/numbers.rt"),
         "soon": constant("SOON", f"{ROWS}/soon.rt"),
-        "mails": constant("MAILS", f"{MAILBOX}/mail.rt"),
-        "longer": constant("APDU_LIMIT", f"{der}/header.rt") + constant("LINE_END", f"{MAILBOX}/mail.rt") + 1,
+        "mails": constant("MESSAGE_FILES", f"{FOLDERS}/message_file.rt"),
+        "longer": constant("APDU_LIMIT", f"{der}/header.rt") + constant("LINE_END", f"{FOLDERS}/message_file.rt") + 1,
         "longest": constant("APDU_LIMIT", f"{der}/header.rt"), "shortest": shortest,
         "lines": constant("MAX_LINES", f"{SCRIPT}/simulation.rt"), "line": constant("MAX_LINE", f"{SCRIPT}/lines.rt"),
         "qualifier": constant("QUALIFIER_LIMIT", f"{values}/text.rt"),
@@ -233,10 +233,10 @@ SOURCES = {"ToolFault": f"{TEXT}/fault.rt", "DeskFault": "crates/ill_saved/src/f
 
 
 def told_faults(kind="ToolFault"):
-    """Yields the text of each fault that a command tells, with the variant that has its status."""
+    """Yields the text of each fault that a command prints, with the variant that has its status."""
     for name, (text, inner) in texts_of(kind, SOURCES[kind]).items():
         variant = f"{kind}::{name}"
-        if variant in UNTOLD or name == "OutOfMemory" and kind != "ToolFault":
+        if variant in UNPRINTED or name == "OutOfMemory" and kind != "ToolFault":
             continue
         if inner in SOURCES:
             yield from ((text.replace("{0}", below), of if variant == "ToolFault::Desk" else variant)
@@ -252,8 +252,8 @@ def status_of(cause):
 
 def source_of(command):
     """Returns the path of the source of a command: it stands in one of the crates of the program."""
-    crates = (TEXT, SHOW, ROWS, LIST, NEWS, REPORT, SLIP, COUNTED, DESK, NIGHT, INBOX, FILES, KEY, COMMANDS, MAIL,
-              SHELF, "crates/ill_tool/src")
+    crates = (TEXT, SHOW, ROWS, LIST, NEWS, REPORT, SLIP, COUNTED, DESK, NIGHT, INBOX, FILES, KEY, COMMANDS,
+              EXCHANGE, SHELF, "crates/ill_tool/src")
     found = [path for path in (f"{crate}/{command}.rt" for crate in crates) if os.path.exists(repository.full(path))]
     if len(found) != 1:
         raise Unread(f"{command}.rt: it stands {len(found)} times in {', '.join(crates)}")
@@ -264,7 +264,7 @@ def causes_of(command, arguments):
     """Returns the causes of the ends that a command may have, by its arguments and by what its source calls."""
     name = command.replace("-", "_")
     source = "".join(read(path) for path in (source_of(command.partition("-")[0]), *ENGINES.get(command, ())))
-    call = find(rf"=>[\s{{]*(?:all_well\()?(?:run_)?{name}(?:_as|_with)?\(((?:[^()]|\([^()]*\))*)\)",
+    call = find(rf"=>[\s{{]*(?:all_succeed\()?(?:run_)?{name}(?:_as|_with)?\(((?:[^()]|\([^()]*\))*)\)",
                 "crates/ill_tool/src/words.rt")[1]
     found = {"ok", "write", "memory"} | ({"read"} if "reader" in call else set())
     if OF_DESKS & set(arguments):
@@ -279,7 +279,7 @@ def causes_of(command, arguments):
     if "key" in arguments and "read" in found:
         found.add("not-sealed")
     called = {"handle_input(": {"der", "too-many"}, "refused(": {"refused"}, "wants_person(": {"refused"},
-              "tell_tally(": {"left"}, "Err(ToolFault::Left)": {"left"}, f" {name}(alloc": {"script"},
+              "print_tally(": {"left"}, "Err(ToolFault::Deferred)": {"left"}, f" {name}(alloc": {"script"},
               "DeskFault::NoSuchTransaction)": {"no-such-transaction"},
               "desk.message_of(": {"no-such-transaction", "no-such-message", "not-saved"}}
     return found.union(*(more for word, more in called.items() if word in source))
@@ -426,16 +426,17 @@ def compare_number(key, said, numbers, place):
 
 
 def compare_faults(text):
-    """Expects in the list of `ill --help` each fault that a command tells, with its status. The program has to know
+    """Expects in the list of `ill --help` each fault that a command prints, with its status. The program has to know
     each fault of the sources."""
-    expect_same("lists", sorted(command_line.faults()), sorted(told for told, _ in told_faults()), "ill help --json: the faults")
-    wanted = {(status_of(told), told) for told in command_line.faults()}
+    expect_same("lists", sorted(command_line.faults()), sorted(printed for printed, _ in told_faults()),
+                "ill help --json: the faults")
+    wanted = {(status_of(printed), printed) for printed in command_line.faults()}
     wanted |= {(status_of(cause), "-") for cause in ("ok", "refused", "arguments")}
     lines = table(text, "The exit status, and the line of a fault")
     found = {(int(line[0]), re.split(r"  +", line)[1]) for line in lines}
-    for status, told in sorted(wanted | found, key=str):
-        expect("statuses", (status, told) in found, f"ILL: the list of faults lacks {status}  {told}")
-        expect("statuses", (status, told) in wanted, f"ILL: no command ends with {status}  {told}")
+    for status, printed in sorted(wanted | found, key=str):
+        expect("statuses", (status, printed) in found, f"ILL: the list of faults lacks {status}  {printed}")
+        expect("statuses", (status, printed) in wanted, f"ILL: no command ends with {status}  {printed}")
 
 
 def compare_status(name, text, wanted):
@@ -452,19 +453,19 @@ def compare_status(name, text, wanted):
     return joined(text).replace(said[0], "") if said else joined(text)
 
 
-def told_of_all(text):
-    """Returns what `ill --help` tells that any command may end with, any command on a desk, any of these but `new`, and
+def listed_for_all(text):
+    """Returns what `ill --help` says that any command may end with, any command on a desk, any of these but `new`, and
     any command with a key."""
     said = re.search(r"Any command may end with (.*?)\. One on a FILE, PATH or DIR may also end with (.*?), and each of "
                      r"these but `new` with (.*?)\. One with a KEYFILE may also end with (.*?)\.", joined(text))
     if said is None:
-        raise Unread("ILL: it does not tell what any command may end with")
+        raise Unread("ILL: it does not say what any command may end with")
     return [set(causes_in(part, "ILL")) for part in said.groups()]
 
 
 def ends_of_all(text, command, own):
-    """Returns what `ill --help` tells that a command may end with, by its arguments."""
-    of_any, of_desks, of_old_desks, of_keys = told_of_all(text)
+    """Returns what `ill --help` says that a command may end with, by its arguments."""
+    of_any, of_desks, of_old_desks, of_keys = listed_for_all(text)
     return of_any | (of_desks if OF_DESKS & set(own) else set()) \
         | (of_old_desks if OF_DESKS & set(own) and command != "new" else set()) \
         | (of_keys if OF_KEYS & set(own) else set())
@@ -491,8 +492,8 @@ def compare_lists(text, arguments):
     lists, words = lists_of(arguments)
     for name, pattern, wanted in lists:
         expect_same("lists", listed(text[name], pattern, name), wanted, f"{name}: \"{pattern}\"")
-    for name, after, told in (("ACT", "OUTCOME says why:", ACTED), ("TAKE", "as that of\n`ill act`:", TAKEN)):
-        wanted = sorted(words[it] for it in told + AT_DESKS)
+    for name, after, printed in (("ACT", "OUTCOME says why:", ACTED), ("TAKE", "as that of\n`ill act`:", TAKEN)):
+        wanted = sorted(words[it] for it in printed + AT_DESKS)
         expect_same("lists", sorted(heads(table(text[name], after))), wanted, f"{name}: the outcomes")
     lines = heads(table(text["STATUS"], "if the desk has no loan:"))
     expect_same("lists", lines, status_labels(), "STATUS: the lines")
@@ -524,8 +525,8 @@ def lists_of(arguments):
     marks = dict.fromkeys(re.findall(r'push_mark\(&mut marks, .*?"([\w-]+)"', read(f"{SHOW}/marks.rt")))
     refusals = named("Refusal", read(f"{core}/refusal.rt"))
     at_desks = named("DeskOutcome", read(f"{WORDS}/outcome.rt"))
-    untold = sorted(set(refusals) - set(ACTED + TAKEN))
-    expect_same("lists", ["OtherTransaction", "OutOfMemory"], untold, "the refusals that no desk tells")
+    unprinted = sorted(set(refusals) - set(ACTED + TAKEN))
+    expect_same("lists", ["OtherTransaction", "OutOfMemory"], unprinted, "the refusals that no desk prints")
     words = refusals | named("Taking", read(f"{core}/taking.rt")) | at_desks
     return [("ILL", r"on one file\. (.*?) wait for each other", locking),
             ("ILL", r"until its input ends\. (.*?) wait for nobody", [it for it in filed if it not in locking]),
@@ -594,10 +595,10 @@ def compare_words(named_texts, words, arguments):
     counted = set(re.findall(r"(\w+) \{\1\}", read(f"{INBOX}/tally.rt")))
     staying = {f"NAME {word} REASON" for word in re.findall(r'b" (\w+) "', read(f"{NIGHT}/verdict.rt"))}
     sent = {f"{word} N" for word in re.findall(r'"(\w+) \{\w+\}\\n"', read(f"{INBOX}/objects.rt"))}
-    told = {text for text, _ in told_faults()}
-    told |= set(re.findall(r'b"(changed) "', read("crates/ill_desk/src/act_as.rt")))
-    told |= set(re.findall(r'b"(news:)"', read(f"{LIST}/morning.rt")))
-    known = words | labels | counted | staying | sent | verbs_known | set(arguments) | told | set(files) | {
+    printed = {text for text, _ in told_faults()}
+    printed |= set(re.findall(r'b"(changed) "', read("crates/ill_desk/src/act_as.rt")))
+    printed |= set(re.findall(r'b"(news:)"', read(f"{LIST}/morning.rt")))
+    known = words | labels | counted | staying | sent | verbs_known | set(arguments) | printed | set(files) | {
         "done", "none", "-", "--", "--today", "--explain", "--help", "ill --help", "#", "+N", "ill: ",
         "ill COMMAND --help", "act --new-group", "_", "%", "PATH:", "letter-"}
     for name, text in named_texts.items():
@@ -622,12 +623,12 @@ def compare():
     words = compare_lists(text, arguments)
     for command, own in arguments.items():
         name = command.replace("-", "_").upper()
-        wanted, told = causes_of(command, own), ends_of_all(text["ILL"], command, own)
-        expect_same("statuses", sorted(told - wanted - {"arguments"}), [], f"ILL: {command} does not end with")
-        text[name] = compare_status(name, text[name], wanted - told)
+        wanted, listed = causes_of(command, own), ends_of_all(text["ILL"], command, own)
+        expect_same("statuses", sorted(listed - wanted - {"arguments"}), [], f"ILL: {command} does not end with")
+        text[name] = compare_status(name, text[name], wanted - listed)
     text["ILL"] = re.sub(r"(?m)^  \d  (\S+ )*", "", text["ILL"])
     compare_words(text, words, arguments)
     compare_explanations()
     compare_options()
     compare_numbers(text | {MAN: manual(), "explain": explanations()}, numbers_of())
-    return COMPARED.faults, f"the help and the sources have the same {COMPARED.told()}"
+    return COMPARED.faults, f"the help and the sources have the same {COMPARED.summary()}"

@@ -64,5 +64,5 @@ def compare():
                 COMPARED.expect("sentences", is_short,
                                 f"{document}:{number}: {words(sentence)} words in one sentence: {sentence[:60]}..")
     long = sum(map(len, LONG.values()))
-    return COMPARED.faults, (f"{COMPARED.told()} of the documents have at most {LIMIT} words each, but for {long}, "
+    return COMPARED.faults, (f"{COMPARED.summary()} of the documents have at most {LIMIT} words each, but for {long}, "
                              f"and {counted} words together")

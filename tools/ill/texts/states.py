@@ -13,7 +13,7 @@ SPEC = "crates/ill_beside/specs/StateWords.antt"
 CHOICE = re.compile(r'if (\w+) then codes "([^"]*)" else codes "([^"]*)"')
 
 
-def told(role, names):
+def documented(role, names):
     """Returns the words of the document: by the state, its mark and whether the mark is set, or None without a mark."""
     found = {}
     for place, cells in table_lines(f"{SECTION[role]}.2 Its states"):
@@ -42,7 +42,7 @@ def compare():
     names = {name: variant for variant, (_, name) in read_states().items()}
     faults, count = [], 0
     for role in SECTION:
-        said, other = told(role, names), defined(role)
+        said, other = documented(role, names), defined(role)
         count += len(said)
         for key in sorted(set(said) | set(other), key=str):
             if said.get(key) != other.get(key):

@@ -349,7 +349,7 @@ def labelled(label, place):
 
 # The comparison.
 
-def told(row, names, masks):
+def shown_row(row, names, masks):
     """Returns what a row says, in the document's names of states and in the source's names of facts and changes."""
     states = "any state" if row.states == ANY else ", ".join(name for name, bit in names.items() if row.states & bit)
     then = next((f"To {name}" for name, bit in names.items() if bit == row.then), row.then)
@@ -368,8 +368,8 @@ def compare_rows(table, source, written, names, masks):
     for kind, rows in source.items():
         for one, other in zip(rows, lines[kind]):
             if one[1:] != other[1:]:
-                faults.append(f"{one.place}: {kind}: {told(one, names, masks)}; but {other.place} says "
-                              f"{told(other, names, masks)}")
+                faults.append(f"{one.place}: {kind}: {shown_row(one, names, masks)}; but {other.place} says "
+                              f"{shown_row(other, names, masks)}")
         if len(rows) != len(lines[kind]):
             faults.append(f"{(rows + lines[kind])[-1].place}: the source has {len(rows)} rows of {kind}, and "
                           f"{PAGE}, {table.heading}, has {len(lines[kind])}")

@@ -1,4 +1,4 @@
-r"""Writes the words of the program into the man page and the completions, from what it tells of its command line.
+r"""Writes the words of the program into the man page and the completions, from what it says of its command line.
 
 It reads commands, arguments, options and tables of the help as the module `command_line` has them. It writes
 completions/ill.bash, _ill and ill.fish whole, from the texts at the end of this file. In man/ill.1 it writes the

@@ -37,7 +37,7 @@ def tables(heading=HEADING):
             rows = []
 
 
-def told(rows, names):
+def documented(rows, names):
     """Returns what a table says of each state: for each of its lines the mark, what holds on the day, and the work."""
     lines, states, mark = {}, [], None
     for place, (first, day, work) in rows:
@@ -51,9 +51,9 @@ def told(rows, names):
     return lines
 
 
-def work_told(lines, facts):
+def documented_work(lines, facts):
     """Returns the work of the first of these lines whose mark and day fit the facts, or None if none does. A line is
-    one that `told` returns."""
+    one that `documented` returns."""
     return next((work for mark, asked, work in lines
                  if (mark is None or facts[mark[0]] == mark[1]) and (asked is None or facts[asked])), None)
 
@@ -79,14 +79,14 @@ def work_defined(said, facts):
 
 def compare_role(role, rows, names):
     """Yields a fault for each state of a role that has no line, or whose line and definition differ."""
-    said, defined = told(rows, names), definitions(role)
+    said, defined = documented(rows, names), definitions(role)
     listed = [names[cells[0].split(", ")[0]] for _, cells in table_lines(f"{SECTION[role]}.2 Its states")]
     for state in sorted(set(listed) ^ set(said)):
         yield f"{PAGE}: the work of a {role} has " + ("no line of " if state in listed else "a line of ") + state
     for state, lines in said.items():
         for values in itertools.product([False, True], repeat=len(FACTS)):
             facts = dict(zip(FACTS, values))
-            work, other = work_told(lines, facts), work_defined(defined.get(state, defined["other"]), facts)
+            work, other = documented_work(lines, facts), work_defined(defined.get(state, defined["other"]), facts)
             if work != other:
                 yield f"{PAGE}: the work of a {role} in {state} is {other}, and not {work}"
                 break

@@ -40,8 +40,8 @@ pub fn turns_have_verbs()
         responder_verbs y ≡ [] }
 {}
 
-/// A side that waits for the other has only verbs that may be early: cancel, return, expire, overdue and recall. So a side
-/// with a request, an answer or a receipt to give does not wait.
+/// A side that waits for the other has only verbs that may be early: cancel, return, expire, overdue and recall. So a
+/// side with a request, an answer or a receipt to give does not wait.
 pub fn who_waits_has_early_verbs()
     ensures requester { (x : RequesterRecord) → requester_turn x ≡ Theirs →
         list_all may_be_early (requester_verbs x) ≡ true }

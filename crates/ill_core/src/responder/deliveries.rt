@@ -4,7 +4,7 @@ ghost use Rattle.std.specs.Prelude.{◌≡◌, true, OnOk, OnErr, IfErr, None, f
 ghost use Rattle.ill_values.specs.Bodies.{names_conditions};
 ghost use Rattle.ill_core.specs.Issued.{is_same_txn, is_message_with};
 ghost use Rattle.ill_core.specs.Tables.{are_met};
-ghost use Rattle.ill_core.specs.ResponderDeliveries.{MayWantMemory, takes_memory, take_message};
+ghost use Rattle.ill_core.specs.ResponderDeliveries.{MayRunOutOfMemory, takes_memory, take_message};
 ghost use Rattle.ill_core.specs.ResponderTables.{request_after, issued_after, number_refusal, IsRefused, reply_guards, past_guards, delivery_guards, delivery_rows, delivery_row};
 
 use super::Responder;
@@ -81,7 +81,7 @@ pub fn take_message(
     apdu: &Apdu,
 ) -> Result<Taking, Refusal>
     requires same { is_same_txn apdu.now.txn responder.old.txn ≡ true }
-    ensures { MayWantMemory (take_message responder.old apdu.now apdu.now.body)
+    ensures { MayRunOutOfMemory (take_message responder.old apdu.now apdu.now.body)
         (takes_memory responder.old apdu.now.body) responder.old result responder.new }
 {
     let state = responder.standing.state;

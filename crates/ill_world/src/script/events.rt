@@ -6,7 +6,7 @@ ghost use Rattle.ill_world.specs.Script.{event_of, deed_event, side_event, bare_
 use crate::event::Event;
 use ill_saved::Role;
 use ill_values::OutOfMemory;
-use ill_words::words::{bytes, day, deed, is, landed, number, who, wish};
+use ill_words::words::{bytes, committed, day, deed, is, number, who, wish};
 use std::alloc::Global;
 
 /// Returns the event that the words say, if they say one.
@@ -80,7 +80,7 @@ fn event_with_word(
     ensures { IfOk result (λ event. event ≡ event_with verb.now word.now who) }
 {
     if is(verb, "save-fault") {
-        Ok(landed(word).map(|landed| Event::SaveFault { who, landed }))
+        Ok(committed(word).map(|landed| Event::SaveFault { who, landed }))
     } else if is(verb, "send") {
         Ok(number(word).map(|number| Event::Send(who, number)))
     } else if is(verb, "deliver") {

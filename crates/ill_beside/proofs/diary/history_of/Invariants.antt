@@ -1,12 +1,12 @@
 -- States the loop invariant and the measure of `history_of` (`src/diary.rt`).
 use Rattle.std.proofs.Common.{◌≡◌, ◌++◌, length, map}
-use Rattle.ill_beside.specs.Diary.{history_of, named, told}
+use Rattle.ill_beside.specs.Diary.{history_of, named, printed}
 use Rattle.ill_beside.proofs.diary.history_of.Given as goal
 
 -- `parts` and the history by the lines that are left are the whole history.
 abbrev pub invariant-loop-line : goal.invariant-loop-line
 invariant-loop-line l = record {
-  whole : map told l.parts.items ++ history_of (map named l.messages) (map (λ line. line.items) l.rest)
+  whole : map printed l.parts.items ++ history_of (map named l.messages) (map (λ line. line.items) l.rest)
       ≡ history_of (map named l.messages) (map (λ line. line.items) l.lines);
 }
 

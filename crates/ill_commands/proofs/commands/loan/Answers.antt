@@ -15,5 +15,5 @@ returns g c =
         diary = lines_of c.in_ok-diary.diary;
         came = c.deref.result.now;
       },
-      (c.run_desk_loan-shown.result, c.run_desk_loan-shown.ensures, c.all_well.ensures),
+      (c.run_desk_loan-shown.result, c.run_desk_loan-shown.ensures, c.all_succeed.ensures),
     )

@@ -8,5 +8,5 @@ returns g c =
     inr (
       c.in_ok-desk.desk,
       c.in_ok-desk.ensures.starts,
-      (c.run_desk_send-sent.result, c.run_desk_send-sent.ensures, c.all_well.ensures),
+      (c.run_desk_send-sent.result, c.run_desk_send-sent.ensures, c.all_succeed.ensures),
     )

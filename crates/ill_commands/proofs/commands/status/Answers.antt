@@ -8,5 +8,5 @@ returns g c =
     inr (
       c.in_ok-desk.desk,
       c.in_ok-desk.ensures.starts,
-      (c.run_desk_status_as-shown.result, c.run_desk_status_as-shown.ensures, c.all_well.ensures),
+      (c.run_desk_status_as-shown.result, c.run_desk_status_as-shown.ensures, c.all_succeed.ensures),
     )

@@ -8,5 +8,5 @@ returns g c =
     inr (
       c.in_ok-store.store,
       c.in_ok-store.ensures,
-      (c.run_desk_verify-verified.result, c.run_desk_verify-verified.ensures.verifies, c.all_well.ensures),
+      (c.run_desk_verify-verified.result, c.run_desk_verify-verified.ensures.verifies, c.all_succeed.ensures),
     )

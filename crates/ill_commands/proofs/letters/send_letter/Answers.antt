@@ -9,5 +9,5 @@ returns g c =
       c.in_ok-desk.desk,
       c.in_ok-desk.ensures.starts,
       _,
-      (c.send_letter_of-sent.result, c.send_letter_of-sent.ensures, c.all_well.ensures),
+      (c.send_letter_of-sent.result, c.send_letter_of-sent.ensures, c.all_succeed.ensures),
     )

@@ -13,4 +13,4 @@ returns g c =
     (kept_line c.args.view.now.txn.now (text_of c.args.view.now)) (g.W.Write.contents c.args.machine.now.writer)
     (g.W.Write.contents c.keep_if_held-kept.new.machine.writer) c.keep_if_held-kept.result) c.sides.ensures.value
     c.keep_if_held-kept.ensures in
-    inr (desk, c.in_ok-locked.ensures.starts, (c.keep_if_held-kept.result, kept, c.all_well.ensures))
+    inr (desk, c.in_ok-locked.ensures.starts, (c.keep_if_held-kept.result, kept, c.all_succeed.ensures))

@@ -4,4 +4,4 @@ use Rattle.ill_disk.proofs.Saves.{unflushed_names_return}
 use Rattle.ill_disk.proofs.laws.each_flush_of_a_save_counts.Goals as goal
 
 pub returns-clause-names : goal.returns-clause-names
-returns-clause-names c aside path bytes d found whole left = unflushed_names_return aside path bytes d found whole left
+returns-clause-names c temporary path bytes d found whole left = unflushed_names_return temporary path bytes d found whole left

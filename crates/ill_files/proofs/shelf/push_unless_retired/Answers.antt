@@ -5,7 +5,8 @@ use Rattle.ill_files.specs.ShelfNames.{IsOnShelf}
 use Rattle.ill_files.proofs.DesksLemmas.{one_more}
 use Rattle.ill_files.proofs.shelf.push_unless_retired.Goals as goal
 
--- Proves the contract of `push_unless_retired` if the group is not retired. The path is that of the desk in this folder.
+-- Proves the contract of `push_unless_retired` if the group is not retired. The path is that of the desk in this
+-- folder.
 pub returns : goal.returns
 returns g c = λ is_named all.
     one_more (IsOnShelf c.args.folder.now) (λ path. string_bytes path) c.args.desks.now.items c.push.new.self.items

@@ -5,7 +5,8 @@ use Rattle.ill_line.specs.Asked.{ReadsValue, asked, asked_in}
 use Rattle.ill_line.proofs.RequestLemmas.{subcommand_met}
 use Rattle.ill_line.proofs.request.found.Goals as goal
 
--- Proves the contract of `found` if the parser met a subcommand. By `subcommand_met` `named` gets its name and its rows.
+-- Proves the contract of `found` if the parser met a subcommand. By `subcommand_met` `named` gets its name and its
+-- rows.
 pub returns-in-Some : goal.returns-in-Some
 returns-in-Some c =
     let met = subcommand_met c.args.matches.now c.in-Some.word.now (rows_of (found_of c.in-Some.matches.now))

@@ -2,7 +2,7 @@
 use Rattle.std.proofs.Common.{◌≡◌, ◌++◌, take, Bor}
 use Rattle.std.specs.List.{flat_map}
 use Rattle.ill_record.specs.declared.side.Side.{Side}
-use Rattle.ill_list.specs.Listing.{told_morning}
+use Rattle.ill_list.specs.Listing.{printed_morning}
 use Rattle.ill_beside.specs.Since.{annex_of}
 use Rattle.ill_list.proofs.list.push_morning_rows.Given as goal
 
@@ -10,6 +10,6 @@ use Rattle.ill_list.proofs.list.push_morning_rows.Given as goal
 abbrev pub invariant-loop-side : goal.invariant-loop-side
 invariant-loop-side l = record {
   listed : l.lines.items ≡ l.initial.lines.items
-      ++ flat_map (λ (side : Bor Side). told_morning l.rows.columns (annex_of l.rows.annex.now) l.wanted side.now)
+      ++ flat_map (λ (side : Bor Side). printed_morning l.rows.columns (annex_of l.rows.annex.now) l.wanted side.now)
       (take l.side-index l.sides);
 }

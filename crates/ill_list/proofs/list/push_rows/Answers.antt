@@ -4,7 +4,7 @@ use Rattle.std.specs.List.{flat_map}
 use Rattle.std.proofs.lemmas.List.{take_all}
 use Rattle.std.proofs.lemmas.List.Folds.{flat_map-map}
 use Rattle.ill_record.specs.declared.side.Side.{Side}
-use Rattle.ill_list.specs.Listing.{told_row}
+use Rattle.ill_list.specs.Listing.{printed_row}
 use Rattle.ill_beside.specs.Since.{annex_of}
 use Rattle.ill_list.proofs.list.push_rows.Goals as goal
 
@@ -13,7 +13,7 @@ pub returns : goal.returns
 returns c =
     let sides = c.args.sides.now in
     let old = c.args.lines.now.items in
-    let text = told_row c.args.rows.now.columns (annex_of c.args.rows.now.annex.now) c.args.wanted.now in
+    let text = printed_row c.args.rows.now.columns (annex_of c.args.rows.now.annex.now) c.args.wanted.now in
     c.loop-side.invariant.listed
     ∙ ap (λ (shown : _). old ++ flat_map (λ (side : Bor Side). text side.now) shown)
     (take_all c.loop-side.side-index sides c.loop-side-test.false)

@@ -5,7 +5,7 @@ use Rattle.ill_saved.specs.ManySides.{sides_held}
 use Rattle.ill_text.specs.Output.{WritesText}
 use Rattle.ill_text.specs.declared.form.Form.{Form}
 use Rattle.ill_list.specs.Seeking.{seeking_of}
-use Rattle.ill_rows.specs.Heading.{between, gap, heading, file_told}
+use Rattle.ill_rows.specs.Heading.{between, gap, heading, file_printed}
 use Rattle.ill_list.specs.Listing.{list_lines, list_objects, listed_desk}
 use Rattle.ill_list.proofs.list.run_desk_list.Goals as goal
 
@@ -36,7 +36,7 @@ returns-in-Json g c =
     let before = g.W.Write.contents c.args.writer.now in
     let after = g.W.Write.contents c.write_objects.new.writer in
     let written = subst (λ (sides : SidesOf). WritesText before after
-    (list_objects (file_told listed.is_headed listed.path.now) wanted seeking sides.sides) c.write_objects.result)
+    (list_objects (file_printed listed.is_headed listed.path.now) wanted seeking sides.sides) c.write_objects.result)
     c.sides-in-Json.ensures.value c.write_objects.ensures in
     subst (λ (form : Form). WritesText before after (between form listed.is_first
     ++ listed_desk form listed.is_headed wanted seeking listed.path.now held.sides) c.write_objects.result) (sym c.in-Json.is)

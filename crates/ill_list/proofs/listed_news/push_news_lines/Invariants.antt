@@ -7,5 +7,5 @@ use Rattle.ill_list.proofs.listed_news.push_news_lines.Given as goal
 -- The lines of the messages so far are appended.
 abbrev pub invariant-loop-apdu : goal.invariant-loop-apdu
 invariant-loop-apdu l = record {
-  told : l.lines.items ≡ l.initial.lines.items ++ flat_map (news_line l.side) (take l.apdu-index l.kept);
+  printed : l.lines.items ≡ l.initial.lines.items ++ flat_map (news_line l.side) (take l.apdu-index l.kept);
 }

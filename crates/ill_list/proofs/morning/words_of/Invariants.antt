@@ -7,5 +7,5 @@ use Rattle.ill_list.proofs.morning.words_of.Given as goal
 -- `text` has the words of the messages so far.
 abbrev pub invariant-loop-apdu : goal.invariant-loop-apdu
 invariant-loop-apdu l = record {
-  told : l.text.items ≡ fold (with_words l.side) [] (take l.apdu-index l.kept);
+  printed : l.text.items ≡ fold (with_words l.side) [] (take l.apdu-index l.kept);
 }

@@ -7,6 +7,6 @@ use Rattle.ill_news.proofs.deeds.push_all.Given as goal
 -- The messages of the sides so far that dates have made due are appended.
 abbrev pub invariant-loop-side : goal.invariant-loop-side
 invariant-loop-side l = record {
-  told : l.news.items ≡ l.initial.news.items ++ deeds_since (Some l.day) l.diary
+  printed : l.news.items ≡ l.initial.news.items ++ deeds_since (Some l.day) l.diary
       (map (λ (side : Bor Side). side.now) (take l.side-index l.sides));
 }

@@ -7,6 +7,6 @@ use Rattle.ill_news.proofs.deeds.push_issued.Given as goal
 -- The messages so far that dates have made due are appended.
 abbrev pub invariant-loop-apdu : goal.invariant-loop-apdu
 invariant-loop-apdu l = record {
-  told : l.news.items ≡ l.initial.news.items
+  printed : l.news.items ≡ l.initial.news.items
       ++ filter (is_deed_since l.day l.diary) (take l.apdu-index l.issued);
 }

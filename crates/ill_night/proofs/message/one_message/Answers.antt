@@ -1,7 +1,7 @@
 -- Answers the contract of `one_message` (`src/message.rt`).
 use Rattle.std.proofs.Common.{rules, ◌+◌, ◌≤◌, length}
 use Rattle.ill_der.specs.ShortForm.{apdu_at}
-use Rattle.ill_night.proofs.MailsLemmas.{trailing_unfit}
+use Rattle.ill_night.proofs.MessageFilesLemmas.{trailing_unfit}
 use Rattle.ill_night.proofs.message.one_message.Goals as goal
 
 -- Proves the contract of `one_message` if bytes follow the APDU. By `trailing_unfit` the fault is `Trailing`.

@@ -2,8 +2,8 @@
 use Rattle.ill_night.proofs.OutboxLemmas.{stream_written}
 use Rattle.ill_night.proofs.outbox.run_desk_outbox_stream.Goals as goal
 
--- Proves the contract of `run_desk_outbox_stream` if all mails are put on the stream. By `stream_written` their bytes
--- are written.
+-- Proves the contract of `run_desk_outbox_stream` if all message files are put on the stream. By `stream_written` their
+-- bytes are written.
 pub returns-in-Ok : goal.returns-in-Ok
 returns-in-Ok g c =
     stream_written c.args.asking.now c.args.desk.now.live.held c.new.result.items c.run_desk_outbox.new.out.bytes.items

@@ -13,7 +13,7 @@ returns c =
     let run = c.each_history_is_a_run.ensures later history in
     good_night c.desk_events_are_events.ensures c.desks_reach_what_they_hold.ensures c.desks_stand.ensures.after
     c.few_desk_outcomes_change.ensures c.prefix_or_fault.ensures c.read_again.ensures txn (c.world_stands.ensures.after txn)
-    (c.a_night_with_people_is_enough.ensures.in_step txn) c.each_command_is_events.ensures
+    (c.a_night_with_people_is_enough.ensures.converged txn) c.each_command_is_events.ensures
     c.each_history_leads_on.ensures (desks_run first_desks run.0)
     (desks_stand_on c.desks_stand.ensures.after first_desks run.0 c.desks_stand.ensures.first)
     (libraries_after first_libraries later) after run.1 good can

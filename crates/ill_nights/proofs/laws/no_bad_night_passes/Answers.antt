@@ -1,4 +1,5 @@
--- Proves the clause `done` of `no_bad_night_passes` (`src/laws.rt`): of mail that is done with, none is left undone.
+-- Proves the clause `done` of `no_bad_night_passes` (`src/laws.rt`): of the message files that are done with, none is
+-- left undone.
 use Rattle.ill_nights.proofs.BadNights.{none_undone}
 use Rattle.ill_nights.proofs.laws.no_bad_night_passes.Goals as goal
 

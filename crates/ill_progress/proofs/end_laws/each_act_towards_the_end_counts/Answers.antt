@@ -1,4 +1,5 @@
--- Proves the contract of `each_act_towards_the_end_counts` (`src/end_laws.rt`). The lemma `act_day` says what a day does.
+-- Proves the contract of `each_act_towards_the_end_counts` (`src/end_laws.rt`). The lemma `act_day` says what a day
+-- does.
 use Rattle.ill_progress.proofs.EndsNights.{RowsKeep}
 use Rattle.ill_progress.proofs.EndsDays.{OneEach}
 use Rattle.ill_progress.proofs.EndsWorlds.{Nights, act_day}

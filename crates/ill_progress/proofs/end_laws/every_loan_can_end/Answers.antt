@@ -1,5 +1,5 @@
--- Proves the clauses `stands` and `run` of `every_loan_can_end` (`src/end_laws.rt`). The lemma `can_end` finds an act for
--- each day.
+-- Proves the clauses `stands` and `run` of `every_loan_can_end` (`src/end_laws.rt`). The lemma `can_end` finds an act
+-- for each day.
 use Rattle.std.proofs.Common.{arith}
 use Rattle.ill_world.specs.World.{first_world, run_of}
 use Rattle.ill_world.specs.Night.{night_of}
@@ -30,11 +30,12 @@ returns-clause-stands c =
       rounds = c.nights_are_rounds.ensures.open txn;
       saves = c.nights_are_rounds.ensures.over txn;
     } in
-    can_end txn one keep nights c.who_has_the_turn_can_act_towards_the_end.ensures.in_step (c.requester_is_over_last.ensures txn)
+    can_end txn one keep nights c.who_has_the_turn_can_act_towards_the_end.ensures.converged
+    (c.requester_is_over_last.ensures txn)
     (acts_left w) w stands settled (omega arith) asking lending
 
--- After any events and a night the invariant holds, and both sides are in step or at rest. So the clause `stands` holds
--- there.
+-- After any events and a night the invariant holds, and both sides are converged or at rest. So the clause `stands`
+-- holds there.
 pub returns-clause-run : goal.returns-clause-run
 returns-clause-run c =
     λ txn events can asking lending.

@@ -6,7 +6,7 @@ pub returns : goal.returns
 returns c = λ txn. record {
   after = c.world_stands.ensures.after txn;
   rests = c.requester_is_over_last.ensures txn;
-  in_step = c.one_round_is_enough.ensures.stands txn;
+  converged = c.one_round_is_enough.ensures.stands txn;
   rounds = c.nights_are_rounds.ensures.open txn;
   saves = c.nights_are_rounds.ensures.over txn;
   night = c.one_night_is_enough.ensures.stands txn;

@@ -1,4 +1,5 @@
--- Proves the contract of `every_retiring_run_is_safe` (`src/retire_laws.rt`). The shelves are those after the events that happen.
+-- Proves the contract of `every_retiring_run_is_safe` (`src/retire_laws.rt`). The shelves are those after the events
+-- that happen.
 use Rattle.std.proofs.Common.{[], ◌++◌, sym, subst, take}
 use Rattle.ill_world.specs.Desks.{project}
 use Rattle.ill_world.specs.Shelves.{first_shelves}

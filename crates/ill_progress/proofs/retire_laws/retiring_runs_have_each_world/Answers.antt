@@ -1,5 +1,5 @@
--- Proves the clauses `safe` and `agrees` of `retiring_runs_have_each_world` (`src/retire_laws.rt`). A run of joined events
--- goes through the world after the first of them.
+-- Proves the clauses `safe` and `agrees` of `retiring_runs_have_each_world` (`src/retire_laws.rt`). A run of joined
+-- events goes through the world after the first of them.
 use Rattle.ill_world.specs.Desks.{project}
 use Rattle.ill_world.specs.Safety.{Safe}
 use Rattle.ill_world.specs.Agreement.{Agrees}

@@ -7,5 +7,5 @@ use Rattle.ill_report.proofs.report.push_actions.Given as goal
 -- The texts of the verbs so far are appended to the page.
 abbrev pub invariant-loop-verb : goal.invariant-loop-verb
 invariant-loop-verb l = record {
-  told : l.page.items ≡ l.initial.page.items ++ flat_map (action_text) (take l.verb-index l.verbs);
+  printed : l.page.items ≡ l.initial.page.items ++ flat_map (action_text) (take l.verb-index l.verbs);
 }

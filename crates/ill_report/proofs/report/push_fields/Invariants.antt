@@ -8,6 +8,6 @@ use Rattle.ill_report.proofs.report.push_fields.Given as goal
 -- The fields so far are appended to the page.
 abbrev pub invariant-loop-field : goal.invariant-loop-field
 invariant-loop-field l = record {
-  told : l.page.items ≡ l.initial.page.items
+  printed : l.page.items ≡ l.initial.page.items
       ++ flat_map (field_text (page_shown l.view) (annex_of l.annex) l.side) (take l.field-index l.fields);
 }

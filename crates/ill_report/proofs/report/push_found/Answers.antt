@@ -14,8 +14,8 @@ returns c =
     let annex = annex_of c.args.annex.now in
     let old = c.args.page.now.items in
     let new = c.push_works.new.page.items in
-    let told = subst (λ (works : List Work). OnOk c.push_works.result
+    let printed = subst (λ (works : List Work). OnOk c.push_works.result
     (new ≡ old ++ flat_map (work_text page annex (map (λ (side : Bor Side). side.now) c.deref.result.now)) works)) c.all.ensures
     c.push_works.ensures in
     subst (λ (sides : List Side). OnOk c.push_works.result (new ≡ old ++ works_text page annex sides))
-    (ap (map (λ (side : Bor Side). side.now)) c.deref.ensures.value ∙ c.in_ok-found.ensures) told
+    (ap (map (λ (side : Bor Side). side.now)) c.deref.ensures.value ∙ c.in_ok-found.ensures) printed

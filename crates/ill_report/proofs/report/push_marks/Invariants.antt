@@ -7,5 +7,5 @@ use Rattle.ill_report.proofs.report.push_marks.Given as goal
 -- The texts of the messages so far are appended to the page.
 abbrev pub invariant-loop-apdu : goal.invariant-loop-apdu
 invariant-loop-apdu l = record {
-  told : l.page.items ≡ l.initial.page.items ++ flat_map (news_mark l.side) (take l.apdu-index l.kept);
+  printed : l.page.items ≡ l.initial.page.items ++ flat_map (news_mark l.side) (take l.apdu-index l.kept);
 }

@@ -22,5 +22,5 @@ returns c =
     let all = take_all c.loop-side.side-index sides c.loop-side-test.false in
     let apart = kept_apart (row_text page annex) (has_work page.today SOON work) (map (λ (side : Bor Side). side.now) sides)
     ∙ flat_map-map (λ (side : Side). rows_text page annex work (side ∷ [])) (λ (side : Bor Side). side.now) sides in
-    c.loop-side.invariant.told ∙ ap (λ (told : _). c.args.page.now.items ++ each told) all
+    c.loop-side.invariant.printed ∙ ap (λ (printed : _). c.args.page.now.items ++ each printed) all
     ∙ ap (λ text. c.args.page.now.items ++ text) (sym apart)

@@ -9,7 +9,7 @@ use Rattle.ill_report.proofs.report.push_rows.Given as goal
 -- The rows of the loans so far that have the work are appended to the page.
 abbrev pub invariant-loop-side : goal.invariant-loop-side
 invariant-loop-side l = record {
-  told : l.page.items ≡ l.initial.page.items
+  printed : l.page.items ≡ l.initial.page.items
       ++ flat_map (λ (side : Bor Side). rows_text (page_shown l.view) (annex_of l.annex) l.work (side.now ∷ []))
       (take l.side-index l.sides);
 }

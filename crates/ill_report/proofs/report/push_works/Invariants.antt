@@ -9,7 +9,7 @@ use Rattle.ill_report.proofs.report.push_works.Given as goal
 -- The tables of the kinds of work so far are appended to the page.
 abbrev pub invariant-loop-work : goal.invariant-loop-work
 invariant-loop-work l = record {
-  told : l.page.items ≡ l.initial.page.items
+  printed : l.page.items ≡ l.initial.page.items
       ++ flat_map (work_text (page_shown l.view) (annex_of l.annex) (map (λ (side : Bor Side). side.now) l.sides))
       (take l.work-index l.works);
 }

@@ -4,10 +4,11 @@ use Rattle.std.specs.List.{zip}
 use Rattle.ill_room.specs.Letters.{file_verdict, file_verdicts}
 use Rattle.ill_room.proofs.letters.file_verdicts.Given as goal
 
--- The verdicts so far, and those of the mails that are left, are all verdicts of files.
+-- The verdicts so far, and those of the message files that are left, are all verdicts of files.
 abbrev pub invariant-loop-place : goal.invariant-loop-place
 invariant-loop-place l = record {
-  there : l.settled.items ++ map (λ mail. file_verdict (zip l.mails l.verdicts) mail.0.letter mail.1)
-      (zip (drop l.place l.mails) (drop l.place l.verdicts))
-      ≡ file_verdicts (zip l.mails l.verdicts);
+  there : l.settled.items ++ map (λ message_file.
+      file_verdict (zip l.message_files l.verdicts) message_file.0.letter message_file.1)
+      (zip (drop l.place l.message_files) (drop l.place l.verdicts))
+      ≡ file_verdicts (zip l.message_files l.verdicts);
 }

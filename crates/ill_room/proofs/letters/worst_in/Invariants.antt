@@ -7,6 +7,6 @@ use Rattle.ill_room.proofs.letters.worst_in.Given as goal
 -- The worst of `worst` and the verdicts that are left is the worst of all.
 abbrev pub invariant-loop-place : goal.invariant-loop-place
 invariant-loop-place l = record {
-  there : fold (worse_if_in l.number) l.worst (zip (drop l.place l.mails) (drop l.place l.verdicts))
-      ≡ fold (worse_if_in l.number) l.fn.verdict (zip l.mails l.verdicts);
+  there : fold (worse_if_in l.number) l.worst (zip (drop l.place l.message_files) (drop l.place l.verdicts))
+      ≡ fold (worse_if_in l.number) l.fn.verdict (zip l.message_files l.verdicts);
 }

@@ -1,4 +1,5 @@
--- Proves the contract of `what_has_left_is_in_the_file` (`src/laws.rt`). What a desk of the model has sent has landed.
+-- Proves the contract of `what_has_left_is_in_the_file` (`src/laws.rt`). What a desk of the model has sent is
+-- committed.
 use Rattle.ill_world.specs.Desks.{first_desks, desks_run}
 use Rattle.ill_world.proofs.Desks.{desks_stand_on}
 use Rattle.ill_runs.specs.Libraries.{first_libraries, libraries_after}

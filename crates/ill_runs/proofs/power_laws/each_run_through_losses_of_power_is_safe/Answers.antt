@@ -1,4 +1,5 @@
--- Proves the contract of `each_run_through_losses_of_power_is_safe` (`src/power_laws.rt`). The events alone make a safe run.
+-- Proves the contract of `each_run_through_losses_of_power_is_safe` (`src/power_laws.rt`). The events alone make a safe
+-- run.
 use Rattle.ill_runs.specs.Power.{desks_of, first_powered_desks, power_run}
 use Rattle.ill_runs.proofs.PowerRuns.{safe_there}
 use Rattle.ill_runs.proofs.power_laws.each_run_through_losses_of_power_is_safe.Goals as goal

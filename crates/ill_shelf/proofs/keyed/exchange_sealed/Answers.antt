@@ -1,13 +1,13 @@
 -- Answers the contract of `exchange_sealed` (`src/keyed.rt`).
 use Rattle.std.proofs.Common.{ℕ, List, Option, inr, ap, subst, ◌∙◌}
-use Rattle.ill_mail.specs.Nights.{ExchangesAtFile, asked_night}
+use Rattle.ill_exchange.specs.Nights.{ExchangesAtFile, asked_night}
 use Rattle.ill_text.specs.Visits.{graver}
 use Rattle.ill_shelf.specs.Shelf.{Headed, VisitsShelf, is_lines}
 use Rattle.ill_shelf.proofs.keyed.exchange_sealed.Goals as goal
 
--- Proves the contract of `exchange_sealed`. `look_at_shelf` and `open_letters` write nothing, and `exchange_at_desks` visits
--- the desks (`visited`). These are on the shelf in the folder of `place` (`here`). `graver` combines its answer with
--- that of the letters.
+-- Proves the contract of `exchange_sealed`. `look_at_shelf` and `open_letters` write nothing, and `exchange_at_desks`
+-- visits the desks (`visited`). These are on the shelf in the folder of `place` (`here`). `graver` combines its answer
+-- with that of the letters.
 pub returns : goal.returns
 returns g c =
     let done = c.exchange_at_desks-done.result in

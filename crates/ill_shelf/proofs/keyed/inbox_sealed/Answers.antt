@@ -1,6 +1,6 @@
 -- Answers the contract of `inbox_sealed` (`src/keyed.rt`).
 use Rattle.std.proofs.Common.{ℕ, List, Option, inr, true, ap, subst, ◌∙◌}
-use Rattle.ill_mail.specs.Nights.{InboxAtFile}
+use Rattle.ill_exchange.specs.Nights.{InboxAtFile}
 use Rattle.ill_text.specs.Visits.{graver}
 use Rattle.ill_shelf.specs.Shelf.{Headed, VisitsShelf}
 use Rattle.ill_shelf.proofs.keyed.inbox_sealed.Goals as goal

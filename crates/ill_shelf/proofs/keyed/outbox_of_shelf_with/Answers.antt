@@ -1,9 +1,9 @@
 -- Answers the contract of `outbox_of_shelf_with` (`src/keyed.rt`).
 use Rattle.std.proofs.Common.{false, sym, subst}
 use Rattle.std.specs.Prelude.{is_some, option_map}
-use Rattle.ill_mail.specs.Keyed.{WithKey}
-use Rattle.ill_mail.specs.Nights.{OutboxAtFile}
-use Rattle.ill_mail.proofs.KeyedLemmas.{without_key}
+use Rattle.ill_exchange.specs.Keyed.{WithKey}
+use Rattle.ill_exchange.specs.Nights.{OutboxAtFile}
+use Rattle.ill_exchange.proofs.KeyedLemmas.{without_key}
 use Rattle.ill_shelf.specs.Shelf.{Headed, VisitsShelf}
 use Rattle.ill_shelf.proofs.keyed.outbox_of_shelf_with.Goals as goal
 

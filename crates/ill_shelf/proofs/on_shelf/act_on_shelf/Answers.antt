@@ -9,8 +9,8 @@ use Rattle.ill_files.proofs.OpenLemmas.{open_fault}
 use Rattle.ill_shelf.proofs.HomeLemmas.{acted_at_home, at_home, not_acted}
 use Rattle.ill_shelf.proofs.on_shelf.act_on_shelf.Goals as goal
 
--- Proves that the action is performed at the desk of the group. `at` says that its path is that of the group, and `opens` that
--- it was begun only if a new group may be begun.
+-- Proves that the action is performed at the desk of the group. `at` says that its path is that of the group, and
+-- `opens` that it was begun only if a new group may be begun.
 pub returns : goal.returns
 returns g c =
     let shelf = shelf_of g.D.DeskStore.Store.state c.args.place.now.folder.now in

@@ -2,7 +2,7 @@
 use Rattle.std.proofs.Common.{ℕ, List, Option, inr, map, ap, subst, sym}
 use Rattle.std.specs.Prelude.{string_bytes}
 use Rattle.ill_files.specs.ShelfNames.{AreOnShelf}
-use Rattle.ill_mail.specs.Nights.{AskedNight, ExchangesAtFile, asked_night}
+use Rattle.ill_exchange.specs.Nights.{AskedNight, ExchangesAtFile, asked_night}
 use Rattle.ill_shelf.specs.Shelf.{Headed, VisitsAll, is_lines}
 use Rattle.ill_shelf.proofs.on_shelf.exchange_at_desks.Goals as goal
 
@@ -16,12 +16,12 @@ returns g c =
     let answer = c.visit_all-answer.result in
     let quiet = ap (λ writer. g.W.Write.contents writer) c.in_ok-is_waiting.ensures.silent in
     let ended = ap (λ writer. g.W.Write.contents writer) c.end_night-further.ensures.silent in
-    let told = g.W.Write.contents c.visit_all-answer.new.machine.writer in
+    let printed = g.W.Write.contents c.visit_all-answer.new.machine.writer in
     let as_asked = subst (λ (now : AskedNight).
     VisitsAll (Headed g.D.DeskStore.Store.state (is_lines now.form) (ExchangesAtFile now)) paths
-    (g.W.Write.contents c.sort_mails.new.machine.writer) told answer) c.at_each.ensures c.visit_all-answer.ensures in
+    (g.W.Write.contents c.sort_message_files.new.machine.writer) printed answer) c.at_each.ensures c.visit_all-answer.ensures in
     let begun = subst (λ (start : Option (List ℕ)).
-    VisitsAll (Headed g.D.DeskStore.Store.state heads (ExchangesAtFile asked)) paths start told answer) quiet as_asked in
+    VisitsAll (Headed g.D.DeskStore.Store.state heads (ExchangesAtFile asked)) paths start printed answer) quiet as_asked in
     let visited = subst (λ (end : Option (List ℕ)).
     VisitsAll (Headed g.D.DeskStore.Store.state heads (ExchangesAtFile asked)) paths
     (g.W.Write.contents c.args.machine.now.writer) end answer) (sym ended)

@@ -1,11 +1,11 @@
 -- Answers the contract of `exchange_of_shelf` (`src/on_shelf.rt`).
 use Rattle.std.proofs.Common.{ℕ, List, Option, ap, subst}
-use Rattle.ill_mail.specs.Nights.{ExchangesAtFile, asked_night}
+use Rattle.ill_exchange.specs.Nights.{ExchangesAtFile, asked_night}
 use Rattle.ill_shelf.specs.Shelf.{Headed, VisitsShelf, is_lines}
 use Rattle.ill_shelf.proofs.on_shelf.exchange_of_shelf.Goals as goal
 
--- Proves the contract of `exchange_of_shelf`. The shelf that was opened is that in the folder, and `look_at_shelf` writes
--- nothing.
+-- Proves the contract of `exchange_of_shelf`. The shelf that was opened is that in the folder, and `look_at_shelf`
+-- writes nothing.
 pub returns : goal.returns
 returns g c =
     let heads = is_lines c.args.night.now.form in

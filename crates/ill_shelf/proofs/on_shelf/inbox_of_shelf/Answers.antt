@@ -1,6 +1,6 @@
 -- Answers the contract of `inbox_of_shelf` (`src/on_shelf.rt`).
 use Rattle.std.proofs.Common.{ℕ, List, true, subst}
-use Rattle.ill_mail.specs.Nights.{InboxAtFile}
+use Rattle.ill_exchange.specs.Nights.{InboxAtFile}
 use Rattle.ill_shelf.specs.Shelf.{Headed, VisitsShelf}
 use Rattle.ill_shelf.proofs.on_shelf.inbox_of_shelf.Goals as goal
 

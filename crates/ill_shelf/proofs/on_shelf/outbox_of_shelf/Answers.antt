@@ -2,7 +2,7 @@
 use Rattle.std.proofs.Common.{ℕ, List, Option, inr, map, ap, subst, sym}
 use Rattle.std.specs.Prelude.{string_bytes, is_some}
 use Rattle.ill_files.specs.ShelfNames.{AreOnShelf}
-use Rattle.ill_mail.specs.Nights.{OutboxAtFile}
+use Rattle.ill_exchange.specs.Nights.{OutboxAtFile}
 use Rattle.ill_shelf.specs.Shelf.{Headed, VisitsAll}
 use Rattle.ill_shelf.proofs.on_shelf.outbox_of_shelf.Goals as goal
 

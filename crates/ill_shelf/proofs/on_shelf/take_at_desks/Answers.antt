@@ -2,12 +2,12 @@
 use Rattle.std.proofs.Common.{ℕ, List, Option, inr, map, true, ap, subst, sym}
 use Rattle.std.specs.Prelude.{string_bytes}
 use Rattle.ill_files.specs.ShelfNames.{AreOnShelf}
-use Rattle.ill_mail.specs.Nights.{InboxAtFile}
+use Rattle.ill_exchange.specs.Nights.{InboxAtFile}
 use Rattle.ill_shelf.specs.Shelf.{Headed, VisitsAll}
 use Rattle.ill_shelf.proofs.on_shelf.take_at_desks.Goals as goal
 
--- Proves the contract of `take_at_desks`. `sort_mails` writes nothing, and `visit_all` visits the desks. `graver`
--- combines its answer with that of `waiting`.
+-- Proves the contract of `take_at_desks`. `sort_message_files` writes nothing, and `visit_all` visits the desks.
+-- `graver` combines its answer with that of `waiting`.
 pub returns : goal.returns
 returns g c =
     let paths = map (λ path. string_bytes path) c.deref.result.now in

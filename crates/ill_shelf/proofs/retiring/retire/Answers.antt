@@ -13,15 +13,15 @@ use Rattle.ill_shelf.proofs.retiring.retire.Goals as goal
 -- Proves that the group was marked at its desk, and that the line says if it is marked.
 pub returns : goal.returns
 returns g c =
-    let told = c.write_whole-told.result in
+    let printed = c.write_whole-printed.result in
     let path = string_bytes c.in_ok-file.file in
     let home = is_home c.args.place.now.folder.now c.in_ok-shelf.shelf.folder.now c.in_ok-shelf.shelf.role c.args.group.now
     c.as_bytes.result.now path c.in_ok-shelf.ensures.folder c.as_bytes.ensures.value c.in_ok-file.ensures in
     let marks = subst (λ (path : List ℕ). MarksGroup (place_of g.D.DeskStore.Store.state path) c.in_ok-is_marked.is_marked)
     c.as_str-2.ensures.value c.in_ok-is_marked.ensures.marks in
     let writes = subst (λ (line : List ℕ). WritesPrefix (g.W.Write.contents c.args.machine.now.writer)
-    (g.W.Write.contents c.write_whole-told.new.writer) line told) c.retired_line.ensures c.write_whole-told.ensures in
-    (path, home, inr (c.in_ok-is_marked.is_marked, told, marks, writes, c.tell_with.ensures))
+    (g.W.Write.contents c.write_whole-printed.new.writer) line printed) c.retired_line.ensures c.write_whole-printed.ensures in
+    (path, home, inr (c.in_ok-is_marked.is_marked, printed, marks, writes, c.print_with.ensures))
 
 -- Proves the contract if the shelf is not opened. Then nothing is written.
 pub returns-in_err-shelf : goal.returns-in_err-shelf

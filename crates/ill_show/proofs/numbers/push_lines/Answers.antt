@@ -19,5 +19,5 @@ returns c =
     let apart =
     kept_apart (numbers_line path) has_few_numbers (map (λ (side : Bor Side). side.now) sides)
     ∙ flat_map-map (λ (side : Side). numbers_lines path (side ∷ [])) (λ (side : Bor Side). side.now) sides in
-    c.loop-side.invariant.told ∙ ap (λ (shown : _). c.args.lines.now.items ++ each shown) all
+    c.loop-side.invariant.printed ∙ ap (λ (shown : _). c.args.lines.now.items ++ each shown) all
     ∙ ap (λ lines. c.args.lines.now.items ++ lines) (sym apart)

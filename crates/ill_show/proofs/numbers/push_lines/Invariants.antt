@@ -8,6 +8,6 @@ use Rattle.ill_show.proofs.numbers.push_lines.Given as goal
 -- For each side so far with few numbers left, its line is appended.
 abbrev pub invariant-loop-side : goal.invariant-loop-side
 invariant-loop-side l = record {
-  told : l.lines.items ≡ l.initial.lines.items
+  printed : l.lines.items ≡ l.initial.lines.items
       ++ flat_map (λ (side : Bor Side). numbers_lines l.path (side.now ∷ [])) (take l.side-index l.sides);
 }

@@ -8,7 +8,7 @@ use Rattle.ill_show.proofs.verify.run_desk_verify.Goals as goal
 pub returns-in-Ok-Some-clause-verifies : goal.returns-in-Ok-Some-clause-verifies
 returns-in-Ok-Some-clause-verifies g c = (
   Ok (Some c.in-Ok-Some.bytes.items),
-  (λ honest. let is = c.in-Ok-Some.ensures.loads.loaded honest in search (rules, is)),
+  (λ correct. let is = c.in-Ok-Some.ensures.loads.loaded correct in search (rules, is)),
   search rules,
 )
 
@@ -16,11 +16,11 @@ returns-in-Ok-Some-clause-verifies g c = (
 pub returns-in-Ok-None-clause-verifies : goal.returns-in-Ok-None-clause-verifies
 returns-in-Ok-None-clause-verifies g c = (
   Ok None,
-  (λ honest. let is = c.in-Ok-None.ensures.loads.loaded honest in search (rules, is)),
+  (λ correct. let is = c.in-Ok-None.ensures.loads.loaded correct in search (rules, is)),
   (refl, Appends-nil (g.W.Write.contents c.args.writer.now)),
 )
 
 -- Proves the clause `verifies` of `run_desk_verify` if the load fails. Nothing is written.
 pub returns-in-Err-clause-verifies : goal.returns-in-Err-clause-verifies
 returns-in-Err-clause-verifies g c =
-    (Err c.in-Err.fault, (λ honest. tt), (search rules, Appends-nil (g.W.Write.contents c.args.writer.now)))
+    (Err c.in-Err.fault, (λ correct. tt), (search rules, Appends-nil (g.W.Write.contents c.args.writer.now)))

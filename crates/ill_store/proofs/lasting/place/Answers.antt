@@ -1,4 +1,5 @@
--- Proves the contract of `place` (`src/lasting.rt`). At whichever call it ends, the disk has the old record or the new one.
+-- Proves the contract of `place` (`src/lasting.rt`). At whichever call it ends, the disk has the old record or the new
+-- one.
 use Rattle.ill_store.proofs.DiskSaves.{making_fails, flushing_fails, placing_ends}
 use Rattle.ill_store.proofs.lasting.place.Goals as goal
 

@@ -1,4 +1,5 @@
--- Proves the contract of `save` (`src/lasting.rt`). At whichever call it ends, the disk has the old record or the new one.
+-- Proves the contract of `save` (`src/lasting.rt`). At whichever call it ends, the disk has the old record or the new
+-- one.
 use Rattle.std.proofs.Common.{refl}
 use Rattle.ill_store.proofs.DiskSaves.{early_save_fails, look_up_has_kept, remove_has_kept, save_fails, save_ends}
 use Rattle.ill_store.proofs.lasting.save.Goals as goal
@@ -7,7 +8,7 @@ use Rattle.ill_store.proofs.lasting.save.Goals as goal
 pub returns-in_err-look_up : goal.returns-in_err-look_up
 returns-in_err-look_up g c = early_save_fails c.from_residual.ensures.0 (look_up_has_kept c.look_up.ensures)
 
--- The removal of what an earlier save left at `aside` failed.
+-- The removal of what an earlier save left at `temporary` failed.
 pub returns-in-Err : goal.returns-in-Err
 returns-in-Err g c = early_save_fails refl
     (remove_has_kept c.requires (look_up_has_kept c.look_up.ensures) c.remove.ensures.changes)
@@ -18,7 +19,7 @@ returns-in-Ok-place g c = save_ends c.requires
     (remove_has_kept c.requires (look_up_has_kept c.look_up.ensures) c.remove.ensures.changes) c.in-Ok-place.ensures
     c.flush_names.ensures
 
--- The placing failed. What stands at `aside` was then removed, or was not.
+-- The placing failed. What stands at `temporary` was then removed, or was not.
 pub returns-in-Err-place : goal.returns-in-Err-place
 returns-in-Err-place g c = save_fails c.requires
     (remove_has_kept c.requires (look_up_has_kept c.look_up.ensures) c.remove.ensures.changes) c.in-Err-place.ensures

@@ -13,9 +13,9 @@ use Rattle.ill_commands.specs.AtFile.{ActsAtFile, TakesAtFile}
 use Rattle.ill_commands.specs.Note.{NotesAtFile}
 use Rattle.ill_commands.specs.Letters.{TakesWith}
 use Rattle.ill_commands.specs.Streams.{streams_of}
-use Rattle.ill_mail.specs.Keyed.{WithKey}
-use Rattle.ill_visits.specs.Visits.{ListsDesk, ReportsPaths, TellsDesk, VisitsPaths}
-use Rattle.ill_mail.specs.Nights.{OutboxAtFile}
+use Rattle.ill_exchange.specs.Keyed.{WithKey}
+use Rattle.ill_visits.specs.Visits.{ListsDesk, ReportsPaths, PrintsDesk, VisitsPaths}
+use Rattle.ill_exchange.specs.Nights.{OutboxAtFile}
 use Rattle.ill_place.specs.Place.{place_of}
 use Rattle.ill_tool.proofs.WordsLemmas.{is_some_mapped}
 use Rattle.ill_desk.specs.declared.take.TakeForm.{TakeForm}
@@ -107,11 +107,11 @@ returns-in-News g c =
     let left = g.R.Read.remaining c.args.reader.now in
     let before = g.W.Write.contents c.args.machine.now.writer in
     let after = g.W.Write.contents c.news.new.machine.writer in
-    let tells = TellsDesk c.in-News.form c.in-News.last c.in-News.since in
-    let told = subst (λ (paths : List (Bor (List ℕ))). VisitsPaths tells (map (λ path. path.now) paths) before after
+    let tells = PrintsDesk c.in-News.form c.in-News.last c.in-News.since in
+    let printed = subst (λ (paths : List (Bor (List ℕ))). VisitsPaths tells (map (λ path. path.now) paths) before after
     c.news.result) c.deref-in-News.ensures.value c.news.ensures in
     subst (λ (request : Request). Runs g.D.DeskStore.Store.state (asked request) (streams_of left before) c.news.result
-    (streams_of left after)) (sym c.in-News.is) (refl, told)
+    (streams_of left after)) (sym c.in-News.is) (refl, printed)
 
 -- Proves the contract of `run` for the request `Report`. It is the contract of `report`, which reads no input.
 pub returns-in-Report : goal.returns-in-Report

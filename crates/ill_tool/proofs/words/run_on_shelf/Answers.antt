@@ -6,8 +6,8 @@ use Rattle.std.proofs.Common.{ℕ, Bool, Bor, List, map, refl, sym, subst}
 use Rattle.std.specs.Prelude.{option_map}
 use Rattle.ill_line.specs.declared.request.Request.{Request}
 use Rattle.ill_line.specs.Asked.{asked}
-use Rattle.ill_mail.specs.Keyed.{WithKey}
-use Rattle.ill_mail.specs.Nights.{OutboxAtFile}
+use Rattle.ill_exchange.specs.Keyed.{WithKey}
+use Rattle.ill_exchange.specs.Nights.{OutboxAtFile}
 use Rattle.ill_tool.specs.Runs.{RunsShelf}
 use Rattle.ill_beside.specs.Notes.{note_text}
 use Rattle.ill_shelf.specs.Home.{ActsAtHome, NotesAtHome}
@@ -19,7 +19,8 @@ use Rattle.ill_desk.specs.declared.take.TakeForm.{TakeForm}
 use Rattle.ill_tool.proofs.WordsLemmas.{is_some_mapped}
 use Rattle.ill_tool.proofs.words.run_on_shelf.Goals as goal
 
--- Proves the contract of `run_on_shelf` for the request `Act`. It is the contract of `act_on_shelf`, which reads no input.
+-- Proves the contract of `run_on_shelf` for the request `Act`. It is the contract of `act_on_shelf`, which reads no
+-- input.
 pub returns-in-Act : goal.returns-in-Act
 returns-in-Act g c =
     let left = g.R.Read.remaining c.args.reader.now in
@@ -55,8 +56,8 @@ returns-in-Note g c =
     subst (λ (request : Request). RunsShelf g.D.DeskStore.Store.state (asked request) (streams_of left before)
     c.note_on_shelf.result (streams_of left after)) (sym c.in-Note.is) (refl, noted)
 
--- Proves the contract of `run_on_shelf` for the request `Send`. It is the contract of `send_on_shelf_with`, which reads no
--- input.
+-- Proves the contract of `run_on_shelf` for the request `Send`. It is the contract of `send_on_shelf_with`, which reads
+-- no input.
 pub returns-in-Send : goal.returns-in-Send
 returns-in-Send g c =
     let left = g.R.Read.remaining c.args.reader.now in
@@ -65,7 +66,8 @@ returns-in-Send g c =
     subst (λ (request : Request). RunsShelf g.D.DeskStore.Store.state (asked request) old c.send_on_shelf_with.result new)
     (sym c.in-Send.is) (refl, c.send_on_shelf_with.ensures)
 
--- Proves the contract of `run_on_shelf` for the request `Loan`. It is the contract of `loan_on_shelf`, which reads no input.
+-- Proves the contract of `run_on_shelf` for the request `Loan`. It is the contract of `loan_on_shelf`, which reads no
+-- input.
 pub returns-in-Loan : goal.returns-in-Loan
 returns-in-Loan g c =
     let left = g.R.Read.remaining c.args.reader.now in
@@ -84,8 +86,8 @@ returns-in-Status g c =
     subst (λ (request : Request). RunsShelf g.D.DeskStore.Store.state (asked request) old c.status_of_shelf.result new)
     (sym c.in-Status.is) (refl, c.status_of_shelf.ensures)
 
--- Proves the contract of `run_on_shelf` for the request `Outbox`. It is the contract of `outbox_of_shelf_with`, which reads
--- no input.
+-- Proves the contract of `run_on_shelf` for the request `Outbox`. It is the contract of `outbox_of_shelf_with`, which
+-- reads no input.
 pub returns-in-Outbox : goal.returns-in-Outbox
 returns-in-Outbox g c =
     let left = g.R.Read.remaining c.args.reader.now in
@@ -100,8 +102,8 @@ returns-in-Outbox g c =
     subst (λ (request : Request). RunsShelf g.D.DeskStore.Store.state (asked request) (streams_of left before) result
     (streams_of left after)) (sym c.in-Outbox.is) (refl, sent)
 
--- Proves the contract of `run_on_shelf` for the request `Exchange`. It is the contract of `exchange_of_shelf_with`, which
--- reads no input.
+-- Proves the contract of `run_on_shelf` for the request `Exchange`. It is the contract of `exchange_of_shelf_with`,
+-- which reads no input.
 pub returns-in-Exchange : goal.returns-in-Exchange
 returns-in-Exchange g c =
     let left = g.R.Read.remaining c.args.reader.now in
@@ -130,8 +132,8 @@ returns-in-Retire g c =
     subst (λ (request : Request). RunsShelf g.D.DeskStore.Store.state (asked request) old c.retire.result new)
     (sym c.in-Retire.is) (refl, c.retire.ensures)
 
--- Proves the contract of `run_on_shelf` for the request `Take`. It is the contract of `take_on_shelf_with`, in the form that
--- `take_view` passes.
+-- Proves the contract of `run_on_shelf` for the request `Take`. It is the contract of `take_on_shelf_with`, in the form
+-- that `take_view` passes.
 pub returns-in-Take : goal.returns-in-Take
 returns-in-Take g c =
     let left = g.R.Read.remaining c.args.reader.now in

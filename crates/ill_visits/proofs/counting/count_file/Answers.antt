@@ -10,5 +10,5 @@ returns g c = inr (
   (sides_held c.in_ok-desk.desk.live).sides,
   lines_of c.in_ok-diary.diary,
   _,
-  (c.run_desk_figures-counted.result, c.run_desk_figures-counted.ensures, c.all_well.ensures),
+  (c.run_desk_figures-counted.result, c.run_desk_figures-counted.ensures, c.all_succeed.ensures),
 )

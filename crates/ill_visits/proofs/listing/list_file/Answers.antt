@@ -3,7 +3,7 @@ use Rattle.std.proofs.Common.{◌≡◌, List, Option, inl, inr, refl, subst}
 use Rattle.ill_values.specs.declared.apdu.Apdu.{Apdu}
 use Rattle.ill_saved.specs.ManySides.{sides_held}
 use Rattle.ill_record.specs.Sides.{SidesOf}
-use Rattle.ill_news.specs.Told.{news_since}
+use Rattle.ill_news.specs.PrintedNews.{news_since}
 use Rattle.ill_text.specs.declared.fault.ToolFault.TheVariants.{OutOfMemory}
 use Rattle.ill_beside.specs.Since.{annex_of}
 use Rattle.ill_files.proofs.OpenLemmas.{open_fault}
@@ -15,13 +15,13 @@ pub returns : goal.returns
 returns g c =
     let annex = annex_of c.in_ok-annex.annex in
     let news : Option (List Apdu) = c.in_ok-news.news in
-    let told = subst (λ (held : SidesOf). news ≡ news_since c.args.wanted.now.since annex held.sides) c.sides.ensures.value
+    let printed = subst (λ (held : SidesOf). news ≡ news_since c.args.wanted.now.since annex held.sides) c.sides.ensures.value
     c.in_ok-news.ensures in
     inr (
       (sides_held c.in_ok-desk.desk.live).sides,
       record { notes = annex.notes; diary = annex.diary; came = annex.came; news = news },
-      told,
-      (c.run_desk_list-answer.result, c.run_desk_list-answer.ensures, c.all_well.ensures),
+      printed,
+      (c.run_desk_list-answer.result, c.run_desk_list-answer.ensures, c.all_succeed.ensures),
     )
 
 -- Proves the contract of `list_file` if memory runs out for the news. Then nothing is written.

@@ -6,22 +6,22 @@ use Rattle.ill_beside.specs.Since.{AnnexRead, annex_of}
 use Rattle.ill_visits.proofs.visits.push_file.Goals as goal
 
 -- Proves the contract of `push_file` if the desk is opened. The part has its loans, with the news of the annex.
-pub returns-in_ok-told-in-Ok-clause-told : goal.returns-in_ok-told-in-Ok-clause-told
-returns-in_ok-told-in-Ok-clause-told g c =
+pub returns-in_ok-printed-in-Ok-clause-printed : goal.returns-in_ok-printed-in-Ok-clause-printed
+returns-in_ok-printed-in-Ok-clause-printed g c =
     let sides = c.sides-sides.result.now.sides in
     let annex = annex_of c.in-Ok.annex in
     let news : Option (List Apdu) = c.in_ok-news-in-Ok.news in
     let with : Option (List Apdu) → AnnexRead =
-    λ (told : Option (List Apdu)). record { notes = annex.notes; diary = annex.diary; came = annex.came; news = told } in
-    let told = c.in_ok-told-in-Ok.ensures
+    λ (printed : Option (List Apdu)). record { notes = annex.notes; diary = annex.diary; came = annex.came; news = printed } in
+    let printed = c.in_ok-printed-in-Ok.ensures
     ∙ ap (λ page. c.args.page.now.items ++ desk_text page c.args.file.now sides (with news)) c.of_report-view.ensures
-    ∙ ap (λ (told : Option (List Apdu)).
-    c.args.page.now.items ++ desk_text (report_of c.args.days.now.today) c.args.file.now sides (with told))
+    ∙ ap (λ (printed : Option (List Apdu)).
+    c.args.page.now.items ++ desk_text (report_of c.args.days.now.today) c.args.file.now sides (with printed))
     c.in_ok-news-in-Ok.ensures in
-    ((c.args.file.now, Ok (sides, annex)), refl, told, refl)
+    ((c.args.file.now, Ok (sides, annex)), refl, printed, refl)
 
 -- Proves the contract of `push_file` if the desk is not opened. The part has the fault, in the words of `push_fault`.
-pub returns-in_ok-push_fault-in-Err-clause-told : goal.returns-in_ok-push_fault-in-Err-clause-told
-returns-in_ok-push_fault-in-Err-clause-told g c =
-    let told = c.in_ok-push_fault-in-Err.ensures in
-    ((c.args.file.now, Err (c.in-Err.fault, told.0)), refl, told.1, refl)
+pub returns-in_ok-push_fault-in-Err-clause-printed : goal.returns-in_ok-push_fault-in-Err-clause-printed
+returns-in_ok-push_fault-in-Err-clause-printed g c =
+    let printed = c.in_ok-push_fault-in-Err.ensures in
+    ((c.args.file.now, Err (c.in-Err.fault, printed.0)), refl, printed.1, refl)

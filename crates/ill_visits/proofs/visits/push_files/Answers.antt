@@ -22,14 +22,15 @@ loop-place-preserved g c =
     ∙ sym (get_or-map (λ file. string_bytes file) c.args.files.now place c.index-files-place.result
     (string_bytes c.index-files-place.result) c.loop-place-test.true) in
     let found = subst (λ (file : List ℕ). file ≡ get_or names place file) (sym c.as_str.ensures.value) at in
-    let told = one_more_part c.args.days.now.today c.args.days.now.since names place c.as_str.result.now before
+    let printed = one_more_part c.args.days.now.today c.args.days.now.since names place c.as_str.result.now before
     c.loop-place.page.items after
-    c.loop-place.answer next within found c.loop-place.invariant.told c.in_ok-next.ensures.told in
+    c.loop-place.answer next within found c.loop-place.invariant.printed c.in_ok-next.ensures.printed in
     let fault = open_graver c.loop-place.answer next c.loop-place.invariant.fault c.in_ok-next.ensures.fault in
     record {
-      told = subst (λ answer. AddsParts c.args.days.now.today c.args.days.now.since (take (place + 1) names) before after answer)
+      printed = subst (λ answer. AddsParts c.args.days.now.today c.args.days.now.since (take (place + 1) names) before after
+          answer)
           (sym c.graver-answer.ensures)
-          told;
+          printed;
       fault = subst (λ answer. IfErr answer IsOpenFault) (sym c.graver-answer.ensures) fault;
       silent = c.in_ok-next.ensures.silent ∙ c.loop-place.invariant.silent;
     }
@@ -37,7 +38,7 @@ loop-place-preserved g c =
 -- Proves the loop invariant of `push_files` before the first desk. By `no_parts` the page has no part.
 pub loop-place-init : goal.loop-place-init
 loop-place-init g c = record {
-  told = no_parts c.args.days.now.today c.args.days.now.since c.args.page.now.items;
+  printed = no_parts c.args.days.now.today c.args.days.now.since c.args.page.now.items;
   fault = tt;
   silent = refl;
 }

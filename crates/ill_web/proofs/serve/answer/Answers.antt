@@ -4,8 +4,8 @@ use Rattle.std.specs.Prelude.{string_bytes}
 use Rattle.ill_files.specs.Folders.{AreFoundAt}
 use Rattle.ill_web.proofs.serve.answer.Goals as goal
 
--- Proves the contract of `answer` if the request is read and the desks are found. By `desk_paths` these are found at the
--- operator's paths, and `reply_to` answers at them.
+-- Proves the contract of `answer` if the request is read and the desks are found. By `desk_paths` these are found at
+-- the operator's paths, and `reply_to` answers at them.
 pub returns : goal.returns
 returns g c =
     let files = c.in_ok-found.found.files.items in

@@ -1,5 +1,5 @@
--- Proves the clauses of `no_bad_sending_passes` (`src/laws.rt`). Each case of a wrong answer contradicts its definition,
--- by the lemmas of `BadSendings`.
+-- Proves the clauses of `no_bad_sending_passes` (`src/laws.rt`). Each case of a wrong answer contradicts its
+-- definition, by the lemmas of `BadSendings`.
 use Rattle.std.proofs.Common.{refl}
 use Rattle.ill_words.specs.Sending.{is_over, wants_sending}
 use Rattle.ill_words.proofs.BadSendings.{not_misjudged, not_misjudged_sending}

@@ -1,5 +1,5 @@
--- Proves the contract of `most_pressing_first` (`src/order.rt`). `sort_by_cached_key` is a stable sort by urgency, over the
--- order by deadlines.
+-- Proves the contract of `most_pressing_first` (`src/order.rt`). `sort_by_cached_key` is a stable sort by urgency, over
+-- the order by deadlines.
 use Rattle.std.proofs.Common.{rules, of_calls, ℕ, ap, sym, subst, ◌∙◌}
 use Rattle.std.proofs.lemmas.Fn.{always_returns_same}
 use Rattle.std.proofs.lemmas.List.Sorted.{IsNonDecreasingBy-from_sort}

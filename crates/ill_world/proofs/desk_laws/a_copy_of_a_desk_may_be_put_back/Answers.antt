@@ -13,7 +13,7 @@ returns-clause-each c = λ txn w who copy. shows_copy txn who copy w
 pub returns-clause-safe : goal.returns-clause-safe
 returns-clause-safe c =
     λ txn w more who stands has.
-    let world = project txn (desk_puts_back who (party w who).landed (desks_run w more)) in
+    let world = project txn (desk_puts_back who (party w who).committed (desks_run w more)) in
     let back = desk_back_stands c.desk_events_are_events.ensures c.desks_stand.ensures.after txn
     (c.world_stands.ensures.after txn) w more who stands has in
     record {

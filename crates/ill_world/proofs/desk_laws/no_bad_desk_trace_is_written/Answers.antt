@@ -1,8 +1,8 @@
--- Proves the clauses of `no_bad_desk_trace_is_written` (`src/desk_laws.rt`). They hold of any play, by the lemmas of
+-- Proves the clauses of `no_bad_desk_trace_is_written` (`src/desk_laws.rt`). They hold of any replay, by the lemmas of
 -- `BadTraces`.
 use Rattle.std.proofs.Common.{None, refl}
 use Rattle.ill_world.specs.Desks.{first_desks}
-use Rattle.ill_script.specs.Play.{before_first}
+use Rattle.ill_script.specs.Replay.{before_first}
 use Rattle.ill_world.specs.DeskSimulation.{two_desks}
 use Rattle.ill_script.proofs.BadTraces.{none_leaves, some_prefix, none_misreports}
 use Rattle.ill_world.proofs.desk_laws.no_bad_desk_trace_is_written.Goals as goal

@@ -1,8 +1,8 @@
--- Proves the clauses `each`, `in_step` and `run` of `one_desk_night_is_enough` (`src/desk_laws.rt`). In each
+-- Proves the clauses `each`, `converged` and `run` of `one_desk_night_is_enough` (`src/desk_laws.rt`). In each
 -- transaction the night is a night of two parties, by `night_alike`.
 use Rattle.std.proofs.Common.{sym, subst}
 use Rattle.ill_world.specs.Desks.{project, desks_run, first_desks}
-use Rattle.ill_world.specs.Night.{AreInStepOrAtRest}
+use Rattle.ill_world.specs.Night.{AreConvergedOrAtRest}
 use Rattle.ill_world.proofs.Desks.{desks_stand_on}
 use Rattle.ill_world.proofs.DeskNights.{night_alike}
 use Rattle.ill_world.proofs.desk_laws.one_desk_night_is_enough.Goals as goal
@@ -11,16 +11,16 @@ pub returns-clause-each : goal.returns-clause-each
 returns-clause-each c = night_alike c.desk_events_are_events.ensures c.desks_reach_what_they_hold.ensures
     c.desks_stand.ensures.after
 
--- In `txn` the night is a night of two parties. After it they are in step or at rest.
-pub returns-clause-in_step : goal.returns-clause-in_step
-returns-clause-in_step c =
+-- In `txn` the night is a night of two parties. After it they are converged or at rest.
+pub returns-clause-converged : goal.returns-clause-converged
+returns-clause-converged c =
     λ txn w stands can.
-    subst AreInStepOrAtRest (sym (returns-clause-each c txn w stands))
+    subst AreConvergedOrAtRest (sym (returns-clause-each c txn w stands))
     (c.one_night_is_enough.ensures.stands txn (project txn w) (stands.each txn) can)
 
--- A run keeps `DesksInvariant`, so that the clause `in_step` holds after it.
+-- A run keeps `DesksInvariant`, so that the clause `converged` holds after it.
 pub returns-clause-run : goal.returns-clause-run
 returns-clause-run c =
     λ txn events can.
-    returns-clause-in_step c txn (desks_run first_desks events)
+    returns-clause-converged c txn (desks_run first_desks events)
     (desks_stand_on c.desks_stand.ensures.after first_desks events c.desks_stand.ensures.first) can

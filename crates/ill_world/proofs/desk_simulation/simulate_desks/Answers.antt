@@ -2,7 +2,7 @@
 -- no byte is read or written, by `not_begun`.
 use Rattle.std.proofs.Common.{None}
 use Rattle.ill_world.specs.Desks.{first_desks}
-use Rattle.ill_script.specs.Play.{before_first}
+use Rattle.ill_script.specs.Replay.{before_first}
 use Rattle.ill_world.specs.DeskSimulation.{two_desks}
 use Rattle.ill_script.proofs.Steps.{not_begun}
 use Rattle.ill_world.proofs.desk_simulation.simulate_desks.Goals as goal

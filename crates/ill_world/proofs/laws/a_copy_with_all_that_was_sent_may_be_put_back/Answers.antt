@@ -15,7 +15,7 @@ pub returns-clause-run : goal.returns-clause-run
 returns-clause-run c =
     λ txn events more further who has n.
     let copied = run_of (first_world txn) events in
-    let back = puts_back who (party copied who).landed (run_of copied more) in
+    let back = puts_back who (party copied who).committed (run_of copied more) in
     let world = run_of back (take n further) in
     let after = c.world_stands.ensures.after txn in
     let stood = run_stands txn after (first_world txn) events (c.world_stands.ensures.first txn) in

@@ -1,7 +1,8 @@
--- Proves the clauses of `no_bad_trace_is_written` (`src/laws.rt`). They hold of any play, by the lemmas of `BadTraces`.
+-- Proves the clauses of `no_bad_trace_is_written` (`src/laws.rt`). They hold of any replay, by the lemmas of
+-- `BadTraces`.
 use Rattle.std.proofs.Common.{refl}
 use Rattle.ill_world.specs.World.{first_world}
-use Rattle.ill_script.specs.Play.{before_first}
+use Rattle.ill_script.specs.Replay.{before_first}
 use Rattle.ill_world.specs.Simulation.{two_sides}
 use Rattle.ill_script.proofs.BadTraces.{none_leaves, some_prefix, none_misreports}
 use Rattle.ill_world.proofs.laws.no_bad_trace_is_written.Goals as goal

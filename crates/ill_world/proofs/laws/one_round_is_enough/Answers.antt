@@ -1,5 +1,5 @@
 -- Proves the clauses `stands` and `run` of `one_round_is_enough` (`src/laws.rt`). By the tables `has_heard` holds of
--- each message of a round, so that the records are in step.
+-- each message of a round, so that the records are converged.
 use Rattle.ill_world.specs.World.{first_world}
 use Rattle.ill_world.proofs.OneRound.{TransitionsHear, one_round}
 use Rattle.ill_world.proofs.Runs.{run_stands}

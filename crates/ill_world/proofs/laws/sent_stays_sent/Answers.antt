@@ -1,5 +1,5 @@
 -- Proves the clauses `event` and `run` of `sent_stays_sent` (`src/laws.rt`). A Send of an earlier number sends an equal
--- message, since it has landed.
+-- message, since it is committed.
 use Rattle.ill_world.specs.World.{first_world}
 use Rattle.ill_world.proofs.Changes.{event_keeps_sent, run_keeps_sent}
 use Rattle.ill_world.proofs.laws.sent_stays_sent.Goals as goal

@@ -3,7 +3,7 @@
 use Rattle.std.proofs.Common.{◌≡◌, sym, ap, subst, ◌∙◌}
 use Rattle.ill_world.specs.Desks.{project, desks_run}
 use Rattle.ill_world.specs.Round.{CanAnswer}
-use Rattle.ill_world.specs.Night.{AreInStepOrAtRest}
+use Rattle.ill_world.specs.Night.{AreConvergedOrAtRest}
 use Rattle.ill_world.specs.DeskNight.{desk_night_of}
 use Rattle.ill_world.specs.Shelves.{first_shelves, shelves_run, in_group, events_at}
 use Rattle.ill_world.proofs.ShelfNights.{night_at}
@@ -24,7 +24,7 @@ returns-clause-run c =
     let night = desk_night_of (w txn.group) in
     let is = c.shelf_runs_are_desk_runs.ensures.each w txn.group (in_group txn.group night)
     ∙ ap (desks_run (w txn.group)) (returns-clause-home c txn.group events) in
-    subst (λ v. AreInStepOrAtRest (project txn v)) (sym is)
-    (subst (λ v. CanAnswer (project txn v).responder.live → AreInStepOrAtRest (project txn (desks_run v (desk_night_of v))))
+    subst (λ v. AreConvergedOrAtRest (project txn v)) (sym is)
+    (subst (λ v. CanAnswer (project txn v).responder.live → AreConvergedOrAtRest (project txn (desks_run v (desk_night_of v))))
     (sym (c.shelf_runs_are_desk_runs.ensures.first txn.group events))
     (c.one_desk_night_is_enough.ensures.run txn (events_at txn.group events)) can)

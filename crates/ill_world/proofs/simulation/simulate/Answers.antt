@@ -1,7 +1,7 @@
 -- Proves the clause `simulates` of `simulate` (`src/simulation.rt`) if memory runs out before line 1. Then no byte is
 -- read or written, by `not_begun`.
 use Rattle.ill_world.specs.World.{first_world}
-use Rattle.ill_script.specs.Play.{before_first}
+use Rattle.ill_script.specs.Replay.{before_first}
 use Rattle.ill_world.specs.Simulation.{two_sides}
 use Rattle.ill_script.proofs.Steps.{not_begun}
 use Rattle.ill_world.proofs.simulation.simulate.Goals as goal

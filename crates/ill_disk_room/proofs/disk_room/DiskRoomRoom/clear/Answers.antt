@@ -9,7 +9,7 @@ pub returns : goal.returns
 returns g c = subst (λ r. room_state g.D.Disk.state c.remove_folders.new.run ≡ room_state g.D.Disk.state r) c.self.view_is
     (ap room_on c.remove_folders.ensures.state)
 
--- The disk and the mails are those before, so the mails stay kept.
+-- The disk and the message files are those before, so the message files stay kept.
 pub invariant_of-self : goal.invariant_of-self
-invariant_of-self g c = same_kept g.D.Disk.state c.self.inside.run c.remove_folders.new.run c.remove_folders.ensures.mails
+invariant_of-self g c = same_kept g.D.Disk.state c.self.inside.run c.remove_folders.new.run c.remove_folders.ensures.message_files
     c.remove_folders.ensures.disk c.self.invariant

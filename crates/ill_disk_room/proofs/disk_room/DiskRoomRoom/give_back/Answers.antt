@@ -1,14 +1,15 @@
 -- Answers the contract of `give_back` of a room on a disk (`src/disk_room.rt`).
 use Rattle.std.proofs.Common.{subst}
-use Rattle.ill_room.specs.Room.{Answers, GivesBack, is_honest_room}
+use Rattle.ill_room.specs.Room.{Answers, GivesBack, is_correct_room}
 use Rattle.ill_disk_room.specs.DiskRooms.{room_state}
 use Rattle.ill_disk_room.proofs.disk_room.DiskRoomRoom.give_back.Goals as goal
 
 -- The contract of `give_back_from` gives this clause for the run, which is the value of the room (`view_is`).
 pub returns-clause-moves : goal.returns-clause-moves
-returns-clause-moves g c = subst (λ r. Answers is_honest_room (GivesBack c.args.mail) (room_state g.D.Disk.state r)
+returns-clause-moves g c = subst (λ r. Answers is_correct_room (GivesBack c.args.number) (room_state g.D.Disk.state r)
     c.give_back_from.result (room_state g.D.Disk.state c.give_back_from.new.run)) c.self.view_is c.give_back_from.ensures.moves
 
--- If the mails of the run were kept, `give_back_from` keeps them (`AreKept`), which is the invariant of the room.
+-- If the message files of the run were kept, `give_back_from` keeps them (`AreKept`), which is the invariant of the
+-- room.
 pub invariant_of-self : goal.invariant_of-self
 invariant_of-self g c = c.give_back_from.ensures.kept c.self.invariant

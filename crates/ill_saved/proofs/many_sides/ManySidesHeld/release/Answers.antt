@@ -13,9 +13,9 @@ invariant_of-self c =
     let all = c.self.inside.sides in
     let seen = sym (as_seen all c.self.inside.released.items c.args.self.now c.self.invariant.0 c.self.view_is) in
     let are = subst AreSides seen c.requires.fits.0 in
-    let counted : c.args.landed.counts.items ≡ counts all.sides = c.requires.fits.1 ∙ ap (λ held. counts held.sides) seen in (
-      as_many_counted all.sides c.args.landed.counts.items counted,
-      whole_backable all c.args.landed.counts.items (each_consistent all.sides are.each) counted,
+    let counted : c.args.committed.counts.items ≡ counts all.sides = c.requires.fits.1 ∙ ap (λ held. counts held.sides) seen in (
+      as_many_counted all.sides c.args.committed.counts.items counted,
+      whole_backable all c.args.committed.counts.items (each_consistent all.sides are.each) counted,
     )
 
 -- All messages are released.
@@ -23,5 +23,6 @@ pub returns : goal.returns
 returns c =
     let all = c.self.inside.sides in
     let seen = as_seen all c.self.inside.released.items c.args.self.now c.self.invariant.0 c.self.view_is in
-    let counted : c.args.landed.counts.items ≡ counts all.sides = c.requires.fits.1 ∙ ap (λ held. counts held.sides) (sym seen) in
-    whole_held all c.args.landed.counts.items counted ∙ ap whole_of seen
+    let counted : c.args.committed.counts.items ≡ counts all.sides =
+    c.requires.fits.1 ∙ ap (λ held. counts held.sides) (sym seen) in
+    whole_held all c.args.committed.counts.items counted ∙ ap whole_of seen

@@ -17,8 +17,8 @@ invariant_of-result c =
     let all = c.issued_count-released.ensures in
     let is = c.in_ok-side.ensures.encoded.0 in (
       omega (arith, all),
-      keeps_whole c.in_ok-landed_record.landed_record c.in_ok-side.side c.issued_count-released.result
-          (is, c.in_ok-landed_record.ensures) all,
+      keeps_whole c.in_ok-committed_record.committed_record c.in_ok-side.side c.issued_count-released.result
+          (is, c.in_ok-committed_record.ensures) all,
     )
 
 -- The side that was read backs itself.

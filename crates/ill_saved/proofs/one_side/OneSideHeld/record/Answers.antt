@@ -1,5 +1,5 @@
 -- Proves the contract of `OneSide::record` (`src/one_side.rt`).
--- The next landed record has the record of the side as its bytes.
+-- The next committed record has the record of the side as its bytes.
 use Rattle.std.proofs.Common.{subst}
 use Rattle.ill_saved.proofs.Desks.{next_record}
 use Rattle.ill_saved.specs.Holdings.{IsRecordOf}
@@ -7,7 +7,7 @@ use Rattle.std.specs.Prelude.{IfOk}
 use Rattle.ill_saved.specs.OneSide.{OneBacks, one_side}
 use Rattle.ill_saved.proofs.one_side.OneSideHeld.record.Goals as goal
 
--- The next landed record has the record of the side as its bytes.
+-- The next committed record has the record of the side as its bytes.
 pub returns-clause-record : goal.returns-clause-record
 returns-clause-record c =
     let held = c.self.inside in

@@ -59,7 +59,7 @@ returns-in-Ok-take g c =
     (c.as_slice-input.ensures.value ∙ c.in-Ok-encoded.ensures) c.take.ensures in
     let took = subst (λ (answer : Result Bool ToolFault).
     TakesAtFile place form (streams_of (Some (encoding c.args.apdu.now)) before) answer new) c.in-Ok-take.is ran in
-    let all_fine : c.if-self.self ≡ (c.args.self.now.all_fine && c.in-Ok-take.is_well) = elim c.if-self.branch [
+    let all_fine : c.if-self.self ≡ (c.args.self.now.all_fine && c.in-Ok-take.is_success) = elim c.if-self.branch [
       | then-self w ↦ search rules
       | else-self w ↦ search rules
     ] in
@@ -69,4 +69,4 @@ returns-in-Ok-take g c =
       all_fine = fine;
       written = after;
     } in
-    (path, here, c.in-Ok-take.is_well, Some c.take.new.reader.now, took, ap taking all_fine)
+    (path, here, c.in-Ok-take.is_success, Some c.take.new.reader.now, took, ap taking all_fine)

@@ -1,5 +1,5 @@
--- Proves the contracts of the impl of `Store` for `DiskStore` (`src/disk_store.rt`). What a crash of the disk leaves is what
--- a loss of power leaves in the store.
+-- Proves the contracts of the impl of `Store` for `DiskStore` (`src/disk_store.rt`). What a crash of the disk leaves is
+-- what a loss of power leaves in the store.
 use Rattle.ill_store.proofs.DiskSaves.{load_leaves, save_leaves}
 use Rattle.ill_store.proofs.disk_store.DiskStoreStore.TheImpl.Goals as goal
 

@@ -9,15 +9,15 @@ pub load-tells : goal.load-tells
 load-tells g c = record {
   loads = record {
     path = load_keeps_path (λ b. b.items) c.args.self.now c.new.self.now c.result c.ensures;
-    loaded = λ honest. search rules;
-    planned = λ honest. tt;
-    landed = λ honest. refl;
+    loaded = λ correct. search rules;
+    planned = λ correct. tt;
+    committed = λ correct. refl;
     counted = load_counts (λ b. b.items) c.args.self.now c.new.self.now c.result c.ensures;
-    honest = refl;
+    correct = refl;
     plan = refl;
   };
   memory = tt;
-  lasts = λ honest. search rules;
+  lasts = λ correct. search rules;
 }
 
 -- A save of a store in a file satisfies the contract of each store.
@@ -27,12 +27,12 @@ save-tells g c =
     record {
       saves = record {
         path = save_keeps_path c.args.self.now c.new.self.now c.result c.ensures;
-        planned = λ honest. tt;
-        landed = λ honest. search rules;
+        planned = λ correct. tt;
+        committed = λ correct. search rules;
         large = told.0;
         counted = told.1;
-        honest = refl;
+        correct = refl;
         plan = refl;
       };
-      lasts = λ honest. search rules;
+      lasts = λ correct. search rules;
     }

@@ -7,7 +7,7 @@ use Rattle.ill_record.specs.RecordsV2.{AreSides}
 use Rattle.ill_saved.proofs.Contents.{sides_of_whole}
 use Rattle.ill_world.proofs.desk_party.DeskParty.fail_to_save.Goals as goal
 
--- The desk is ready after the save, since the landed record can be read.
+-- The desk is ready after the save, since the committed record can be read.
 pub invariant_of-self : goal.invariant_of-self
 invariant_of-self c =
     let live = c.self.inside.desk.live in

@@ -1,9 +1,9 @@
--- Proves the clauses `performs` and `in_step` of `World::exchange` (`src/world.rt`). It performs both halves of a
+-- Proves the clauses `performs` and `converged` of `World::exchange` (`src/world.rt`). It performs both halves of a
 -- round, after which `one_round_is_enough` holds.
 use Rattle.std.proofs.Common.{◌++◌, subst}
 use Rattle.ill_record.specs.declared.role.Role.TheVariants.{Requester, Responder}
 use Rattle.ill_world.specs.World.{Parties, happens, run_of}
-use Rattle.ill_world.specs.Round.{half_of, round_of, Performs, CanAnswer, AreInStep}
+use Rattle.ill_world.specs.Round.{half_of, round_of, Performs, CanAnswer, AreConverged}
 use Rattle.ill_world.proofs.Rounds.{performs_prefix, performs_both, performed, prefix_further}
 use Rattle.ill_world.proofs.world.World.exchange.Goals as goal
 
@@ -28,12 +28,12 @@ returns-clause-performs c =
     performs_both happens first (half_of Responder (run_of w first)) w between c.pass_on-2.new.self c.pass_on-2.result
     c.in_ok-pass_on.ensures second
 
--- After a whole round both sides are in step, if the responder could answer before. `step` is the law for `old`.
-pub returns-clause-in_step : goal.returns-clause-in_step
-returns-clause-in_step c =
+-- After a whole round both sides are converged, if the responder could answer before. `step` is the law for `old`.
+pub returns-clause-converged : goal.returns-clause-converged
+returns-clause-converged c =
     let old = c.args.self.now in
     let w : Parties = record { requester = c.self.inside.requester; responder = c.self.inside.responder } in
-    let step = subst (λ (v : Parties). CanAnswer v.responder.live → AreInStep (run_of v (round_of v))) c.self.view_is
+    let step = subst (λ (v : Parties). CanAnswer v.responder.live → AreConverged (run_of v (round_of v))) c.self.view_is
     (c.one_round_is_enough.ensures.stands c.self.invariant.0 w c.self.invariant.1) in
-    performed happens (λ new. CanAnswer old.responder.live → AreInStep new) (round_of old) old c.pass_on-2.new.self
+    performed happens (λ new. CanAnswer old.responder.live → AreConverged new) (round_of old) old c.pass_on-2.new.self
     c.pass_on-2.result (returns-clause-performs c) step

@@ -1,0 +1,2 @@
+pub mod HostRoom
+pub mod HostMessageFiles

@@ -1,7 +1,0 @@
--- Answers the contract of `is_waiting` (`src/moves.rt`).
-use Rattle.ill_mail_disk.proofs.Calling.{tells_at}
-use Rattle.ill_mail_disk.proofs.moves.is_waiting.Goals as goal
-
--- `stands_at` looked at the path in the folder for the file of the mail.
-pub returns : goal.returns
-returns g c = tells_at c.waiting.ensures.path c.file.ensures.number c.stands_at.ensures

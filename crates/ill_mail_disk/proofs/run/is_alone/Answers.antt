@@ -1,9 +1,0 @@
--- Answers the contract of `is_alone` (`src/run.rt`).
-use Rattle.std.proofs.Common.{sym, ◌∙◌}
-use Rattle.ill_mail_disk.proofs.Taken.{once_alone}
-use Rattle.ill_mail_disk.proofs.run.is_alone.Goals as goal
-
--- There are sets. If they do not share the name of the mail, each other mail has come under another one.
-pub returns-in-Some : goal.returns-in-Some
-returns-in-Some c = λ is. once_alone c.args.others.taken.now c.in-Some.taken c.args.others.spots.now c.requires.known
-    c.in-Some.is c.args.mail c.args.spot.now c.requires.here (sym c.is_alone.ensures ∙ is)

@@ -1,8 +1,0 @@
--- The loop of `add_lists` (`src/memory_mail_disk.rt`) keeps this invariant.
-use Rattle.std.proofs.Common.{◌≡◌, ◌++◌, take}
-use Rattle.ill_disk.specs.MemoryDisk.{lists_of}
-use Rattle.ill_mail_disk_kit.proofs.memory_mail_disk.add_lists.Given as goal
-
--- `all` has the lists that it had at first, and then the lists so far.
-abbrev pub invariant-loop-names : goal.invariant-loop-names
-invariant-loop-names l = lists_of l.all.items ≡ lists_of l.initial.all.items ++ lists_of (take l.names-index l.lists)

@@ -1,2 +1,0 @@
-pub mod HostRoom
-pub mod HostMails

@@ -1,0 +1,17 @@
+pub mod Touching
+pub mod Steps
+pub mod Placing
+pub mod Apart
+pub mod Calling
+pub mod Removing
+pub mod Staying
+pub mod Removed
+pub mod Flushing
+pub mod Quarantining
+pub mod GivingBack
+pub mod Kept
+pub mod Running
+pub mod Adding
+pub mod Taken
+pub mod BadMessageFiles
+pub mod Wholly

@@ -1,0 +1,8 @@
+-- The loop of `add_lists` (`src/memory_message_disk.rt`) keeps this invariant.
+use Rattle.std.proofs.Common.{◌≡◌, ◌++◌, take}
+use Rattle.ill_disk.specs.MemoryDisk.{lists_of}
+use Rattle.ill_message_disk_kit.proofs.memory_message_disk.add_lists.Given as goal
+
+-- `all` has the lists that it had at first, and then the lists so far.
+abbrev pub invariant-loop-names : goal.invariant-loop-names
+invariant-loop-names l = lists_of l.all.items ≡ lists_of l.initial.all.items ++ lists_of (take l.names-index l.lists)

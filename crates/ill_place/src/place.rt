@@ -21,7 +21,7 @@ pub trait DeskFiles {
     type DeskStore: Store + Drop;
 
     /// The lock of a file. While it is held, no other command has the desk.
-    type DeskLock: Drop;
+    type DeskLock: Lock + Drop;
 
     /// Returns the store in the file at `path`, which need not exist.
     fn store(&self, alloc: Global, path: &str) -> Result<Self::DeskStore, OutOfMemory>
@@ -29,7 +29,18 @@ pub trait DeskFiles {
 
     /// Takes the lock of the file at `path`.
     fn lock(&self, alloc: Global, path: &str) -> Result<Self::DeskLock, ToolFault>
-        ensures { IfErr result IsOpenFault };
+        ensures guards { IfOk result (λ lock. Self.DeskLock.path lock ≡ path.now) }
+        ensures faults { IfErr result IsOpenFault };
+}
+
+/// The lock of a file.
+pub trait Lock {
+    /// Returns the path of the file that the lock guards.
+    ghost path: { Self → List ℕ };
+}
+
+impl<'a, T: LockFiles> Lock for FileLock<'a, T> {
+    ghost path = { λ lock. lock };
 }
 
 /// The files of the host.
@@ -85,7 +96,7 @@ pub struct LockedAt<D: DeskFiles> {
     /// The desk.
     pub desk: Desk<D::DeskStore>,
     /// The lock, which is let go last.
-    lock: D::DeskLock,
+    pub lock: D::DeskLock,
 }
 
 impl<D: DeskFiles> Drop for LockedAt<D> {
@@ -107,7 +118,8 @@ impl<D: DeskFiles> DeskPlace<'_, D> {
 
     /// Takes the lock of the desk's file.
     pub fn lock(&self, alloc: Global) -> Result<D::DeskLock, ToolFault>
-        ensures { IfErr result IsOpenFault }
+        ensures guards { IfOk result (λ lock. D.DeskLock.path lock ≡ self.now.path.now) }
+        ensures faults { IfErr result IsOpenFault }
     {
         self.files.lock(alloc, self.path)
     }
@@ -123,6 +135,7 @@ impl<D: DeskFiles> DeskPlace<'_, D> {
     /// Loads the desk under the lock of its file.
     pub fn open_locked(&self, alloc: Global) -> Result<LockedAt<D>, ToolFault>
         ensures starts { IfOk result (λ locked. StartsAt (place_of D.DeskStore.state self.now.path.now) locked.desk) }
+        ensures guards { IfOk result (λ locked. D.DeskLock.path locked.lock ≡ self.now.path.now) }
         ensures faults { IfErr result IsOpenFault }
     {
         let lock = self.lock(alloc)?;
@@ -139,6 +152,7 @@ impl<D: DeskFiles> DeskPlace<'_, D> {
         role: Option<Role>,
     ) -> Result<LockedAt<D>, ToolFault>
         ensures opens { IfOk result (λ locked. OpensAs role (place_of D.DeskStore.state self.now.path.now) locked.desk) }
+        ensures guards { IfOk result (λ locked. locked.lock ≡ lock) }
         ensures faults { IfErr result IsOpenFault }
         ensures missing { IsErrOf result (Desk NoRecord) → role ≡ None }
     {

@@ -1,6 +1,6 @@
 //! The lock of a desk's file, which one command at a time holds.
 
-ghost use Rattle.std.specs.Prelude.{◌≡◌, ◌⊎◌, IfErr};
+ghost use Rattle.std.specs.Prelude.{◌≡◌, ◌⊎◌, ℕ, List, string_bytes, IfErr, IfOk};
 ghost use Rattle.ill_saved.specs.declared.file_lock.LockFault.TheVariants as locks;
 ghost use Rattle.ill_store.specs.declared.store.StoreFault.TheVariants.{Failed, OutOfMemory};
 ghost use Rattle.ill_saved.specs.Faults.{of_lock};
@@ -11,6 +11,7 @@ use ill_store::{FileStore, StoreFault};
 use std::alloc::{AllocError, AllocFailed, Global};
 use std::fs::{File, Metadata, OpenFile, TryLockError};
 use std::io::ErrorKind;
+use std::marker::Model;
 use std::os::unix::fs::MetadataExt;
 use std::rt::Files;
 use std::time::Duration;
@@ -101,10 +102,18 @@ pub struct FileLock<'a, R: LockFiles> {
     file: Option<R::File>,
 }
 
+// The value of a lock is the path of the file that it guards.
+impl<'a, R: LockFiles> Model for FileLock<'a, R> {
+    ghost Value = { List ℕ };
+
+    ghost view = { λ lock. string_bytes lock.path };
+}
+
 impl<'a, R: LockFiles> FileLock<'a, R> {
     /// Takes the lock as `wait_for` does. Answers `Failed`, too, if another program holds the lock for ten seconds.
     pub fn take(rt: &'a R, alloc: Global, path: &str) -> Result<FileLock<'a, R>, StoreFault>
-        ensures { IfErr result (λ fault. (fault ≡ Failed) ⊎ (fault ≡ OutOfMemory)) }
+        ensures guards { IfOk result (λ lock. lock ≡ path.now) }
+        ensures faults { IfErr result (λ fault. (fault ≡ Failed) ⊎ (fault ≡ OutOfMemory)) }
     {
         Ok(FileLock::wait_for(rt, alloc, path)?)
     }
@@ -114,7 +123,9 @@ impl<'a, R: LockFiles> FileLock<'a, R> {
     ///
     /// In a folder that does not exist, or in which no file may be created, succeeds at once without a lock. Its holder
     /// cannot save there.
-    pub fn wait_for(rt: &'a R, alloc: Global, path: &str) -> Result<FileLock<'a, R>, LockFault> {
+    pub fn wait_for(rt: &'a R, alloc: Global, path: &str) -> Result<FileLock<'a, R>, LockFault>
+        ensures { IfOk result (λ lock. lock ≡ path.now) }
+    {
         let own_path = String::from_str(alloc, path)?;
         let mut lock_path = String::from_str(alloc, path)?;
         lock_path.push_str(regular_file::LOCK)?;

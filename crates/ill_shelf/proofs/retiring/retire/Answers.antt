@@ -59,7 +59,7 @@ returns-in_err-file g c =
 pub returns-in_err-held : goal.returns-in_err-held
 returns-in_err-held g c =
     let result = c.from_residual-in_err-held.result in
-    let opens = open_fault result c.in_err-held.field-0.0 c.from_residual-in_err-held.ensures.1 c.in_err-held.ensures in
+    let opens = open_fault result c.in_err-held.field-0.0 c.from_residual-in_err-held.ensures.1 c.in_err-held.ensures.faults in
     not_retired (shelf_of g.D.DeskStore.Store.state c.args.place.now.folder.now) c.args.group.now
     (g.W.Write.contents c.args.machine.now.writer) result opens
 

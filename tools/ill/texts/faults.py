@@ -1,45 +1,73 @@
-"""Compares docs/FAULTS.md with each fault of each public call, and the file fault-tests beside this one with the tests.
+"""Writes docs/FAULTS.md, and compares what it says of public calls with the sources and with the tests.
 
-The calls and the faults are taken from the sources: a call is what a library exports and answers a `Result`, a
-fault type an exported enum that derives `Error`. A room is a library that only other libraries stand on: it exports
-what one of these that is no room passes on. Each variant of a call's fault type is once in fault-tests, and nothing
-else:
+The page is fault-page beside this file, with the rows of three tables in the place of three marks: in that of {program}
+those of `program`, in that of {memory} the rows of fault-rows whose fault is `OutOfMemory`, and in that of {calls} its
+other rows. A row of fault-rows is
 
+    cause: WHY
+    changed: WHAT
     CALL, ..: FAULT, ..
         PLACE: TEST
 
-is of each fault of each call, and names one test for all, or one for each call, or one for each fault, a line each. A
-test is a function, or a line, of a crate of tests, or words of a tool. In one that is named alone, CALL stands for
-the name of each call. `none: WHY` is in place of the tests where there can be none, `never: WHY` where by its contract
-no input has the call answer the fault, and # begins a remark. Each fault but these is once in a table of the page, and
-nothing else. A row may be of several calls, each with each fault of the row, which under "Out of memory" is
-`OutOfMemory`. The faults that the program tells are those of `program`.
+with one entry or more, each of calls, faults and tests. The row of the page has the calls of all its entries, and each
+call has each fault of the row. An entry names one test for all, or one for each call, or one for each fault, a line
+each. A test is a function, or a line, of a crate of tests, or words of a tool. In one that is named alone, CALL stands
+for the name of each call. `none: WHY` is in place of the tests if there can be none. A row that begins with
+`never: WHY` has entries without tests, and no place on the page: by its contract no input has the call answer the
+fault. # begins a remark.
+
+The calls and the faults are taken from the sources: a call is what a library exports and answers a `Result`, a
+fault type an exported enum that derives `Error`. A room is a library that only other libraries stand on: it exports
+what one of these that is no room passes on. Each variant of a call's fault type is once in fault-rows, and nothing
+else.
 """
+import collections
 import re
 from pathlib import Path
 
 from ill import repository
-from ill.repository import read
+from ill.repository import Unread, read
 from ill.texts import program
 
-PAGE, TESTS = "docs/FAULTS.md", "tools/ill/texts/fault-tests"
+PAGE, TEXT, ROWS = "docs/FAULTS.md", "tools/ill/texts/fault-page", "tools/ill/texts/fault-rows"
 USE = re.compile(r"^pub use ([\w:]+?)(?:::\{([^}]*)\}|( as \w+)?);", re.M)
 MODULE = re.compile(r"^pub mod (\w+);", re.M)
 ENUM = re.compile(r"#\[derive\([^)]*\bError\b[^)]*\)\]\npub enum (\w+) \{\n(.*?)\n\}", re.S)
 BLOCK = re.compile(r"^(?:impl\b|(?:pub(?:\(crate\))? )?trait \w)[^{;]*\{$", re.M)
 CALL = re.compile(r"^( *)(pub )?fn (\w+)(?:<[^(]*>)?\(([^)]*)\) -> (.*?)(?=\n *(?:requires|ensures|\{)| \{|;\n)",
                   re.S | re.M)
-NAMES = r"`[^`]+`(?:, `[^`]+`)*"
-NAMED = re.compile(r"`([^`]+)`")
+KEY = re.compile(r"(cause|changed|never): (\S.*)")
 ENTRY = re.compile(r"([\w:]+(?:, [\w:]+)*): ([\w:]+(?:, [\w:]+)*)")
-TEST = re.compile(r"    (\w+_tests|tools/[\w/.-]+|none|never): (\S.*)")
-MEMORY = "Out of memory"
-CELLS = {MEMORY: 3}
+TEST = re.compile(r"    (\w+_tests|tools/[\w/.-]+|none): (\S.*)")
+MEMORY = "OutOfMemory"
 ALIAS = re.compile(r"^pub type (\w+)<\w+> = (\w+)<", re.M)
 # What a desk holds is called by desks alone, which have its faults.
 PARTS = {"Holdings"}
 # Calls of any desk in whose place each desk has one of its own: `create`, `act` and `message`.
 OF_ANY = {"begin", "act_on", "message_of"}
+
+# The calls of an entry, its faults, and its tests, which are pairs of a place and a test.
+Entry = collections.namedtuple("Entry", "calls faults tests")
+
+
+class Row:
+    """A row of fault-rows: what it says, by its keys, and its entries."""
+
+    def __init__(self, key, said):
+        """Begins with what the first line says."""
+        self.said, self.entries = {key: said}, []
+
+    def calls(self):
+        """Returns the calls of all entries, each once."""
+        return list(dict.fromkeys(call for entry in self.entries for call in entry.calls))
+
+    def faults(self):
+        """Returns the faults of all entries, each once."""
+        return list(dict.fromkeys(fault for entry in self.entries for fault in entry.faults))
+
+    def pairs(self):
+        """Returns each call with each fault that an entry has for it."""
+        return [pair for entry in self.entries for pair in pairs(entry.calls, entry.faults)]
 
 
 def folder_of(crate):
@@ -143,7 +171,7 @@ def calls_of(path, names, traits):
 
 def read_sources():
     """Returns each call with the type of its faults, and each type of faults with its variants."""
-    calls, types = {}, {"OutOfMemory": ["OutOfMemory"]}
+    calls, types = {}, {MEMORY: [MEMORY]}
     traits = set()
     for folder, is_room in libraries():
         names = exported_of_room(folder) if is_room else exported(folder / "src" / "lib.rt")
@@ -172,10 +200,10 @@ def test_is_there(place, test):
     return any(re.search(rf"#\[test\]\n(?:#.*\n)*fn {re.escape(test)}\(", text) for text in texts)
 
 
-def are_there(tests, calls, faults):
-    """Returns true if an entry of these calls and faults names tests that are there, or says that there can be none.
-    Tests are pairs of a place and a test."""
-    if [place for place, _ in tests] in (["none"], ["never"]):
+def are_there(entry):
+    """Returns true if an entry names tests that are there, or says that there can be none."""
+    calls, faults, tests = entry
+    if [place for place, _ in tests] == ["none"]:
         return True
     if len(tests) == 1:
         place, test = tests[0]
@@ -189,44 +217,43 @@ def pairs(calls, faults):
     return [(call, fault) for call in calls for fault in faults]
 
 
-def read_page(wrong):
-    """Returns each pair of a call and a fault in the tables of the page. Adds to `wrong` what is wrong with a row."""
-    seen, part = [], ""
-    for line in read(PAGE).splitlines():
-        part = line[3:] if line.startswith("## ") else part
-        if not line.startswith("| `") or part == program.HEADING:
-            continue
-        cells = [cell.strip() for cell in line.strip("|").split("|")]
-        if not all(cells) or len(cells) != CELLS.get(part, 4):
-            wrong.append(f"a row of {cells[0]} has an empty cell, or too few or too many")
-        if part == MEMORY:
-            cells.insert(1, "`OutOfMemory`")
-        if not all(re.fullmatch(NAMES, cell) for cell in cells[:2]):
-            wrong.append(f"a row of {cells[0]} has something else than names in its first two cells")
-        seen.extend(pairs(*map(NAMED.findall, cells[:2])))
-    return seen
-
-
-def read_tests(wrong):
-    """Returns two lists of pairs of a call and a fault. The second has those that are never answered. The first has all
-    others, also those of which there can be no test. Adds to `wrong` what is wrong with an entry."""
-    entries = []
-    for line in read(TESTS).splitlines():
-        entry, test = ENTRY.fullmatch(line), TEST.fullmatch(line)
-        if entry:
-            entries.append((entry[1].split(", "), entry[2].split(", "), []))
-        elif test and entries:
-            entries[-1][2].append(test.groups())
+def read_rows(wrong):
+    """Returns the rows of fault-rows: those of the page, and those of what is never answered. Adds to `wrong` each line
+    that has no place in a row."""
+    rows = []
+    for line in read(ROWS).splitlines():
+        key, entry, test = KEY.fullmatch(line), ENTRY.fullmatch(line), TEST.fullmatch(line)
+        if key and key[1] != "changed":
+            rows.append(Row(*key.groups()))
+        elif key and rows and not rows[-1].entries and "changed" not in rows[-1].said:
+            rows[-1].said["changed"] = key[2]
+        elif entry and not key and rows:
+            rows[-1].entries.append(Entry(entry[1].split(", "), entry[2].split(", "), []))
+        elif test and rows and rows[-1].entries:
+            rows[-1].entries[-1].tests.append(test.groups())
         elif line and not line.startswith("#"):
-            wrong.append(f"{TESTS}: it is no entry, and no test of one: {line}")
-    for calls, faults, tests in entries:
-        if not are_there(tests, calls, faults):
-            said = "; ".join(f"{place}: {test}" for place, test in tests) or "at all"
-            wrong.append(f"{', '.join(calls)}, {', '.join(faults)}: there is no test {said}, or not one for each")
-    tested, never = [], []
-    for calls, faults, tests in entries:
-        (never if tests[:1] and tests[0][0] == "never" else tested).extend(pairs(calls, faults))
-    return tested, never
+            wrong.append(f"{ROWS}: it is no line of a row: {line}")
+    return [row for row in rows if "never" not in row.said], [row for row in rows if "never" in row.said]
+
+
+def cell(names):
+    """Returns the text of a cell with names."""
+    return ", ".join(f"`{name}`" for name in names)
+
+
+def written(rows):
+    """Returns the page that has to stand there, with these rows of calls."""
+    texts = {"{program}": "".join(program.rows()), "{calls}": "", "{memory}": ""}
+    for row in rows:
+        of_memory = row.faults() == [MEMORY]
+        cells = [cell(row.calls())] + ([] if of_memory else [cell(row.faults())]) + list(row.said.values())
+        texts["{memory}" if of_memory else "{calls}"] += f"| {' | '.join(cells)} |\n"
+    page = read(TEXT)
+    for mark, text in texts.items():
+        if page.count(f"\n{mark}\n") != 1:
+            raise Unread(f"{TEXT}: no line, or more than one, is {mark}")
+        page = page.replace(f"{mark}\n", text)
+    return page
 
 
 def twice(found):
@@ -234,31 +261,66 @@ def twice(found):
     return sorted({one for one in found if found.count(one) > 1})
 
 
+def wrong_rows(rows, never):
+    """Yields what is wrong with the rows, of the page and of what is never answered: with what each says, and with its
+    entries."""
+    for row in rows + never:
+        place = f"{ROWS}: a row of {', '.join(row.calls()) or 'no call'}"
+        keys = ["never"] if row in never else ["cause", "changed"]
+        if list(row.said) != keys or not row.entries or "|" in "".join(row.said.values()):
+            yield f"{place} has no entry, or something else than {' and '.join(keys)} before it, or a | there"
+        for call, fault in pairs(row.calls(), row.faults()) if row in rows else []:
+            if (call, fault) not in row.pairs():
+                yield f"{place} has no entry of {call} with {fault}"
+        if MEMORY in row.faults() and row in rows and row.faults() != [MEMORY]:
+            yield f"{place} has {MEMORY} beside other faults"
+        for entry in row.entries:
+            yield from wrong_tests(entry, row in never)
+
+
+def wrong_tests(entry, is_never):
+    """Yields what is wrong with the tests of an entry. `is_never` is true if its faults are never answered."""
+    place = f"{', '.join(entry.calls)}, {', '.join(entry.faults)}"
+    said = "; ".join(f"{folder}: {test}" for folder, test in entry.tests) or "at all"
+    if is_never and entry.tests:
+        yield f"{place}: they are never answered, but there is a test {said}"
+    if not is_never and not are_there(entry):
+        yield f"{place}: there is no test {said}, or not one for each"
+
+
+def wrong_entries(calls, types, seen):
+    """Returns what is wrong with the entries: each call has each fault once. `seen` are the pairs of the entries."""
+    wanted = [pair for call, fault in calls.items() for pair in pairs([call], types.get(fault, [fault]))]
+    wrong = [f"{call}: no row has its fault {fault}, and none says that it is never answered"
+             for call, fault in wanted if (call, fault) not in seen]
+    wrong += [f"{call}: {fault} is no fault of such a call" for call, fault in seen if (call, fault) not in wanted]
+    return wrong + [f"{call}, {fault}: two entries have it" for call, fault in twice(seen)]
+
+
 def compare():
     """Returns the faults of the page and of the tests, and how much was compared."""
     calls, types = read_sources()
     wrong = []
-    answered = read_page(wrong)
-    tested, never = read_tests(wrong)
-    wrong += wrong_entries(calls, types, answered, tested, never)
+    rows, never = read_rows(wrong)
+    wrong += wrong_rows(rows, never)
+    wrong += wrong_entries(calls, types, [pair for row in rows + never for pair in row.pairs()])
     faults = [f"{name}::{one}" for name, found in types.items() if name not in calls.values() for one in found]
     wrong += [f"{fault}: no public call answers it" for fault in faults]
-    variants = sum(len(found) for name, found in types.items() if name != "OutOfMemory")
-    return wrong, (f"{PAGE} has {len(calls)} calls with each of their faults, {variants} of {len(types) - 1} types,"
-                   f" and {TESTS} has the tests of {len(tested)}")
+    wrong += repository.differences(PAGE, written(rows))
+    variants = sum(len(found) for name, found in types.items() if name != MEMORY)
+    tested = sum(len(row.pairs()) for row in rows)
+    return wrong, (f"{PAGE} has {len(calls)} calls with each of their faults, {variants} of {len(types) - 1} types, "
+                   f"and the {len(list(program.rows()))} of the program; {ROWS} has the tests of {tested}")
 
 
-def wrong_entries(calls, types, answered, tested, never):
-    """Returns what is wrong with the rows of the page and with the entries of the tests: each call has each fault
-    once. `answered` are the pairs of the page, and `tested` and `never` what `read_tests` returns."""
-    seen = answered + never
-    wanted = [pair for call, fault in calls.items() for pair in pairs([call], types.get(fault, [fault]))]
-    wrong = [f"{call}: no row has its fault {fault}, and no entry says that it is never answered"
-             for call, fault in wanted if (call, fault) not in seen]
-    wrong += [f"{call}: {fault} is no fault of such a call" for call, fault in seen if (call, fault) not in wanted]
-    wrong += [f"{call}, {fault}: two rows have it, or a row and an entry that it is never answered"
-              for call, fault in twice(seen)]
-    wrong += [f"{call}, {fault}: no entry has its test" for call, fault in answered if (call, fault) not in tested]
-    wrong += [f"{call}, {fault}: an entry has a test, and no row a cause" for call, fault in tested
-              if (call, fault) not in answered]
-    return wrong + [f"{call}, {fault}: two entries have it" for call, fault in twice(tested)]
+def write():
+    """Writes the page anew. Returns what was written."""
+    wrong = []
+    rows, _ = read_rows(wrong)
+    if wrong:
+        raise Unread("; ".join(wrong))
+    text = written(rows)
+    changed = len(list(repository.differences(PAGE, text)))
+    repository.write(PAGE, text)
+    return (f"written: {PAGE}: {len(rows)} rows of calls, {len(list(program.rows()))} of the program; {changed} places "
+            f"changed")

@@ -1,17 +1,14 @@
-"""Writes the table of docs/FAULTS.md that has the faults of the program, from its help, its ends and the sources.
+"""Has the rows of docs/FAULTS.md with the faults of the program, from its help, its ends and the sources.
 
 A row has the text of a fault after `ill: `, its exit status, its type in the code, the commands that may end with it,
 and its meaning. The meanings and their order are those of `ill --help`. The module `command_line` has the statuses, and
-the rest is of the sources. The table stands under the heading, up to the next one.
+the rest is of the sources. The module `faults` writes the page.
 """
 import re
 
-from ill import repository
-from ill.repository import Unread, read
+from ill.repository import Unread
 from ill.texts import help as helps
 
-PAGE, HEADING = "docs/FAULTS.md", "What the program prints"
-HEAD = "| Line | Status | Fault | Commands | Meaning |\n|---|---|---|---|---|\n"
 LINE = re.compile(r"(?m)^  \d  (\S.{20})(\S.*(?:\n {26}.*)*)")
 
 
@@ -22,51 +19,44 @@ def meanings():
 
 
 def commands_by_cause():
-    """Returns the commands that may end with each cause of a status, and those that keep a file."""
-    arguments, by_cause = helps.arguments_of(), {}
-    for command, own in arguments.items():
+    """Returns the commands that may end with each cause of a status."""
+    by_cause = {}
+    for command, own in helps.arguments_of().items():
         for cause in helps.causes_of(command, own):
             by_cause.setdefault(cause, []).append(command)
-    return by_cause, [command for command, own in arguments.items() if helps.OF_DESKS & set(own)]
+    return by_cause
 
 
-def named(commands, every, filed):
-    """Returns the text of a cell with the names of commands. It is shorter if they are all but one of `every`, or of
-    `filed`, which are the commands that keep a file."""
-    for group, name in ((every, "all"), (filed, "all with a FILE")):
-        missing = [command for command in group if command not in commands]
-        if set(commands) <= set(group) and len(missing) < 2:
-            return name + "".join(f" but `{command}`" for command in missing)
+def groups():
+    """Yields the groups of commands that have a name, each after its name."""
+    arguments = helps.arguments_of()
+    yield "all", list(arguments)
+    for name, own in ("all with a FILE", helps.OF_DESKS), ("all with a KEYFILE", helps.OF_KEYS):
+        yield name, [command for command in arguments if own & set(arguments[command])]
+
+
+def listed(commands):
+    """Returns the names of commands, one after another."""
     return ", ".join(f"`{command}`" for command in commands)
+
+
+def named(commands):
+    """Returns the text of a cell with the names of commands, the shortest of these: a list; a group, or all of one but
+    some; and a group and some more."""
+    texts = [listed(commands)]
+    for name, group in groups():
+        missing = [command for command in group if command not in commands]
+        more = [command for command in commands if command not in group]
+        if not missing or not more:
+            texts.append(name + (" but " if missing else ", and " if more else "") + listed(missing + more))
+    return min(texts, key=lambda text: len(text.split()))
 
 
 def rows():
     """Yields the rows of the table."""
-    types, (by_cause, filed) = dict(helps.told_faults()), commands_by_cause()
+    types, by_cause = dict(helps.told_faults()), commands_by_cause()
     for told, meaning in meanings().items():
         if told not in types:
             raise Unread(f"{helps.HELP}: no command tells {told}")
         commands = by_cause[told if told in by_cause else helps.CAUSE_OF[types[told]]]
-        yield (f"| `{told}` | {helps.status_of(told)} | `{types[told]}` | {named(commands, by_cause['ok'], filed)} "
-               f"| {meaning} |\n")
-
-
-def written():
-    """Returns the page with the table that has to stand there."""
-    found = re.fullmatch(rf"(.*^## {HEADING}\n.*?)^\|.*?\n(?!\|)(.*)", read(PAGE), re.S | re.M)
-    if not found:
-        raise Unread(f"{PAGE}: no table stands under {HEADING}")
-    return found[1] + HEAD + "".join(rows()) + found[2]
-
-
-def compare():
-    """Returns the lines that differ, and how much was compared."""
-    return list(repository.differences(PAGE, written())), f"{PAGE} has the {len(list(rows()))} faults of the program"
-
-
-def write():
-    """Writes the table anew. Returns what was written."""
-    text = written()
-    changed = len(list(repository.differences(PAGE, text)))
-    repository.write(PAGE, text)
-    return f"written: {PAGE}: {len(list(rows()))} faults of the program; {changed} places changed"
+        yield f"| `{told}` | {helps.status_of(told)} | `{types[told]}` | {named(commands)} | {meaning} |\n"

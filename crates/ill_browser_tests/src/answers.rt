@@ -56,12 +56,13 @@ fn push_answer<'a>(
     Some(())
 }
 
-/// Makes the call of a case, and makes it again while one of its growths is refused. Returns the page of its answer.
+/// Makes the call of a case, and makes it again while one of its allocations is refused. Returns the page of its
+/// answer.
 ///
 /// To decode a value with `+`, the kit asks for the room of the whole value first. If that is refused, it asks for room
-/// for one byte. So a call may do without one growth for each such value, and for no other. Then its answer must be the
-/// same as with the growth. `left` counts the growths that calls may still do without. `before` is the page of the last
-/// call that did without one.
+/// for one byte. So a call may do without one allocation for each such value, and for no other. Then its answer must be
+/// the same as with the allocation. `left` counts the allocations that calls may still do without. `before` is the page
+/// of the last call that did without one.
 fn answer_of(alloc: Global, case: &Case<'_>) -> Option<Page> {
     let mut left = case.spaced_fields();
     let mut before = None;
@@ -104,8 +105,8 @@ impl Call {
         matches!(&self.answer, Err(VisitFault::OutOfMemory))
     }
 
-    /// Ends the marks of the call. Only if `may_do_without` is true, it may answer although a growth was refused.
-    /// Returns true if a growth was refused.
+    /// Ends the marks of the call. Only if `may_do_without` is true, it may answer although an allocation was refused.
+    /// Returns true if an allocation was refused.
     fn is_refused(&self, alloc: Global, may_do_without: bool) -> bool {
         if may_do_without {
             is_refused_or_without(alloc, self.says_memory())
@@ -114,8 +115,8 @@ impl Call {
         }
     }
 
-    /// Returns the page of the answer. `before` is the page of an earlier call that did without a growth. If it has
-    /// another answer, the page says so.
+    /// Returns the page of the answer. `before` is the page of an earlier call that did without an allocation. If it
+    /// has another answer, the page says so.
     fn told(&self, alloc: Global, before: Option<&Page>) -> Option<Page> {
         let mut page = Page::new(alloc);
         match &self.answer {

@@ -15,7 +15,8 @@
 //! `method` is another method. Or `open` is any text, and the operator wants no user. The operator's origin is
 //! `https://ill.example`. Each answer ends with the bytes of the input that were left.
 //!
-//! Marks surround each call that allocates (`ill_test_kit::marks`). A call whose growth a shim refuses is made again.
+//! Marks surround each call that allocates (`ill_test_kit::marks`). A call whose allocation a shim refuses is made
+//! again.
 #![tactic(auto)]
 
 mod answers;

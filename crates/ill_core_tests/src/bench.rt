@@ -194,8 +194,8 @@ fn happen(alloc: Global, side: &mut Side, record: &mut Record, row: &Row<'_>) ->
     (letters, second)
 }
 
-/// Performs the event on `side`, and repeats it while a growth is refused. Returns the letter of the answer. A refused
-/// event must leave the side with `record`, or else the letter is `!`.
+/// Performs the event on `side`, and repeats it while an allocation is refused. Returns the letter of the answer. A
+/// refused event must leave the side with `record`, or else the letter is `!`.
 fn answer(alloc: Global, side: &mut Side, record: &Record, event: &Event) -> &'static str {
     for _ in 0..TRIES {
         let letter = side.answer(alloc, event);

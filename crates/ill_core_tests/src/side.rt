@@ -195,7 +195,8 @@ fn responder_readings(side: &Responder) -> Readings {
     }
 }
 
-/// Ends the marks of a call. Returns a question mark if a growth was refused and the call said so, and else `letter`.
+/// Ends the marks of a call. Returns a question mark if an allocation was refused and the call said so, and else
+/// `letter`.
 fn unless_refused(alloc: Global, letter: &'static str) -> &'static str {
     if marks::is_refused(alloc, letter == NO_MEMORY) {
         NO_MEMORY

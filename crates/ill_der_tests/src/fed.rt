@@ -154,8 +154,8 @@ fn end(alloc: Global, feed: &Feed) -> Result<(), DerFault> {
     quietly(alloc, || feed.end())
 }
 
-/// Returns the result of `push`. It is `None` if the call fails, or changes the feed while a growth is refused. It is
-/// also `None` if the call gives no APDU and still takes memory.
+/// Returns the result of `push`. It is `None` if the call fails, or changes the feed while an allocation is refused. It
+/// is also `None` if the call gives no APDU and still takes memory.
 fn push(alloc: Global, feed: &mut Feed, piece: &[u8]) -> Option<Pushed> {
     let before = feed.end();
     let (mut tries, mut stays) = (0_u32, true);
@@ -169,8 +169,8 @@ fn push(alloc: Global, feed: &mut Feed, piece: &[u8]) -> Option<Pushed> {
     if is_right { Some(pushed) } else { None }
 }
 
-/// Returns true if `each` gives the result of `pushed` to a handler that takes memory. If a growth is refused, the feed
-/// must stay unchanged.
+/// Returns true if `each` gives the result of `pushed` to a handler that takes memory. If an allocation is refused, the
+/// feed must stay unchanged.
 fn is_handed(alloc: Global, feed: &mut Feed, piece: &[u8], pushed: &Pushed) -> bool {
     let before = feed.end();
     let mut stays = true;

@@ -38,8 +38,8 @@
 //! - `N days after: BYTES`: `Day::after` of the day with these eight digits.
 //! - `number: N`: `Number::new` of N.
 //!
-//! Marks surround each call of the libraries (`ill_test_kit::marks`). A call whose growth a shim refuses must change
-//! nothing, and is made again.
+//! Marks surround each call of the libraries (`ill_test_kit::marks`). A call whose allocation a shim refuses must
+//! change nothing, and is made again.
 #![tactic(auto)]
 
 mod agreement;

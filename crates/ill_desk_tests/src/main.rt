@@ -10,9 +10,9 @@
 //!
 //!     rt try -- "a cancel and a shipped cross by calls" < stdin | diff stdin -
 //!
-//! Marks surround each call on the memory (`ill_test_kit::marks`), and each engine of a command on streams. If a growth
-//! is refused, the call is made again from the beginning. A line `  = a refused try: ..` shows that a refused try had a
-//! wrong result. No case has such a line.
+//! Marks surround each call on the memory (`ill_test_kit::marks`), and each engine of a command on streams. If an
+//! allocation is refused, the call is made again from the beginning. A line ` = a refused try: ..` shows that a refused
+//! try had a wrong result. No case has such a line.
 //!
 //! After a check, `rt run < stdin | diff stdin -` performs all cases. They are too long for `rt try`.
 #![tactic(auto)]

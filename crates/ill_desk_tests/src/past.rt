@@ -1,7 +1,7 @@
 //! A past is a memory, and the lines that led to it. These lines make an equal memory again.
 //!
-//! Marks surround each call. If a growth is refused, the lines before it are performed again, and then the call. So
-//! each try begins with an equal memory. At the end each refused try is judged.
+//! Marks surround each call. If an allocation is refused, the lines before it are performed again, and then the call.
+//! So each try begins with an equal memory. At the end each refused try is judged.
 
 use crate::beginning::begin;
 use crate::desk_call::{DeskCall, prefix_count};
@@ -81,7 +81,7 @@ impl Past {
         self.remember(kind, phrase.words, is_short)
     }
 
-    /// Performs a call between marks, and repeats it while a growth is refused. Then judges the refused tries.
+    /// Performs a call between marks, and repeats it while an allocation is refused. Then judges the refused tries.
     fn perform_marked(
         &mut self,
         page: &mut Page,
@@ -100,7 +100,7 @@ impl Past {
         done
     }
 
-    /// Performs a call between marks until no growth is refused. Adds each refused try to `tries`.
+    /// Performs a call between marks until no allocation is refused. Adds each refused try to `tries`.
     fn try_often<'a>(
         &mut self,
         page: &mut Page,

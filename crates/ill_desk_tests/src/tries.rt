@@ -1,4 +1,4 @@
-//! Judges a call whose growth was refused.
+//! Judges a call whose allocation was refused.
 //!
 //! The call either answers out of memory, or does without the memory and gives the usual result. If it answers out of
 //! memory, each part of the result has several right values. They are the value without the call and the value after

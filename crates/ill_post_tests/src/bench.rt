@@ -84,7 +84,7 @@ impl Bench {
         Some(())
     }
 
-    /// Performs a visit between marks, and repeats it while a growth is refused. Then judges the refused tries.
+    /// Performs a visit between marks, and repeats it while an allocation is refused. Then judges the refused tries.
     fn visit(&mut self, page: &mut Page, phrase: Phrase<'_>) -> Option<()> {
         let plan = replace(&mut self.plan, NextCall::Works);
         let mut tries = Vec::new(self.alloc);

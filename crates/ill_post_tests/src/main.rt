@@ -7,9 +7,9 @@
 //! With a name as its argument the program performs that case alone, and writes the others unchanged. So this command
 //! prints nothing if the case is right: `rt try -- "a form acts once" < stdin | diff stdin -`.
 //!
-//! Marks surround each call of `post` and `stamp_of` (`ill_test_kit::marks`). If a growth is refused, the call is made
-//! again on an equal desk. A line `  = a refused try: ..` shows that a refused try had a wrong result. No case has such
-//! a line.
+//! Marks surround each call of `post` and `stamp_of` (`ill_test_kit::marks`). If an allocation is refused, the call is
+//! made again on an equal desk. A line ` = a refused try: ..` shows that a refused try had a wrong result. No case has
+//! such a line.
 #![tactic(auto)]
 
 mod bench;

@@ -1,4 +1,4 @@
-//! Begins desks over a store in memory, and repeats that while a growth is refused.
+//! Begins desks over a store in memory, and repeats that while an allocation is refused.
 
 use crate::desk_kind::DeskKind;
 use crate::desk_view::DeskView;
@@ -41,7 +41,7 @@ pub fn put_desk_on_bench<H: DeskKind>(
     Some(())
 }
 
-/// Begins a desk, and repeats that while a growth is refused. A refused call must hand the store back unchanged.
+/// Begins a desk, and repeats that while an allocation is refused. A refused call must hand the store back unchanged.
 fn begun<H: DeskKind>(
     alloc: Global,
     store: MemoryStore,

@@ -73,7 +73,7 @@ pub fn answer_of<H: DeskKind, S: Store>(
     Ok(Answer::Done)
 }
 
-/// Makes a call, and repeats it while a growth is refused. If a refused call has changed the desk since `before`,
+/// Makes a call, and repeats it while an allocation is refused. If a refused call has changed the desk since `before`,
 /// returns its answer. Only a save uses up the plan of a store.
 fn answer_again<H: DeskKind, S: Store>(
     alloc: Global,
@@ -92,8 +92,8 @@ fn answer_again<H: DeskKind, S: Store>(
     Err(DeskFault::OutOfMemory)
 }
 
-/// Saves, and repeats that while a growth is refused. A refused save may use up the plan of the store, so it is planned
-/// again.
+/// Saves, and repeats that while an allocation is refused. A refused save may use up the plan of the store, so it is
+/// planned again.
 fn save_again<H: DeskKind>(
     alloc: Global,
     desk: &mut AnyDesk<H, MemoryStore>,

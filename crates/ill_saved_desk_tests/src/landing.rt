@@ -39,8 +39,8 @@ fn created<H: DeskKind>(alloc: Global, role: Role) -> Option<MemoryDesk<H>> {
     AnyDesk::begin(alloc, MemoryStore::new(alloc), H::first(role, txn)).ok()
 }
 
-/// Saves the desk twice, the second time under `plan`. Returns true if a growth of the second save was refused, and it
-/// commits nothing. Returns None if it commits something. Else writes the answers, and returns false.
+/// Saves the desk twice, the second time under `plan`. Returns true if an allocation of the second save was refused,
+/// and it commits nothing. Returns None if it commits something. Else writes the answers, and returns false.
 fn save<H: DeskKind>(
     alloc: Global,
     line: &mut Line,

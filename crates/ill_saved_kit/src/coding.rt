@@ -1,4 +1,4 @@
-//! Encodes and decodes records, and repeats that while a growth is refused.
+//! Encodes and decodes records, and repeats that while an allocation is refused.
 
 use crate::tries::Tries;
 use ill_saved::{
@@ -9,8 +9,8 @@ use ill_test_kit::marks::TRIES;
 use ill_values::OutOfMemory;
 use std::alloc::Global;
 
-/// Returns the record of one side. Tries again after each refused growth. Fails if memory runs out without a refusal,
-/// or after `TRIES` tries.
+/// Returns the record of one side. Tries again after each refused allocation. Fails if memory runs out without a
+/// refusal, or after `TRIES` tries.
 pub fn encoded(alloc: Global, side: &Side) -> Result<Vec<u8>, OutOfMemory> {
     for _ in 0..TRIES {
         marks::begin(alloc);
@@ -34,7 +34,7 @@ pub fn all_encoded(alloc: Global, sides: &Sides) -> Result<Vec<u8>, OutOfMemory>
     Err(OutOfMemory)
 }
 
-/// Returns the side whose record is `record`, or the fault. Tries again after each refused growth.
+/// Returns the side whose record is `record`, or the fault. Tries again after each refused allocation.
 pub fn decoded(alloc: Global, record: &[u8]) -> Result<Side, RecordFault> {
     let tries = Tries::of(alloc, record.len());
     for _ in 0..TRIES {
@@ -48,7 +48,7 @@ pub fn decoded(alloc: Global, record: &[u8]) -> Result<Side, RecordFault> {
     Err(RecordFault::OutOfMemory)
 }
 
-/// Returns the sides whose record is `record`, or the fault. Tries again after each refused growth.
+/// Returns the sides whose record is `record`, or the fault. Tries again after each refused allocation.
 pub fn all_decoded(alloc: Global, record: &[u8]) -> Result<Sides, RecordFault> {
     let tries = Tries::of(alloc, record.len());
     for _ in 0..TRIES {

@@ -1,4 +1,4 @@
-//! Calls a store in memory, and repeats a call while a growth is refused.
+//! Calls a store in memory, and repeats a call while an allocation is refused.
 
 use crate::line::Line;
 use crate::words::{write_loaded, write_saved};
@@ -83,7 +83,7 @@ fn new(alloc: Global) -> MemoryStore {
     store
 }
 
-/// Loads `store`, and repeats that while a growth is refused. A refused load must change nothing: if it does, its
+/// Loads `store`, and repeats that while an allocation is refused. A refused load must change nothing: if it does, its
 /// answer is returned.
 fn load(alloc: Global, store: &mut MemoryStore) -> Result<Option<Vec<u8>>, StoreFault> {
     let before = seen(alloc, store);
@@ -98,8 +98,8 @@ fn load(alloc: Global, store: &mut MemoryStore) -> Result<Option<Vec<u8>>, Store
     Err(StoreFault::OutOfMemory)
 }
 
-/// Saves `bytes` in `store`, whose next call has the plan `plan`, and repeats that while a growth is refused. A refused
-/// save may use up the plan, but must change nothing else: if it does, its answer is returned.
+/// Saves `bytes` in `store`, whose next call has the plan `plan`, and repeats that while an allocation is refused. A
+/// refused save may use up the plan, but must change nothing else: if it does, its answer is returned.
 fn save(
     alloc: Global,
     store: &mut MemoryStore,

@@ -31,8 +31,8 @@ impl Tries {
         }
     }
 
-    /// Ends a try; `says_memory` is true if it answered out of memory. Returns true if a growth was refused. Then the
-    /// call must have changed nothing, and is made again.
+    /// Ends a try; `says_memory` is true if it answered out of memory. Returns true if an allocation was refused. Then
+    /// the call must have changed nothing, and is made again.
     pub fn is_refused(&self, says_memory: bool) -> bool {
         self.is_marked && marks::is_refused(self.alloc, says_memory)
     }

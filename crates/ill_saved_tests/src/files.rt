@@ -237,7 +237,7 @@ static FAULTS: [(&str, ErrorKind); 6] = [
     ("invalid", ErrorKind::InvalidInput),
 ];
 
-/// Returns the store in the file at `path`. While a growth is refused, it is made again.
+/// Returns the store in the file at `path`. While an allocation is refused, it is made again.
 fn store_at<'a>(
     rt: &'a HostRuntime,
     alloc: Global,
@@ -254,7 +254,7 @@ fn store_at<'a>(
     Err(OutOfMemory)
 }
 
-/// Loads, and repeats that while a growth is refused.
+/// Loads, and repeats that while an allocation is refused.
 fn load_again(
     store: &mut FileStore<'_, HostRuntime>,
     alloc: Global,

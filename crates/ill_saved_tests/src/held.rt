@@ -92,7 +92,8 @@ fn put_side(alloc: Global, line: &mut Line, sides: &mut Sides, side: Side) {
     write_count_and_role(alloc, line, sides);
 }
 
-/// Puts a side, and repeats that while a growth is refused. A refused call must hand the side back and change nothing.
+/// Puts a side, and repeats that while an allocation is refused. A refused call must hand the side back and change
+/// nothing.
 fn put_again(alloc: Global, sides: &mut Sides, side: Side) -> Result<(), (SidesFault, Side)> {
     let before = (
         encode_record2(alloc, sides).ok(),

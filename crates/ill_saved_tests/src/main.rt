@@ -6,8 +6,8 @@
 //! that they must get, and `stdout` has the same bytes. The program makes a temporary folder for files, and removes it
 //! at the end.
 //!
-//! Marks surround calls that take memory (`ill_test_kit::marks`). Such a call is repeated while a growth is refused. A
-//! refused call must change nothing, so refusals do not change the answers.
+//! Marks surround calls that take memory (`ill_test_kit::marks`). Such a call is repeated while an allocation is
+//! refused. A refused call must change nothing, so refusals do not change the answers.
 //!
 //! To try some cases alone, in seconds, put their lines and the `let` lines that they need into a file. An example is
 //! `grep -E '^(let|file) ' stdin > file`. Then `rt try < file | diff file -` prints nothing if all is right.

@@ -80,8 +80,8 @@ fn push_key_text(alloc: Global, output: &mut Page, words: &str) -> Option<()> {
     Some(())
 }
 
-/// Adds the bytes of the key with a text, or the fault. A fault of the text may be found after a growth, so it counts
-/// as an answer, and the call is not made again as a quiet one.
+/// Adds the bytes of the key with a text, or the fault. A fault of the text may be found after an allocation, so it
+/// counts as an answer, and the call is not made again as a quiet one.
 fn push_key(alloc: Global, output: &mut Page, text: &str) -> Option<()> {
     let answer = tried(alloc, AllocError, || {
         match Key::parse(alloc, text.as_bytes()) {

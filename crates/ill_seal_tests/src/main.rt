@@ -15,7 +15,8 @@
 //! - `spell KEY`: the text of the key.
 //! - `key TEXT`: the key with this text, or the fault.
 //!
-//! Marks surround each call that allocates (`ill_test_kit::marks`). A call whose growth a shim refuses is made again.
+//! Marks surround each call that allocates (`ill_test_kit::marks`). A call whose allocation a shim refuses is made
+//! again.
 #![tactic(auto)]
 
 mod answers;

@@ -29,7 +29,7 @@ pub struct Call<'a> {
     pub errors: TestWriter,
     /// True if the call answered out of memory.
     pub says_memory: bool,
-    /// True if a growth was refused, so that the call must be made again.
+    /// True if an allocation was refused, so that the call must be made again.
     pub was_refused: bool,
     /// True if marks surround the call.
     is_marked: bool,
@@ -106,8 +106,8 @@ impl<'a> Call<'a> {
         }
     }
 
-    /// Ends the marks, and returns `answer`. Notes in this call if the answer was the fault `memory`, and if a growth
-    /// was refused.
+    /// Ends the marks, and returns `answer`. Notes in this call if the answer was the fault `memory`, and if an
+    /// allocation was refused.
     pub fn end<T: Drop, F: PartialEq + Drop>(
         &mut self,
         alloc: Global,

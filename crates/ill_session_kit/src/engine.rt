@@ -1,6 +1,6 @@
 //! Performs a call that keeps nothing for the next call, such as an engine of a command on streams.
 //!
-//! Marks surround the call. If a growth is refused, the call is made again. At the end each refused try is judged.
+//! Marks surround the call. If an allocation is refused, the call is made again. At the end each refused try is judged.
 
 use crate::call::{Call, is_short};
 use crate::names::Phrase;
@@ -23,7 +23,7 @@ struct Try<'a> {
     answer: Page,
 }
 
-/// Performs a call between marks, repeats it while a growth is refused, and prints the answer. Returns `None` if
+/// Performs a call between marks, repeats it while an allocation is refused, and prints the answer. Returns `None` if
 /// `phrase` is no call, or after `TRIES` tries.
 pub fn perform<E: Engine>(
     alloc: Global,
@@ -37,8 +37,8 @@ pub fn perform<E: Engine>(
     done
 }
 
-/// Performs a call between marks until no growth is refused, and prints the answer. Adds each refused try to `tries`.
-/// Returns `None` as `perform` does.
+/// Performs a call between marks until no allocation is refused, and prints the answer. Adds each refused try to
+/// `tries`. Returns `None` as `perform` does.
 fn try_often<'a, E: Engine>(
     alloc: Global,
     page: &mut Page,

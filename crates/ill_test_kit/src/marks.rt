@@ -1,18 +1,18 @@
 //! Marks surround a call of a library. By them a shim knows which allocations to refuse.
 //!
-//! A growth is an allocation of new memory, or of more, between two marks.
+//! An allocation here is one of new memory, or of more memory, between two marks.
 //!
 //! A mark is an allocation of a size that the program needs nowhere else; `tools/refuse-nth.c` knows these sizes. In a
-//! call that may answer out of memory the shim refuses one growth, at first the first. If the call answers out of
-//! memory, the shim refuses the next growth in the next call. So a caller that repeats the call until no growth is
-//! refused has each growth refused once. In a quiet call, which cannot answer out of memory, the shim refuses every
-//! growth. The shim tells `tools/out-of-memory` each growth that it refused. It also tells each call that answers out
-//! of memory without a refusal, or gives another answer after one.
+//! call that may answer out of memory the shim refuses one allocation, at first the first. If the call answers out of
+//! memory, the shim refuses the next allocation in the next call. So a caller that repeats the call until no allocation
+//! is refused has each allocation refused once. In a quiet call, which cannot answer out of memory, the shim refuses
+//! every allocation. The shim tells `tools/out-of-memory` each allocation that it refused. It also tells each call that
+//! answers out of memory without a refusal, or gives another answer after one.
 
 use std::alloc::Global;
 
-/// A call is tried at most this often. It needs one try more than it has growths. Calls that take 512 messages have the
-/// most growths.
+/// A call is tried at most this often. It needs one try more than it has allocations. Calls that take 512 messages have
+/// the most allocations.
 pub const TRIES: u16 = 2_000;
 
 /// An allocation of this size begins a call that may answer out of memory.
@@ -45,14 +45,14 @@ pub fn end_quiet(alloc: Global) {
     mark(alloc, END);
 }
 
-/// Ends a call that may answer out of memory; `says_memory` is true if it did. Returns true if a growth was refused.
-/// Then the call must have changed nothing, and is made again.
+/// Ends a call that may answer out of memory; `says_memory` is true if it did. Returns true if an allocation was
+/// refused. Then the call must have changed nothing, and is made again.
 pub fn is_refused(alloc: Global, says_memory: bool) -> bool {
     mark(alloc, if says_memory { END_OF_MEMORY } else { END })
 }
 
 /// Ends a call that may do without the refused memory; `says_memory` is true if it answered out of memory. Returns true
-/// if a growth was refused. Then the case is performed again from its beginning.
+/// if an allocation was refused. Then the case is performed again from its beginning.
 pub fn is_refused_or_without(alloc: Global, says_memory: bool) -> bool {
     mark(
         alloc,
@@ -64,8 +64,8 @@ pub fn is_refused_or_without(alloc: Global, says_memory: bool) -> bool {
     )
 }
 
-/// Makes a call, and repeats it while one of its growths is refused. `memory` is the fault of a lack of memory, and the
-/// answer after `TRIES` tries. A call that ends with another fault is then made once more, as a quiet call.
+/// Makes a call, and repeats it while one of its allocations is refused. `memory` is the fault of a lack of memory, and
+/// the answer after `TRIES` tries. A call that ends with another fault is then made once more, as a quiet call.
 pub fn tried<T: Drop, F: Copy + PartialEq + Drop, Call: FnMut() -> Result<T, F>>(
     alloc: Global,
     memory: F,

@@ -9,8 +9,8 @@
 //!
 //!     rt try -- "a cancel and a shipped cross" < stdin | diff stdin -
 //!
-//! Marks surround each engine of `simulate` (`ill_test_kit::marks`). If a growth is refused, the call is made again. A
-//! line `  = a refused try: ..` shows that a refused try had a wrong result. No case has such a line.
+//! Marks surround each engine of `simulate` (`ill_test_kit::marks`). If an allocation is refused, the call is made
+//! again. A line ` = a refused try: ..` shows that a refused try had a wrong result. No case has such a line.
 //!
 //! After a check, `rt run < stdin | diff stdin -` performs all cases. They are too long for `rt try`.
 #![tactic(auto)]

@@ -13,10 +13,10 @@ const SHOWN: usize = 100;
 /// Of a longer trace this many lines are printed at the beginning, and as many at the end.
 const AT_AN_END: usize = 6;
 
-/// In a script of at most this many bytes each growth is refused once. A longer script gets ample memory.
+/// In a script of at most this many bytes each allocation is refused once. A longer script gets ample memory.
 const REFUSED: usize = 1_000;
 
-/// This line tells that a script gave a wrong trace or answer when a growth was refused.
+/// This line tells that a script gave a wrong trace or answer when an allocation was refused.
 const ANOTHER: &[u8] = b"ANOTHER TRACE WITHOUT MEMORY\n";
 
 /// The simulation that performs a script.
@@ -47,7 +47,7 @@ pub struct ScriptResult {
 }
 
 impl ScriptResult {
-    /// Returns true if this result is right after a refused growth, given the result with ample memory. Either the
+    /// Returns true if this result is right after a refused allocation, given the result with ample memory. Either the
     /// results are equal, or the trace is a prefix of whole lines, and the answer is out of memory.
     fn is_right_after_refusal(&self, ample: &ScriptResult) -> bool {
         match self.answer {
@@ -64,7 +64,7 @@ pub fn txn(alloc: Global) -> Option<TxnId> {
     TxnId::new(alloc, b"G1", b"T1").ok()
 }
 
-/// Performs a script with ample memory, and returns the result. A short script is then performed with each growth
+/// Performs a script with ample memory, and returns the result. A short script is then performed with each allocation
 /// refused once. For each wrong result of these the line `ANOTHER` is added to the trace that is returned.
 pub fn perform(alloc: Global, script: Script<'_>, streams: Streams) -> Option<ScriptResult> {
     let (mut ample, _) = perform_once(alloc, script, streams, None)?;
@@ -85,7 +85,7 @@ pub fn perform(alloc: Global, script: Script<'_>, streams: Streams) -> Option<Sc
 }
 
 /// Performs a script from its beginning. If `most` is a count, the call is between marks, and its writer has memory for
-/// this many bytes. Returns the result, and true if a growth was refused.
+/// this many bytes. Returns the result, and true if an allocation was refused.
 fn perform_once(
     alloc: Global,
     script: Script<'_>,

@@ -1,4 +1,4 @@
-//! Calls worlds, and repeats a call while a growth is refused.
+//! Calls worlds, and repeats a call while an allocation is refused.
 
 use crate::performing::txn;
 use ill_test_kit::Page;
@@ -6,7 +6,7 @@ use ill_test_kit::marks::{self, TRIES};
 use ill_values::{OutOfMemory, TxnId};
 use std::alloc::Global;
 
-/// This line tells that a call with a refused growth left a wrong state.
+/// This line tells that a call with a refused allocation left a wrong state.
 const CHANGED: &str = "CHANGED WITHOUT MEMORY";
 
 /// A world of two sides or of two desks, as the tests call it.
@@ -33,7 +33,7 @@ pub trait Tried: Drop {
     fn print_more(&self, alloc: Global, page: &mut Page) -> Option<()>;
 }
 
-/// Performs an event, and repeats it while a growth is refused. A refused event must leave the world unchanged.
+/// Performs an event, and repeats it while an allocation is refused. A refused event must leave the world unchanged.
 pub fn step<W: Tried>(
     alloc: Global,
     page: &mut Page,
@@ -54,7 +54,7 @@ pub fn step<W: Tried>(
     None
 }
 
-/// Returns the world after `events`. While a growth is refused, the call is repeated from the first world.
+/// Returns the world after `events`. While an allocation is refused, the call is repeated from the first world.
 pub fn run<W: Tried>(alloc: Global, events: &[W::Event]) -> Option<W> {
     let txn = txn(alloc)?;
     for _ in 0..TRIES {
@@ -96,7 +96,7 @@ struct AfterRound {
     shown: Page,
     /// The parts that `print` and `print_more` print.
     all: Page,
-    /// True if a growth of the round was refused, and a further round was performed.
+    /// True if an allocation of the round was refused, and a further round was performed.
     is_refused: bool,
 }
 

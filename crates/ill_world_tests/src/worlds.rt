@@ -53,7 +53,7 @@ pub fn print_steps(alloc: Global, page: &mut Page, name: &str) -> Option<()> {
     printed
 }
 
-/// Returns a world of two idle sides. While a growth is refused, the call is repeated.
+/// Returns a world of two idle sides. While an allocation is refused, the call is repeated.
 fn first_world(alloc: Global) -> Option<World> {
     let txn = txn(alloc)?;
     for _ in 0..TRIES {
